@@ -1,0 +1,54 @@
+-- What adding a sheet to a part leaves behind, and a part made by adding sheets one after the other.
+-- Definitions only: the laws are in AddedTables, AddedLaws and HistoryLaws.
+use Prim.Native.Nat.{ℕ, _+_, _<_}
+use mathlib.Core.Path.{_≡_}
+use mathlib.Core.Logic.{_≢_}
+use mathlib.Core.Bool.{Bool}
+use mathlib.Core.List.{List, [], _∷_, _++_}
+use lib.ListN.{length}
+use Rattle.lists.specs.Lists.{_∈_, Every, Distinct, Permuted}
+use Rattle.tree.specs.Tree.{Node, leaves, turned, value}
+use Rattle.cover.specs.Cover.{Cover, CoverOf, Least}
+use Rattle.cover.specs.Tables.{Table, numbered}
+use Rattle.cover.specs.Placed.{number, records}
+
+-- a drawn sheet: the net `out` is to have the value of the tree, turned over where `inverted`
+pub record Sheet : Type 0 where
+  pub tree : Node
+  pub out : ℕ
+  pub inverted : Bool
+
+-- its nets lie from 1 to below the base, no net stands at two leaves, and it does not read the net that it drives
+pub record Legal (base : ℕ) (s : Sheet) : Type 0 where
+  pub out-net : (0 < s .out) × (s .out < base)
+  pub leaf-nets : Every (λ x. (0 < x) × (x < base) × (x ≢ s .out)) (leaves (s .tree))
+  pub leaf-once : Distinct (leaves (s .tree))
+
+-- The tables `new`, which follow the tables `old`, are those of one of the sheet's covers, each at the number that the
+-- cover gives to its gate, the root's last, and each reads only codes below its own, which is to say nets and earlier tables.
+pub record Added (base K : ℕ) (old new : List Table) (s : Sheet) : Type 0 where
+  pub legal : Legal base s
+  pub cover : Cover
+  pub covers : CoverOf K (s .tree) cover
+  pub taken : Permuted (numbered (length old) new) (records base cover (s .out) (s .inverted))
+  pub earlier : Every (λ p. Every (λ x. x < base + p .0) (p .1 .inputs)) (numbered (length old) new)
+  pub last : number cover ≡ length old + length new
+
+-- and there are no more of them than there need be
+pub record AddedLeast (base K : ℕ) (old new : List Table) (s : Sheet) : Type 0 where
+  pub added : Added base K old new s
+  pub fewest : Least K (s .tree) (length new)
+
+-- no table drives or reads the sheet's output net
+abbrev pub Fresh : Sheet → List Table → Type 0
+Fresh s = Every (λ r. (r .drives ≢ s .out) × (¬ (s .out ∈ r .inputs)))
+
+-- a part made by adding sheets, and those sheets, the last one first
+pub data History (base K : ℕ) : List Table → List Sheet → Type 0 where
+  start : History base K [] []
+  add : {old new : List Table} {s : Sheet} {ss : List Sheet} → History base K old ss → Added base K old new s → Fresh s old →
+      History base K (old ++ new) (s ∷ ss)
+
+-- in the values `e`, the sheet's output net has its value
+abbrev pub Met : (ℕ → Bool) → Sheet → Type 0
+Met e s = e (s .out) ≡ turned (s .inverted) (value (s .tree) e)

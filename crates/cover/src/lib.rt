@@ -1,0 +1,1 @@
+// Covers of a tree of gates by lookup tables, and the least number of tables.

@@ -1,0 +1,1 @@
+// Decimal numbers in the columns of a field.

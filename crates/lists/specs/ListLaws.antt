@@ -1,0 +1,136 @@
+-- Laws of lists: of what holds of every element, of an element put in, and of other orders.
+-- Those of mixes are in MixLaws, and those of lists of numbers in NumberLaws.
+use Prim.Native.Nat.{suc}
+use native.Mathlib.Omega.{arith}
+use mathlib.Core.Path.{_≡_, refl, sym, ap, _∙_, subst}
+use mathlib.Core.Logic.{_≢_, ⊎-elim}
+use mathlib.Core.List.{List, [], _∷_, _++_, append-assoc, map, List·Memᴰ·not-nil, List·Memᴰ·append-cases, Memᴰ·append-left, Memᴰ·append-right}
+use lib.ListN.{length}
+use Rattle.lists.specs.Lists.{_∈_, first, later, Every, Inserted, here, there, Permuted, empty, more, gather}
+
+module _ {A : Type 0} where
+  -- ---- every element
+
+  pub not-first : {a x : A} {xs : List A} → a ≢ x → a ∈ x ∷ xs → a ∈ xs
+  not-first n (first e) = absurd (n e)
+  not-first n (later m) = m
+
+  pub every-none : (P : A → Type 0) → Every P []
+  every-none P a m = absurd (List·Memᴰ·not-nil m)
+
+  pub every-cons : {P : A → Type 0} {x : A} {xs : List A} → P x → Every P xs → Every P (x ∷ xs)
+  every-cons {P} h f a (first e) = subst P (sym e) h
+  every-cons h f a (later m) = f a m
+
+  pub every-head : {P : A → Type 0} {x : A} {xs : List A} → Every P (x ∷ xs) → P x
+  every-head {x} h = h x (first refl)
+
+  pub every-tail : {P : A → Type 0} {x : A} {xs : List A} → Every P (x ∷ xs) → Every P xs
+  every-tail h a m = h a (later m)
+
+  pub every-append : {P : A → Type 0} (xs ys : List A) → Every P xs → Every P ys → Every P (xs ++ ys)
+  every-append xs ys f g a m = ⊎-elim (f a) (g a) (List·Memᴰ·append-cases xs m)
+
+  pub every-left : {P : A → Type 0} (xs ys : List A) → Every P (xs ++ ys) → Every P xs
+  every-left xs ys h a m = h a (Memᴰ·append-left ys m)
+
+  pub every-right : {P : A → Type 0} (xs ys : List A) → Every P (xs ++ ys) → Every P ys
+  every-right xs ys h a m = h a (Memᴰ·append-right xs m)
+
+  -- ---- one element put in
+
+  pub inserted-to : {P : A → Type 0} {x : A} {xs ys : List A} → Inserted x xs ys → Every P (x ∷ ys) → Every P xs
+  inserted-to here h = h
+  inserted-to (there i) h = every-cons (every-head (every-tail h)) (inserted-to i (every-cons (every-head h) (every-tail (every-tail h))))
+
+  pub inserted-from : {P : A → Type 0} {x : A} {xs ys : List A} → Inserted x xs ys → Every P xs → Every P (x ∷ ys)
+  inserted-from here h = h
+  inserted-from (there i) h =
+      let r = inserted-from i (every-tail h) in
+      every-cons (every-head r) (every-cons (every-head h) (every-tail r))
+
+  pub inserted-left : {x : A} {xs ys : List A} (zs : List A) → Inserted x xs ys → Inserted x (xs ++ zs) (ys ++ zs)
+  inserted-left zs here = here
+  inserted-left zs (there i) = there (inserted-left zs i)
+
+  pub inserted-right : {x : A} {xs ys : List A} (zs : List A) → Inserted x xs ys → Inserted x (zs ++ xs) (zs ++ ys)
+  inserted-right [] i = i
+  inserted-right (z ∷ zs) i = there (inserted-right zs i)
+
+  -- put in after another, it can be put in before it
+  inserted-swap : {x y : A} {xs ys zs : List A} → Inserted x xs ys → Inserted y ys zs →
+      (ws : List A) × Inserted y xs ws × Inserted x ws zs
+  inserted-swap here j = (_, there j, here)
+  inserted-swap (there i) here = (_, here, i)
+  inserted-swap (there i) (there j) = let r = inserted-swap i j in (_, there (r .1), there (r .2))
+
+  -- ---- another order
+
+  -- what holds of every element holds of every element in another order
+  pub permuted-to : {P : A → Type 0} {xs ys : List A} → Permuted xs ys → Every P xs → Every P ys
+  permuted-to empty h = h
+  permuted-to (more i p) h = inserted-to i (every-cons (every-head h) (permuted-to p (every-tail h)))
+
+  pub permuted-refl : (xs : List A) → Permuted xs xs
+  permuted-refl [] = empty
+  permuted-refl (x ∷ xs) = more here (permuted-refl xs)
+
+  pub permuted-insert : {x : A} {xs ys zs : List A} → Inserted x xs ys → Permuted ys zs → Permuted xs (x ∷ zs)
+  permuted-insert here p = more here p
+  permuted-insert (there i) (more j p) = more (there j) (permuted-insert i p)
+
+  pub permuted-sym : {xs ys : List A} → Permuted xs ys → Permuted ys xs
+  permuted-sym empty = empty
+  permuted-sym (more i p) = permuted-insert i (permuted-sym p)
+
+  pub permuted-from : {P : A → Type 0} {xs ys : List A} → Permuted xs ys → Every P ys → Every P xs
+  permuted-from p = permuted-to (permuted-sym p)
+
+  -- an element put in can be taken out of any other order
+  permuted-draw : {x : A} {xs ys zs : List A} → Inserted x xs ys → Permuted xs zs →
+      (ws : List A) × Inserted x zs ws × Permuted ys ws
+  permuted-draw here (more i p) = (_, i, p)
+  permuted-draw (there j) (more i p) =
+      let r = permuted-draw j p in
+      let q = inserted-swap i (r .1) in
+      (_, q .1, more (q .2) (r .2))
+
+  pub permuted-trans : {xs ys zs : List A} → Permuted xs ys → Permuted ys zs → Permuted xs zs
+  permuted-trans empty q = q
+  permuted-trans (more i p) q = let r = permuted-draw i q in more (r .1) (permuted-trans p (r .2))
+
+  pub permuted-append : {ws xs ys zs : List A} → Permuted ws xs → Permuted ys zs → Permuted (ws ++ ys) (xs ++ zs)
+  permuted-append empty q = q
+  permuted-append {zs = zs} (more i p) q = more (inserted-left zs i) (permuted-append p q)
+
+  pub permuted-swap : (xs ys zs : List A) → Permuted (xs ++ (ys ++ zs)) (ys ++ (xs ++ zs))
+  permuted-swap [] ys zs = permuted-refl _
+  permuted-swap (x ∷ xs) ys zs = more (inserted-right ys here) (permuted-swap xs ys zs)
+
+  pub inserted-length : {x : A} {xs ys : List A} → Inserted x xs ys → length xs ≡ suc (length ys)
+  inserted-length here = omega arith
+  inserted-length (there i) = omega (arith, inserted-length i)
+
+  pub permuted-length : {xs ys : List A} → Permuted xs ys → length xs ≡ length ys
+  permuted-length empty = refl
+  permuted-length (more i p) = omega (arith, inserted-length i, permuted-length p)
+
+-- ---- lists one after the other
+
+module _ {A B : Type 0} (f : A → List B) where
+  pub gather-append : (xs ys : List A) → gather f (xs ++ ys) ≡ gather f xs ++ gather f ys
+  gather-append [] ys = refl
+  gather-append (x ∷ xs) ys = ap (_++_ (f x)) (gather-append xs ys) ∙ sym (append-assoc (f x) (gather f xs) (gather f ys))
+
+  pub gather-inserted : {x : A} {xs ys : List A} → Inserted x xs ys → Permuted (gather f xs) (gather f (x ∷ ys))
+  gather-inserted here = permuted-refl _
+  gather-inserted {x} (there {y = y} {ys = ys} i) =
+      permuted-trans (permuted-append (permuted-refl (f y)) (gather-inserted i)) (permuted-swap (f y) (f x) (gather f ys))
+
+  pub gather-permuted : {xs ys : List A} → Permuted xs ys → Permuted (gather f xs) (gather f ys)
+  gather-permuted empty = empty
+  gather-permuted (more {x = x} i p) = permuted-trans (permuted-append (permuted-refl (f x)) (gather-permuted p)) (permuted-sym (gather-inserted i))
+
+  pub gather-map : {C : Type 0} (g : C → A) (xs : List C) → gather f (map g xs) ≡ gather (λ x. f (g x)) xs
+  gather-map g [] = refl
+  gather-map g (x ∷ xs) = ap (_++_ (f (g x))) (gather-map g xs)

@@ -1,0 +1,132 @@
+-- The two adds of 01's example, "List", one after the other on the part that an opening gave: the promises can be kept, and the part
+-- that they leave behind is the one whose list 01 prints (Examples). The texts are stood for by [] and 0 ∷ [].
+use Prim.Native.Nat.{ℕ, _≤_}
+use native.Mathlib.Omega.{arith}
+use mathlib.Core.Path.{_≡_, refl}
+use mathlib.Core.Bool.{true, false}
+use mathlib.Core.List.{List, [], _∷_}
+use Rattle.lists.specs.Lists.{Every, here}
+use Rattle.lists.specs.ListLaws.{every-none, every-cons, permuted-refl}
+use Rattle.tree.specs.declared.Kind.the-variants.{And as and, Or as or}
+use Rattle.tree.specs.Tree.{leaf, gate, none, edge}
+use Rattle.cover.specs.Cover.{Cover, net, top, end, old, Rooted, rooted, tables, CoverOf, Least, same, split, done, match}
+use Rattle.cover.specs.Tables.{Table as LookupTable}
+use Rattle.cover.specs.Added.{Sheet, AddedLeast}
+use Rattle.part.specs.Parts.{blanks}
+use Rattle.part.specs.SoundTest.{sound}
+use Rattle.part.specs.Sheets.{Reading, sheet}
+use Rattle.part.specs.Adds.{accepted, Result, opened, extended, Add}
+use Rattle.part.specs.Calls.{add, final, Chain, call}
+use Rattle.part.specs.Examples.{part}
+use Rattle.part.specs.declared.Part.{Part}
+use Rattle.part.specs.Calls as calls
+
+-- net 20 = (1 or 2) and (3 or 4), and net 21 = not (20 and not 5)
+abbrev first : Sheet
+first = record {
+  tree = gate and (edge false (gate or (edge false (leaf 1) (edge false (leaf 2) none))) (edge false (gate or (edge false (leaf 3) (edge false (leaf 4) none))) none));
+  out = 20;
+  inverted = false;
+}
+
+abbrev second : Sheet
+second = record { tree = gate and (edge false (leaf 20) (edge true (leaf 5) none)); out = 21; inverted = true }
+
+abbrev readSheet : List ℕ → Reading
+readSheet [] = sheet first
+readSheet (x ∷ xs) = sheet second
+
+abbrev table-1 : List LookupTable
+table-1 = record { drives = 20; inputs = 1 ∷ 2 ∷ 3 ∷ 4 ∷ []; truth = 61152 } ∷ []
+
+abbrev table-2 : List LookupTable
+table-2 = record { drives = 21; inputs = 5 ∷ 20 ∷ []; truth = 11 } ∷ []
+
+abbrev start : Part
+start = (opened 4 8) .part
+
+abbrev middle : Part
+middle = extended start table-1
+
+abbrev end-part : Part
+end-part = extended middle table-2
+
+-- each cover has a table at its root
+one-table : (c : Cover) → Rooted c → 1 ≤ tables c
+one-table c (rooted {fs = fs}) = omega arith
+
+two : {A : Type 0} (P : A → Type 0) {x y : A} → P x → P y → Every P (x ∷ y ∷ [])
+two P p q = every-cons p (every-cons q (every-none _))
+
+cover-1 : CoverOf 4 (first .tree) (top 1 and (old false (top 0 or (old false (net 1) (old false (net 2) end))) (old false (top 0 or (old false (net 3) (old false (net 4) end))) end)))
+cover-1 = record {
+  split = split (match here (split (match here same (match here same done))) (match here (split (match here same (match here same done))) done));
+  root = rooted;
+  fits = omega arith;
+}
+
+cover-2 : CoverOf 4 (second .tree) (top 2 and (old false (net 20) (old true (net 5) end)))
+cover-2 = record { split = split (match here same (match here same done)); root = rooted; fits = omega arith }
+
+least-1 : Least 4 (first .tree) 1
+least-1 = record { some = (_, cover-1, refl); none-fewer = λ c h. one-table c (h .root) }
+
+least-2 : Least 4 (second .tree) 1
+least-2 = record { some = (_, cover-2, refl); none-fewer = λ c h. one-table c (h .root) }
+
+added-1 : AddedLeast 1000 4 [] table-1 first
+added-1 = record {
+  added = record {
+    legal = record {
+      out-net = omega arith;
+      leaf-nets = every-cons (omega arith) (every-cons (omega arith) (two _ (omega arith) (omega arith)));
+      leaf-once = (
+        every-cons (omega arith) (two _ (omega arith) (omega arith)),
+        (two _ (omega arith) (omega arith), (every-cons (omega arith) (every-none _), (every-none _, tt))),
+      );
+    };
+    cover = _;
+    covers = cover-1;
+    taken = permuted-refl _;
+    earlier = every-cons (every-cons (omega arith) (every-cons (omega arith) (two _ (omega arith) (omega arith)))) (every-none _);
+    last = refl;
+  };
+  fewest = least-1;
+}
+
+added-2 : AddedLeast 1000 4 table-1 table-2 second
+added-2 = record {
+  added = record {
+    legal = record {
+      out-net = omega arith;
+      leaf-nets = two _ (omega arith) (omega arith);
+      leaf-once = (every-cons (omega arith) (every-none _), (every-none _, tt));
+    };
+    cover = _;
+    covers = cover-2;
+    taken = permuted-refl _;
+    earlier = every-cons (two _ (omega arith) (omega arith)) (every-none _);
+    last = refl;
+  };
+  fewest = least-2;
+}
+
+add-1 : Add readSheet start [] middle accepted
+unfolding Add sound blanks
+add-1 = (1, least-1, record { new = table-1; least = added-1; part = refl; answer = refl })
+
+add-2 : Add readSheet middle (0 ∷ []) end-part accepted
+unfolding Add sound blanks
+add-2 = (1, least-2, record { new = table-2; least = added-2; part = refl; answer = refl })
+
+abbrev results : List Result
+results = record { part = middle; answer = accepted } ∷ record { part = end-part; answer = accepted } ∷ []
+
+-- the promises can be kept
+chain : Chain readSheet start (add [] ∷ add (0 ∷ []) ∷ []) results
+chain = call add-1 (call add-2 calls.done)
+
+-- and the part is the one in 01
+ends : final start results ≡ part
+unfolding blanks
+ends = refl

@@ -1,0 +1,122 @@
+-- The definitions run on worked examples: the list printed in 01, "List", and the first bad record of some runs.
+-- Each is a computation.
+use Prim.Native.Nat.{ℕ, _-_}
+use mathlib.Core.Path.{_≡_, refl}
+use mathlib.Core.Bool.{true, false}
+use mathlib.Core.List.{List, [], _∷_, _++_}
+use lib.ListN.{length, replicate, drop}
+use Rattle.table.specs.declared.Table.{Table}
+use Rattle.part.specs.declared.Part.{Part}
+use Rattle.table.specs.Limits.{inputRoom}
+use Rattle.table.specs.Records.{blank}
+use Rattle.table.specs.RecordTest.{Verdict, none, bad, refused, tested}
+use Rattle.part.specs.Parts.{blanks}
+use Rattle.part.specs.SoundTest.{sound}
+use Rattle.part.specs.Adds.{opened}
+use Rattle.part.specs.Listing.{listOf}
+
+-- a record with its unused inputs zero
+abbrev pub made : ℕ → List ℕ → ℕ → Table
+made n xs t = record { net = n; count = length xs; inputs = xs ++ replicate (inputRoom - length xs) 0; truth = t }
+
+-- the two tables of 01's list
+abbrev pub one : Table
+one = made 20 (1 ∷ 2 ∷ 3 ∷ 4 ∷ []) 61152
+
+abbrev pub two : Table
+two = made 21 (5 ∷ 20 ∷ []) 11
+
+abbrev pub part : Part
+part = record { k = 4; capacity = 8; used = 2; tables = one ∷ two ∷ drop 2 blanks }
+
+-- its lines, byte by byte
+abbrev line-0 : List ℕ
+line-0 = 32 ∷ 32 ∷ 32 ∷ 32 ∷ 32 ∷ 52 ∷ 32 ∷ 32 ∷ 32 ∷ 32 ∷ 32 ∷ 56 ∷ 32 ∷ 32 ∷ 32 ∷ 32 ∷ 32 ∷ 50 ∷ 10 ∷ []
+
+abbrev line-1 : List ℕ
+line-1 =
+    32 ∷ 32 ∷ 32 ∷ 32 ∷ 32 ∷ 49 ∷ 32 ∷ 32 ∷ 32 ∷ 32 ∷ 50 ∷ 48 ∷ 32 ∷ 32 ∷ 32 ∷ 32 ∷ 32 ∷ 52 ∷ 32 ∷ 32 ∷ 32 ∷ 32 ∷ 32 ∷ 49
+    ∷ 32 ∷ 32 ∷ 32 ∷ 32 ∷ 32 ∷ 50 ∷ 32 ∷ 32 ∷ 32 ∷ 32 ∷ 32 ∷ 51 ∷ 32 ∷ 32 ∷ 32 ∷ 32 ∷ 32 ∷ 52 ∷ 32 ∷ 32 ∷ 32 ∷ 32 ∷ 32 ∷ 32
+    ∷ 32 ∷ 32 ∷ 32 ∷ 32 ∷ 32 ∷ 32 ∷ 32 ∷ 32 ∷ 32 ∷ 32 ∷ 54 ∷ 49 ∷ 49 ∷ 53 ∷ 50 ∷ 10 ∷ []
+
+abbrev line-2 : List ℕ
+line-2 =
+    32 ∷ 32 ∷ 32 ∷ 32 ∷ 32 ∷ 50 ∷ 32 ∷ 32 ∷ 32 ∷ 32 ∷ 50 ∷ 49 ∷ 32 ∷ 32 ∷ 32 ∷ 32 ∷ 32 ∷ 50 ∷ 32 ∷ 32 ∷ 32 ∷ 32 ∷ 32 ∷ 53
+    ∷ 32 ∷ 32 ∷ 32 ∷ 32 ∷ 50 ∷ 48 ∷ 32 ∷ 32 ∷ 32 ∷ 32 ∷ 32 ∷ 32 ∷ 32 ∷ 32 ∷ 32 ∷ 32 ∷ 32 ∷ 32 ∷ 32 ∷ 32 ∷ 32 ∷ 32 ∷ 32 ∷ 32
+    ∷ 32 ∷ 49 ∷ 49 ∷ 10 ∷ []
+
+listed : listOf part ≡ line-0 ++ line-1 ++ line-2
+listed = refl
+
+is-sound : sound part ≡ true
+unfolding sound blanks
+is-sound = refl
+
+-- the same with used 1 has a record past the used count that is not zero, and with used 3 one of zeros in use
+short : sound (record { k = 4; capacity = 8; used = 1; tables = one ∷ two ∷ drop 2 blanks }) ≡ false
+unfolding sound blanks
+short = refl
+
+long : sound (record { k = 4; capacity = 8; used = 3; tables = one ∷ two ∷ drop 2 blanks }) ≡ false
+unfolding sound blanks
+long = refl
+
+opened-sound : sound ((opened 6 800) .part) ≡ true
+unfolding sound blanks
+opened-sound = refl
+
+-- runs of records with K and the capacity, and what the test says of each
+abbrev runs : List ((ℕ × ℕ × List Table) × Verdict)
+runs =
+    -- no record
+    ((4, 8, []), none) ∷
+    -- 01's two tables
+    ((4, 8, (one ∷ two ∷ [])), none) ∷
+    -- K and the capacity out of range: 2 first
+    ((1, 801, (one ∷ [])), refused 2) ∷
+    ((7, 8, (one ∷ [])), refused 2) ∷
+    ((4, 0, []), refused 3) ∷
+    ((4, 801, []), refused 3) ∷
+    -- the record after the capacity
+    ((4, 1, (one ∷ two ∷ [])), bad 2) ∷
+    -- u above K
+    ((3, 8, (one ∷ two ∷ [])), bad 1) ∷
+    -- a record of zeros
+    ((4, 8, (one ∷ blank ∷ [])), bad 2) ∷
+    -- one input
+    ((4, 8, (made 9 (1 ∷ []) 1 ∷ [])), bad 1) ∷
+    -- an unused input that is not zero
+    ((4, 8, (record { net = 9; count = 2; inputs = 1 ∷ 2 ∷ 3 ∷ 0 ∷ 0 ∷ 0 ∷ []; truth = 8 } ∷ [])), bad 1) ∷
+    -- a net driven above 999
+    ((4, 8, (made 1000 (1 ∷ 2 ∷ []) 8 ∷ [])), bad 1) ∷
+    -- inputs 0 and 1000
+    ((4, 8, (made 9 (0 ∷ 2 ∷ []) 8 ∷ [])), bad 1) ∷
+    ((4, 8, (made 9 (1 ∷ 1000 ∷ []) 8 ∷ [])), bad 1) ∷
+    -- inputs that do not rise
+    ((4, 8, (made 9 (2 ∷ 2 ∷ []) 8 ∷ [])), bad 1) ∷
+    -- a truth table of 2^(2^u)
+    ((4, 8, (made 9 (1 ∷ 2 ∷ []) 16 ∷ [])), bad 1) ∷
+    ((4, 8, (made 9 (1 ∷ 2 ∷ []) 15 ∷ [])), none) ∷
+    -- table 1 is read by itself; by an earlier one; by a later one
+    ((4, 8, (made 0 (1 ∷ 1001 ∷ []) 8 ∷ [])), bad 1) ∷
+    ((4, 8, (made 9 (1 ∷ 1002 ∷ []) 8 ∷ made 0 (2 ∷ 3 ∷ []) 8 ∷ [])), bad 1) ∷
+    ((4, 8, (made 0 (2 ∷ 3 ∷ []) 8 ∷ made 9 (1 ∷ 1001 ∷ []) 8 ∷ [])), none) ∷
+    -- a table that drives a net is read as a table
+    ((4, 8, (made 8 (2 ∷ 3 ∷ []) 8 ∷ made 9 (1 ∷ 1001 ∷ []) 8 ∷ [])), bad 2) ∷
+    -- a net driven twice
+    ((4, 8, (one ∷ made 20 (6 ∷ 7 ∷ []) 8 ∷ [])), bad 2) ∷
+    -- a net read and later driven is found at its driver
+    ((4, 8, (two ∷ one ∷ [])), bad 2) ∷
+    -- a net read by its own driver
+    ((4, 8, (made 9 (1 ∷ 9 ∷ []) 8 ∷ [])), bad 1) ∷ []
+
+abbrev results : List ((ℕ × ℕ × List Table) × Verdict) → List Verdict
+results [] = []
+results (x ∷ xs) = tested (x .0 .0) (x .0 .1) (x .0 .2) ∷ results xs
+
+abbrev said : List ((ℕ × ℕ × List Table) × Verdict) → List Verdict
+said [] = []
+said (x ∷ xs) = x .1 ∷ said xs
+
+runs-right : results runs ≡ said runs
+runs-right = refl

@@ -1,0 +1,196 @@
+-- A part with a sheet's tables added: which tables it has, that it keeps its shape, and that it stays sound.
+use Prim.Native.Nat.{ℕ, zero, suc, _+_, _-_, _≤_, _<_}
+use native.Mathlib.Omega.{arith}
+use mathlib.Core.Path.{_≡_, refl, sym, ap, ap₂, _∙_, subst}
+use mathlib.Core.Logic.{_⊎_, inl, inr, _≢_, ⊎-elim}
+use mathlib.Core.List.{List, [], _∷_, _++_, map, Memᴰ·append-right}
+use lib.ListN.{length, take, drop, replicate, length-append, length-map, length-drop, length-replicate}
+use lib.Seq.{length-take-le, take-append-seam, drop-append-seam, take-at, drop-at, drop-drop}
+use Rattle.lists.specs.Lists.{_∈_, first, later, Every}
+use Rattle.lists.specs.ListLaws.{every-none, every-cons, every-head, every-tail, every-append}
+use Rattle.cover.specs.Tables.{Table as LookupTable, Placed, numbered}
+use Rattle.cover.specs.Eval.{numbered-is}
+use Rattle.cover.specs.Placed.{number}
+use Rattle.cover.specs.Added.{Sheet, Added, Fresh}
+use Rattle.cover.specs.AddedTables.{added-sized, added-rising, added-tidy, added-inputs, added-drives}
+use Rattle.table.specs.Limits.{tableBase, inputRoom}
+use Rattle.table.specs.Records.{tableOf, recordOf}
+use Rattle.table.specs.Rules.{Padded, Coded, Sized, Sourced, DrivenOnce, ReadAfter, EveryTwo, places}
+use Rattle.table.specs.RuleLaws.{map-append, placesAfter, Follows, rules-append}
+use Rattle.part.specs.Parts.{inUse, tablesOf, Shaped}
+use Rattle.part.specs.Sound.{Sound}
+use Rattle.part.specs.Adds.{extended}
+use Rattle.table.specs.declared.Table.{Table}
+use Rattle.part.specs.declared.Part.{Part}
+
+-- ---- lists
+
+module _ {A : Type 0} where
+  pub every-take : {P : A → Type 0} (n : ℕ) (xs : List A) → Every P xs → Every P (take n xs)
+  every-take zero xs h = every-none _
+  every-take (suc n) [] h = every-none _
+  every-take (suc n) (x ∷ xs) h = every-cons (every-head h) (every-take n xs (every-tail h))
+
+  pub every-drop : {P : A → Type 0} (n : ℕ) (xs : List A) → Every P xs → Every P (drop n xs)
+  every-drop zero xs h = h
+  every-drop (suc n) [] h = every-none _
+  every-drop (suc n) (x ∷ xs) h = every-drop n xs (every-tail h)
+
+  pub every-replicate : (P : A → Type 0) (n : ℕ) (x : A) → P x → Every P (replicate n x)
+  every-replicate P zero x h = every-none _
+  every-replicate P (suc n) x h = every-cons h (every-replicate P n x h)
+
+  every-map : {B : Type 0} (P : A → Type 0) (f : B → A) (xs : List B) → Every (λ x. P (f x)) xs → Every P (map f xs)
+  every-map P f [] h = every-none _
+  every-map P f (x ∷ xs) h = every-cons (every-head h) (every-map P f xs (every-tail h))
+
+-- what holds of numbered tables holds of the tables
+pub every-numbered : (P : LookupTable → Type 0) (n : ℕ) (ts : List LookupTable) → Every (λ p. P (p .1)) (numbered n ts) → Every P ts
+every-numbered P n [] h = every-none _
+every-numbered P n (t ∷ ts) h = every-cons (every-head h) (every-numbered P (suc n) ts (every-tail h))
+
+-- each number is that of a table
+numbered-at : (n : ℕ) (ts : List LookupTable) (i : ℕ) → i < length ts → (q : Placed) × (q ∈ numbered n ts) × (q .0 ≡ suc (n + i))
+numbered-at n [] i h = absurd (omega arith)
+numbered-at n (t ∷ ts) zero h = ((suc n, t), first refl, omega arith)
+numbered-at n (t ∷ ts) (suc i) h =
+    let r = numbered-at (suc n) ts i (omega arith) in
+    (r .0, later (r .1), omega (arith, r .2))
+
+-- ---- records and tables
+
+-- a table's record reads as the table
+pub read-back : (t : LookupTable) → tableOf (recordOf t) ≡ t
+read-back t = ap (λ xs. record { drives = t .drives; inputs = xs; truth = t .truth }) (take-append-seam (t .inputs) (replicate (inputRoom - length (t .inputs)) 0))
+
+pub all-back : (ts : List LookupTable) → map tableOf (map recordOf ts) ≡ ts
+all-back [] = refl
+all-back (t ∷ ts) = ap₂ _∷_ (read-back t) (all-back ts)
+
+record-padded : (t : LookupTable) → Padded (recordOf t)
+record-padded t = rw drop-append-seam (every-replicate (λ x. x ≡ 0) (inputRoom - length (t .inputs)) 0 refl)
+
+record-room : (t : LookupTable) → length (t .inputs) ≤ inputRoom → length ((recordOf t) .inputs) ≡ inputRoom
+record-room t h = simp (length-append, length-replicate) (omega arith)
+
+-- ---- the tables of a sheet, after the records of a part
+
+module _ (k : ℕ) (old : List Table) (new : List LookupTable) (s : Sheet) (a : Added tableBase k (map tableOf old) new s) where
+  ps : List Placed
+  ps = numbered (length (map tableOf old)) new
+
+  places-new : placesAfter old (map recordOf new) ≡ ps
+  unfolding ps
+  places-new = ap₂ numbered (sym (length-map old tableOf)) (all-back new)
+
+  -- an input is a leaf of the sheet, or names an earlier one of the new tables
+  input-cases : (Z : Type 0) (p : Placed) → p ∈ ps → (x : ℕ) → x ∈ p .1 .inputs → ((0 < x) × (x < tableBase) × (x ≢ s .out) → Z) →
+      ((t : ℕ) × (x ≡ tableBase + t) × (length (map tableOf old) < t) × (t < p .0) → Z) → Z
+  unfolding ps
+  input-cases Z p m x i f g = ⊎-elim (λ l. f (a .legal .leaf-nets x l)) g (added-inputs tableBase k (map tableOf old) new s a p m x i)
+
+  -- what is driven is the output net, by one table
+  drive-cases : (p : Placed) → p ∈ ps → (p .1 .drives ≡ 0) ⊎ ((p .1 .drives ≡ s .out) × (p .0 ≡ number (a .cover)))
+  unfolding ps
+  drive-cases p m = added-tidy tableBase k (map tableOf old) new s a p m .0
+
+  new-coded : Every (λ t. Coded (recordOf t)) new
+  unfolding ps
+  new-coded = every-numbered (λ t. Coded (recordOf t)) (length (map tableOf old)) new (λ p m. (
+    ⊎-elim (λ e. omega arith) (λ e. omega (arith, e .0, a .legal .out-net)) (drive-cases p m),
+    rw (ap (λ t. t .inputs) (read-back (p .1))) (λ x i. input-cases _ p m x i (λ l. inl (omega (arith, l))) (λ t. inr (omega (arith, t .1, t .2)))),
+  ))
+
+  new-sized : Every (λ t. Sized k (recordOf t)) new
+  unfolding ps
+  new-sized = every-numbered (λ t. Sized k (recordOf t)) (length (map tableOf old)) new (λ p m.
+      let z = added-sized tableBase k (map tableOf old) new s a p m in
+      (z .least, z .most, rw (ap (λ t. t .inputs) (read-back (p .1))) (added-rising tableBase k (map tableOf old) new s a p m), z .bits))
+
+  new-sourced : Every (Sourced (places old ++ ps)) ps
+  unfolding ps
+  new-sourced p m x i h = input-cases _ p m x i (λ l. absurd (omega (arith, h, l))) found
+    where
+      found : (t : ℕ) × (x ≡ tableBase + t) × (length (map tableOf old) < t) × (t < p .0) →
+          (q : Placed) × (q ∈ places old ++ ps) × (x ≡ tableBase + q .0) × (q .0 < p .0) × (q .1 .drives ≡ 0)
+      found t =
+          let l = numbered-is (length (map tableOf old)) new p m in
+          let q = numbered-at (length (map tableOf old)) new (t .0 - suc (length (map tableOf old))) (omega (arith, t .2, t .3, l .1)) in
+          let e : q .0 .0 ≡ t .0 = omega (arith, q .2, t .2) in (
+            q .0,
+            Memᴰ·append-right (places old) (q .1),
+            omega (arith, e, t .1),
+            omega (arith, e, t .3),
+            added-drives tableBase k (map tableOf old) new s a (q .0) (q .1) .0 (omega (arith, e, t .3, l .1)),
+          )
+
+  new-once : EveryTwo DrivenOnce ps
+  new-once p m q j l e =
+      ⊎-elim (λ z. absurd (omega arith)) (λ f. ⊎-elim (λ z. absurd (omega arith)) (λ g. f .1 ∙ sym (g .1)) (drive-cases q j)) (drive-cases p m)
+
+  new-after : EveryTwo ReadAfter ps
+  new-after p m q j l i =
+      ⊎-elim (λ z. absurd (omega arith))
+      (λ f. input-cases _ q j (p .1 .drives) i (λ n. absurd (n .2 (f .0))) (λ t. absurd (omega (arith, f .0, t .1, a .legal .out-net))))
+      (drive-cases p m)
+
+  new-fresh : Fresh s (map tableOf old) →
+      Every (λ p. 0 < p .1 .drives → Every (λ q. (q .1 .drives ≢ p .1 .drives) × (¬ (p .1 .drives ∈ q .1 .inputs))) (places old)) ps
+  new-fresh f p m l q j =
+      ⊎-elim (λ z. absurd (omega arith))
+      (λ d. subst (λ n. (q .1 .drives ≢ n) × (¬ (n ∈ q .1 .inputs))) (sym (d .0)) (f (q .1) (numbered-is 0 (map tableOf old) q j .2)))
+      (drive-cases p m)
+
+  pub added-follows : Fresh s (map tableOf old) → Follows k old (map recordOf new)
+  added-follows f = record {
+    padded = every-map Padded recordOf new (λ t m. record-padded t);
+    coded = every-map Coded recordOf new new-coded;
+    sized = every-map (Sized k) recordOf new new-sized;
+    sourced = rw places-new new-sourced;
+    driven-once = rw places-new new-once;
+    read-after = rw places-new new-after;
+    fresh = rw places-new (new-fresh f);
+  }
+
+-- ---- the part
+
+-- the used count of a sound part is the number of its records in use
+pub used-count : (p : Part) → Shaped p → Sound p → length (inUse p) ≡ p .used
+used-count p shape h =
+    let l : p .used ≤ length (p .tables) = omega (arith, h .used-fits, h .capacity-range .1, shape .records) in
+    length-take-le (p .used) (p .tables) l
+
+module _ (p : Part) (shape : Shaped p) (h : Sound p) (new : List LookupTable) where
+  front-length : length (inUse p ++ map recordOf new) ≡ p .used + length new
+  front-length = simp (length-append, length-map) (omega (arith, used-count p shape h))
+
+  pub extended-inUse : inUse (extended p new) ≡ inUse p ++ map recordOf new
+  extended-inUse = take-at (inUse p ++ map recordOf new) (drop (p .used + length new) (p .tables)) (p .used + length new) front-length
+
+  -- the new tables stand after the old ones
+  pub extended-tables : tablesOf (extended p new) ≡ tablesOf p ++ new
+  extended-tables =
+      ap (map tableOf) extended-inUse ∙ map-append tableOf (inUse p) (map recordOf new) ∙ ap (_++_ (tablesOf p)) (all-back new)
+
+  extended-rest : drop ((extended p new) .used) ((extended p new) .tables) ≡ drop (p .used + length new) (p .tables)
+  extended-rest = drop-at (inUse p ++ map recordOf new) (drop (p .used + length new) (p .tables)) (p .used + length new) front-length
+
+  pub extended-shaped : p .used + length new ≤ p .capacity → Every (λ t. length (t .inputs) ≤ inputRoom) new → Shaped (extended p new)
+  extended-shaped room w = record {
+    records = length-append (inUse p ++ map recordOf new) (drop (p .used + length new) (p .tables))
+        ∙ omega (arith, front-length, length-drop (p .used + length new) (p .tables), shape .records, h .capacity-range .1, room);
+    inputs = every-append (inUse p ++ map recordOf new) (drop (p .used + length new) (p .tables))
+        (every-append (inUse p) (map recordOf new) (every-take (p .used) (p .tables) (shape .inputs))
+        (every-map (λ r. length (r .inputs) ≡ inputRoom) recordOf new (λ t m. record-room t (w t m))))
+        (every-drop (p .used + length new) (p .tables) (shape .inputs));
+  }
+
+  pub extended-sound : (s : Sheet) → Added tableBase (p .k) (tablesOf p) new s → Fresh s (tablesOf p) → p .used + length new ≤ p .capacity →
+      Sound (extended p new)
+  extended-sound s a f room = record {
+    k-range = h .k-range;
+    capacity-range = h .capacity-range;
+    used-fits = room;
+    rest-blank = rw extended-rest (rw drop-drop at (every-drop (length new) (drop (p .used) (p .tables)) (h .rest-blank)));
+    rules = rw extended-inUse (rules-append (p .k) (inUse p) (map recordOf new) (h .rules) (added-follows (p .k) (inUse p) new s a f));
+  }

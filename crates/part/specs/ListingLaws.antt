@@ -1,0 +1,213 @@
+-- A number can be read off its field, and so a part off its lines: two sound parts with the same lines are the same part.
+use Prim.Native.Nat.{ℕ, zero, suc, _+_, _*_, _-_, _/_, _%_, _^_, _≤_, _<_}
+use native.Mathlib.Nat.{mod-lt, mod-eq-of-lt, mod-add-div, div-eq-of-lt, add-mul-mod-self-left, pow-suc, one-le-pow, pow-le-pow-right, mul-le-mul-left}
+use native.Mathlib.Omega.{arith}
+use mathlib.Core.Path.{_≡_, refl, sym, ap, ap₂, _∙_, subst}
+use mathlib.Core.Logic.{⊎-elim}
+use mathlib.Core.Bool.{cond}
+use mathlib.Core.List.{List, [], _∷_, _++_, append-assoc, map, Memᴰ·map, Memᴰ·of-map}
+use lib.Dec.{eqb}
+use lib.ListN.{length, take, drop, getD, length-take, length-drop, take-append-drop}
+use lib.Seq.{getD-take, ext-getD, length-take-le, take-append-seam, drop-append-seam}
+use Rattle.lists.specs.Cases.{by-eqb}
+use Rattle.lists.specs.Lists.{_∈_, first, later, Every, gather, upto}
+use Rattle.lists.specs.ListLaws.{every-none, every-cons, every-head, every-tail}
+use Rattle.lists.specs.TestLaws.{reflects-lt, reflects-and, by-reflects}
+use Rattle.tree.specs.Limits.{greatestNet}
+use Rattle.decimal.specs.Columns.{fieldOf, fieldsOf}
+use Rattle.decimal.specs.ColumnLaws.{field-only, fields-only}
+use Rattle.cover.specs.Tables.{Placed}
+use Rattle.table.specs.Limits.{inputRoom}
+use Rattle.table.specs.Records.{reads, tableOf, blank}
+use Rattle.table.specs.Rules.{AllZero, Blank, NamesTable, Padded, places}
+use Rattle.table.specs.RuleLaws.{old-place, placed}
+use Rattle.part.specs.Parts.{inUse, Shaped}
+use Rattle.part.specs.Sound.{Sound}
+use Rattle.part.specs.ExtendLaws.{every-take, every-drop, used-count}
+use Rattle.part.specs.Listing.{tableLine, lineOf, listOf}
+use Rattle.table.specs.declared.Table.{Table}
+use Rattle.part.specs.declared.Part.{Part}
+
+-- ---- a record in its line
+
+same-by : {A : Type 0} (P : A → Type 0) → ((a b : A) → P a → P b → a ≡ b) → (xs ys : List A) → length xs ≡ length ys → Every P xs → Every P ys → xs ≡ ys
+same-by P h [] [] l f g = refl
+same-by P h [] (y ∷ ys) l f g = absurd (omega arith)
+same-by P h (x ∷ xs) [] l f g = absurd (omega arith)
+same-by P h (x ∷ xs) (y ∷ ys) l f g = ap₂ _∷_ (h x y (every-head f) (every-head g)) (same-by P h xs ys (omega arith) (every-tail f) (every-tail g))
+
+zeros-same : (xs ys : List ℕ) → length xs ≡ length ys → AllZero xs → AllZero ys → xs ≡ ys
+zeros-same = same-by (λ x. x ≡ 0) (λ a b e f. e ∙ sym f)
+
+same-record : (r s : Table) → r .net ≡ s .net → r .count ≡ s .count → r .inputs ≡ s .inputs → r .truth ≡ s .truth → r ≡ s
+same-record r s a b c d = λ i. record { net = a i; count = b i; inputs = c i; truth = d i }
+
+-- what a record of a sound part is
+record Small (r : Table) : Type 0 where
+  room : length (r .inputs) ≡ inputRoom
+  padded : Padded r
+  count : r .count ≤ inputRoom
+  net : r .net ≤ greatestNet
+  inputs : Every (λ x. x < 10 ^ 6) (reads r)
+  truth : r .truth < 2 ^ (2 ^ r .count)
+
+reads-length : (r : Table) → Small r → length (reads r) ≡ r .count
+reads-length r s =
+    let l : r .count ≤ length (r .inputs) = omega (arith, s .room, s .count) in
+    length-take-le (r .count) (r .inputs) l
+
+truth-small : (r : Table) → Small r → r .truth < 10 ^ 21
+truth-small r s =
+    let a : 2 ^ r .count ≤ 64 = pow-le-pow-right (omega arith) {i = r .count} {j = 6} (s .count) in
+    let b : 2 ^ (2 ^ r .count) ≤ 2 ^ 64 = pow-le-pow-right (omega arith) {i = 2 ^ r .count} {j = 64} a in
+    omega (arith, s .truth, b)
+
+inputs-same : (r s : Table) → Small r → Small s → r .count ≡ s .count → reads r ≡ reads s → r .inputs ≡ s .inputs
+inputs-same r s f g c e =
+    sym (take-append-drop (r .count) (r .inputs))
+    ∙ ap₂ _++_ e (zeros-same (drop (r .count) (r .inputs)) (drop (s .count) (s .inputs))
+    (simp length-drop (omega (arith, c, f .room, g .room))) (f .padded) (g .padded))
+    ∙ take-append-drop (s .count) (s .inputs)
+
+-- a record is read off its line, and what follows is the same
+table-line-only : (t : ℕ) (r s : Table) (xs ys : List ℕ) → t < 10 ^ 6 → Small r → Small s → tableLine t r ++ xs ≡ tableLine t s ++ ys →
+    (r ≡ s) × (xs ≡ ys)
+table-line-only t r s xs ys l f g e = (same-record r s (b .0) (c .0) (inputs-same r s f g (c .0) (d .0)) (h .0), cc (h .1))
+  where
+    after : Table → List ℕ → List ℕ
+    after u zs = (fieldOf 21 (u .truth) ++ 10 ∷ []) ++ zs
+
+    whole : fieldsOf (t ∷ r .net ∷ r .count ∷ reads r) ++ after r xs ≡ fieldsOf (t ∷ s .net ∷ s .count ∷ reads s) ++ after s ys
+    whole = sym (append-assoc (fieldsOf (t ∷ r .net ∷ r .count ∷ reads r)) (fieldOf 21 (r .truth) ++ 10 ∷ []) xs) ∙ e
+        ∙ append-assoc (fieldsOf (t ∷ s .net ∷ s .count ∷ reads s)) (fieldOf 21 (s .truth) ++ 10 ∷ []) ys
+
+    a : (t ≡ t) × (fieldsOf (r .net ∷ r .count ∷ reads r) ++ after r xs ≡ fieldsOf (s .net ∷ s .count ∷ reads s) ++ after s ys)
+    a = field-only 6 t t (fieldsOf (r .net ∷ r .count ∷ reads r) ++ after r xs) (fieldsOf (s .net ∷ s .count ∷ reads s) ++ after s ys) l l whole
+
+    b : (r .net ≡ s .net) × (fieldsOf (r .count ∷ reads r) ++ after r xs ≡ fieldsOf (s .count ∷ reads s) ++ after s ys)
+    b = field-only 6 (r .net) (s .net) (fieldsOf (r .count ∷ reads r) ++ after r xs) (fieldsOf (s .count ∷ reads s) ++ after s ys)
+        (omega (arith, f .net)) (omega (arith, g .net)) (a .1)
+
+    c : (r .count ≡ s .count) × (fieldsOf (reads r) ++ after r xs ≡ fieldsOf (reads s) ++ after s ys)
+    c = field-only 6 (r .count) (s .count) (fieldsOf (reads r) ++ after r xs) (fieldsOf (reads s) ++ after s ys)
+        (omega (arith, f .count)) (omega (arith, g .count)) (b .1)
+
+    d : (reads r ≡ reads s) × (after r xs ≡ after s ys)
+    d = fields-only (reads r) (reads s) (after r xs) (after s ys) (reads-length r f ∙ c .0 ∙ sym (reads-length s g)) (f .inputs) (g .inputs) (c .1)
+
+    h : (r .truth ≡ s .truth) × (_≡_ {A = List ℕ} (10 ∷ xs) (10 ∷ ys))
+    h = field-only 21 (r .truth) (s .truth) (10 ∷ xs) (10 ∷ ys) (truth-small r f) (truth-small s g) (d .1)
+
+-- ---- a part in its lines
+
+-- a net or the name of a table has at most four digits
+inputs-small : (p : Part) → Sound p → Every (λ r. Every (λ x. x < 10 ^ 6) (reads r)) (inUse p)
+inputs-small p h r m x i = ⊎-elim (λ n. omega (arith, n .1)) named (h .rules .coded r m .1 x i)
+  where
+    o : (q : Placed) × (q ∈ places (inUse p)) × (q .1 ≡ tableOf r)
+    o = placed 0 (inUse p) r m
+
+    named : NamesTable x → x < 10 ^ 6
+    named t =
+        let q = h .rules .sourced (o .0) (o .1) x (subst (λ u. x ∈ u .inputs) (sym (o .2)) i) t in
+        omega (arith, q .2, q .3, old-place (inUse p) (o .0) (o .1) .1, length-take (p .used) (p .tables), h .used-fits, h .capacity-range .1)
+
+small : (p : Part) → Shaped p → Sound p → Every Small (inUse p)
+small p shape h r m = record {
+  room = every-take (p .used) (p .tables) (shape .inputs) r m;
+  padded = h .rules .padded r m;
+  count = omega (arith, h .rules .sized r m .1, h .k-range .1);
+  net = h .rules .coded r m .0;
+  inputs = inputs-small p h r m;
+  truth = h .rules .sized r m .3;
+}
+
+-- record t, of the records in use
+getD-in : {A : Type 0} (xs : List A) (i : ℕ) (z : A) → i < length xs → getD xs i z ∈ xs
+getD-in [] i z h = absurd (omega arith)
+getD-in (x ∷ xs) zero z h = first refl
+getD-in (x ∷ xs) (suc i) z h = later (getD-in xs i z (omega arith))
+
+small-at : (p : Part) → Shaped p → Sound p → (t : ℕ) → t < p .used → Small (getD (p .tables) t blank)
+small-at p shape h t l =
+    let i : t < length (inUse p) = omega (arith, l, used-count p shape h) in
+    rw (getD-take (p .used) (p .tables) t blank l) at (small p shape h (getD (inUse p) t blank) (getD-in (inUse p) t blank i))
+
+-- the numbers below n
+upto-below : (n : ℕ) → Every (λ t. t < n) (upto n)
+upto-below zero = every-none _
+upto-below (suc n) = every-cons (omega arith) (λ t m. let o = Memᴰ·of-map suc (upto n) m in omega (arith, o .2, upto-below n (o .0) (o .1)))
+
+in-upto : (n t : ℕ) → t < n → t ∈ upto n
+in-upto zero t l = absurd (omega arith)
+in-upto (suc n) zero l = first refl
+in-upto (suc n) (suc t) l = later (Memᴰ·map suc (in-upto n t (omega arith)))
+
+blank-same : (r s : Table) → Blank r × (length (r .inputs) ≡ inputRoom) → Blank s × (length (s .inputs) ≡ inputRoom) → r ≡ s
+blank-same r s f g =
+    same-record r s (f .0 .net ∙ sym (g .0 .net)) (f .0 .count ∙ sym (g .0 .count))
+    (zeros-same (r .inputs) (s .inputs) (f .1 ∙ sym (g .1)) (f .0 .inputs) (g .0 .inputs)) (f .0 .truth ∙ sym (g .0 .truth))
+
+module _ (p q : Part) (fp : Shaped p) (fq : Shaped q) (hp : Sound p) (hq : Sound q) where
+  same-part : p .k ≡ q .k → p .capacity ≡ q .capacity → p .used ≡ q .used →
+      ((t : ℕ) → t < p .used → getD (p .tables) t blank ≡ getD (q .tables) t blank) → p ≡ q
+  same-part a b c d = λ i. record { k = a i; capacity = b i; used = c i; tables = tables i }
+    where
+      front : inUse p ≡ inUse q
+      front = ext-getD blank (inUse p) (inUse q) (used-count p fp hp ∙ c ∙ sym (used-count q fq hq)) (λ i l.
+          let m : i < p .used = omega (arith, l, used-count p fp hp) in
+          let n : i < q .used = omega (arith, m, c) in
+          getD-take (p .used) (p .tables) i blank m ∙ d i m ∙ sym (getD-take (q .used) (q .tables) i blank n))
+
+      rest : drop (p .used) (p .tables) ≡ drop (q .used) (q .tables)
+      rest = same-by (λ r. Blank r × (length (r .inputs) ≡ inputRoom)) blank-same (drop (p .used) (p .tables)) (drop (q .used) (q .tables))
+          (simp length-drop (omega (arith, c, fp .records, fq .records)))
+          (λ r m. (hp .rest-blank r m, every-drop (p .used) (p .tables) (fp .inputs) r m))
+          (λ r m. (hq .rest-blank r m, every-drop (q .used) (q .tables) (fq .inputs) r m))
+
+      tables : p .tables ≡ q .tables
+      tables = sym (take-append-drop (p .used) (p .tables)) ∙ ap₂ _++_ front rest ∙ take-append-drop (q .used) (q .tables)
+
+  -- line 0, and what follows it
+  top-only : (xs ys : List ℕ) → lineOf p 0 ++ xs ≡ lineOf q 0 ++ ys → (p .k ≡ q .k) × (p .capacity ≡ q .capacity) × (p .used ≡ q .used) × (xs ≡ ys)
+  top-only xs ys e =
+      let a : fieldsOf (p .k ∷ p .capacity ∷ p .used ∷ []) ++ (10 ∷ xs) ≡ fieldsOf (q .k ∷ q .capacity ∷ q .used ∷ []) ++ (10 ∷ ys) = e in
+      let b = fields-only (p .k ∷ p .capacity ∷ p .used ∷ []) (q .k ∷ q .capacity ∷ q .used ∷ []) (10 ∷ xs) (10 ∷ ys) refl (low p hp) (low q hq) a in
+      let f = b .0 in
+      let g = b .1 in
+      (cc, cc, cc, cc)
+    where
+      low : (r : Part) → Sound r → Every (λ n. n < 10 ^ 6) (r .k ∷ r .capacity ∷ r .used ∷ [])
+      low r h =
+          every-cons (omega (arith, h .k-range .1)) (every-cons (omega (arith, h .capacity-range .1))
+          (every-cons (omega (arith, h .used-fits, h .capacity-range .1)) (every-none _)))
+
+  -- line t, and what follows it
+  line-only : (t : ℕ) (xs ys : List ℕ) → t < p .used → t < q .used → lineOf p (suc t) ++ xs ≡ lineOf q (suc t) ++ ys →
+      (getD (p .tables) t blank ≡ getD (q .tables) t blank) × (xs ≡ ys)
+  line-only t xs ys l m e =
+      table-line-only (suc t) (getD (p .tables) t blank) (getD (q .tables) t blank) xs ys
+      (omega (arith, l, hp .used-fits, hp .capacity-range .1)) (small-at p fp hp t l) (small-at q fq hq t m) e
+
+  -- TWO SOUND PARTS WITH THE SAME LINES are the same part
+  pub same-lines : ((t : ℕ) → t ≤ p .used → lineOf p t ≡ lineOf q t) → p ≡ q
+  same-lines e =
+      let a = top-only [] [] (ap (λ l. l ++ []) (e 0 (omega arith))) in
+      same-part (a .0) (a .1) (a .2) (λ t l. line-only t [] [] l (omega (arith, l, a .2)) (ap (λ l. l ++ []) (e (suc t) l)) .0)
+
+  lines-only : (ts : List ℕ) → Every (λ t. (t < p .used) × (t < q .used)) ts → gather (lineOf p) (map suc ts) ≡ gather (lineOf q) (map suc ts) →
+      Every (λ t. getD (p .tables) t blank ≡ getD (q .tables) t blank) ts
+  lines-only [] f e = every-none _
+  lines-only (t ∷ ts) f e =
+      let h = every-head f in
+      let a = line-only t (gather (lineOf p) (map suc ts)) (gather (lineOf q) (map suc ts)) (h .0) (h .1) e in
+      every-cons (a .0) (lines-only ts (every-tail f) (a .1))
+
+  -- TWO SOUND PARTS WITH THE SAME LIST are the same part
+  pub same-list : listOf p ≡ listOf q → p ≡ q
+  same-list e =
+      let a = top-only (gather (lineOf p) (map suc (upto (p .used)))) (gather (lineOf q) (map suc (upto (q .used)))) e in
+      let b : gather (lineOf p) (map suc (upto (p .used))) ≡ gather (lineOf q) (map suc (upto (p .used))) =
+      a .3 ∙ ap (λ n. gather (lineOf q) (map suc (upto n))) (sym (a .2)) in
+      same-part (a .0) (a .1) (a .2)
+      (λ t l. lines-only (upto (p .used)) (λ u m. let v = upto-below (p .used) u m in (v, omega (arith, v, a .2))) b t (in-upto (p .used) t l))

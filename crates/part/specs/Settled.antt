@@ -1,0 +1,36 @@
+-- The answer of an add, computed: all that an add leaves free is which least cover is taken, and the order of its tables.
+-- Definitions only: the laws are in SettledLaws.
+use Prim.Native.Nat.{ℕ, _-_}
+use mathlib.Core.Path.{_≡_}
+use mathlib.Core.Bool.{cond}
+use lib.Dec.{leb}
+use Rattle.cover.specs.Added.{Sheet}
+use Rattle.table.specs.Rules.{IsNet}
+use Rattle.part.specs.Parts.{tablesOf}
+use Rattle.part.specs.SoundTest.{sound}
+use Rattle.part.specs.Sheets.{Reading, sheet, refused as unread}
+use Rattle.part.specs.Adds.{Answer, accepted, refused, isDriven, isRead}
+use Rattle.part.specs.Demands.{leastNumber}
+use Rattle.part.specs.declared.Part.{Part}
+
+-- two parts that differ in nothing that an answer depends on
+pub record Alike (p q : Part) : Type 0 where
+  pub k : p .k ≡ q .k
+  pub capacity : p .capacity ≡ q .capacity
+  pub used : p .used ≡ q .used
+  pub sound : sound p ≡ sound q
+  pub driven : (n : ℕ) → IsNet n → isDriven n (tablesOf p) ≡ isDriven n (tablesOf q)
+  pub read : (n : ℕ) → IsNet n → isRead n (tablesOf p) ≡ isRead n (tablesOf q)
+
+abbrev pub offered : Part → Sheet → Answer
+offered p s =
+    cond (isDriven (s .out) (tablesOf p)) (refused 21 0)
+    (cond (isRead (s .out) (tablesOf p)) (refused 22 0)
+    (cond (leb (leastNumber (p .k) s) (p .capacity - p .used)) accepted (refused 23 0)))
+
+abbrev pub taken : Part → Reading → Answer
+taken p (sheet s) = offered p s
+taken p (unread number place) = refused number place
+
+abbrev pub answerOf : Part → Reading → Answer
+answerOf p v = cond (sound p) (taken p v) (refused 20 0)

@@ -1,0 +1,15 @@
+pub mod Limits
+pub mod Line
+pub mod Sheet
+pub mod Step
+pub mod Read
+pub mod Cut
+pub mod Trees
+pub mod Formed
+pub mod NumberLaws
+pub mod StepLaws
+pub mod ReadLaws
+pub mod RefusalLaws
+pub mod TreeLaws
+pub mod CutLaws
+pub mod Checks

@@ -1,0 +1,140 @@
+-- The reading of a sheet, with all that turns it down: 1 and 4 to 13, line by line. Definitions only.
+use Prim.Native.Nat.{ℕ, zero, suc, _+_, _-_}
+use mathlib.Core.Bool.{Bool, true, false, not, cond, _&&_, _||_}
+use mathlib.Core.Option.{Option, none, some}
+use mathlib.Core.List.{List, [], _∷_, _++_}
+use lib.Dec.{leb, ltb, eqb}
+use lib.ListN.{length}
+use Rattle.tree.specs.declared.Kind.{Kind}
+use Rattle.tree.specs.declared.Kind.the-variants.{And as and, Or as or}
+use Rattle.tree.specs.Limits.{greatestNet}
+use Rattle.decimal.specs.Number.{Number}
+use Rattle.sheet.specs.Limits.{gateBase, mostGates, fewestFanins, mostFanins, mostLeaves}
+use Rattle.sheet.specs.Line.{line, fields}
+use Rattle.sheet.specs.Sheet.{Source, net, gate, Fanin, Gate, Sheet, Reading, sheet, refused, from}
+use Rattle.sheet.specs.Step.{Step, good, bad, _>>=_, require, given}
+
+-- ---- tests
+
+abbrev pub within : (low high n : ℕ) → Bool
+within low high n = leb low n && leb n high
+
+-- a count has no sign
+abbrev pub counts : (low high : ℕ) → Number → Bool
+counts low high x = not (x .negative) && within low high (x .magnitude)
+
+abbrev pub member : ℕ → List ℕ → Bool
+member n [] = false
+member n (m ∷ ms) = eqb n m || member n ms
+
+abbrev pub empty : {A : Type 0} → List A → Bool
+empty [] = true
+empty (x ∷ xs) = false
+
+-- the first two, and those after them
+abbrev pub two : {A : Type 0} → List A → Option (A × A × List A)
+two [] = none
+two (x ∷ []) = none
+two (x ∷ y ∷ zs) = some (x, y, zs)
+
+-- ---- line 1: output net and number of gates
+
+pub record Head : Type 0 where
+  pub out : ℕ
+  pub inverted : Bool
+  pub count : ℕ
+
+-- of the bytes before the line feed
+abbrev pub readHead : List ℕ → Step Head
+readHead bytes = do
+  xs ← given (fields bytes) 1 1
+  (out, count, more) ← given (two xs) 1 1
+  _ ← require (empty more) 1 1
+  _ ← require (within 1 greatestNet (out .magnitude)) 4 1
+  _ ← require (counts 1 mostGates count) 5 1
+  good (record { out = out .magnitude; inverted = out .negative; count = count .magnitude })
+
+-- ---- fanins
+
+-- the leaf nets and the gates that were read so far
+pub record Seen : Type 0 where
+  pub nets : List ℕ
+  pub gates : List ℕ
+
+abbrev pub nothing : Seen
+nothing = record { nets = []; gates = [] }
+
+-- what the number n names as a fanin of gate g: a net, or an earlier gate
+abbrev pub sourceOf : (g n : ℕ) → Option Source
+sourceOf g n = cond (within 1 greatestNet n) (some (net n)) (cond (ltb gateBase n && ltb n (gateBase + g)) (some (gate (n - gateBase))) none)
+
+abbrev pub readSource : (out place : ℕ) → Seen → Source → Step Seen
+readSource out place seen (gate g) = do
+  _ ← require (not (member g (seen .gates))) 9 place
+  good (record { nets = seen .nets; gates = seen .gates ++ (g ∷ []) })
+readSource out place seen (net n) = do
+  _ ← require (not (member n (seen .nets))) 10 place
+  _ ← require (not (eqb n out)) 11 place
+  _ ← require (ltb (length (seen .nets)) mostLeaves) 12 place
+  good (record { nets = seen .nets ++ (n ∷ []); gates = seen .gates })
+
+-- the fanins of gate g, from left to right
+abbrev pub readFanins : (out g : ℕ) → Seen → List Number → Step (List Fanin × Seen)
+readFanins out g seen [] = good ([], seen)
+readFanins out g seen (x ∷ xs) = do
+  source ← given (sourceOf g (x .magnitude)) 8 (suc g)
+  seen₁ ← readSource out (suc g) seen source
+  (fanins, seen₂) ← readFanins out g seen₁ xs
+  good (record { inverted = x .negative; source = source } ∷ fanins, seen₂)
+
+-- ---- gate lines: kind, fanin count, fanins
+
+abbrev pub kindOf : Number → Option Kind
+kindOf x = cond (counts 1 1 x) (some and) (cond (counts 2 2 x) (some or) none)
+
+-- gate g stands at line g + 1; of the bytes before the line feed
+abbrev pub readGate : (out g : ℕ) → Seen → List ℕ → Step (Gate × Seen)
+readGate out g seen bytes = do
+  xs ← given (fields bytes) 1 (suc g)
+  (kind, count, more) ← given (two xs) 1 (suc g)
+  kind ← given (kindOf kind) 6 (suc g)
+  _ ← require (counts fewestFanins mostFanins count) 7 (suc g)
+  _ ← require (eqb (length more) (count .magnitude)) 1 (suc g)
+  (fanins, seen₁) ← readFanins out g seen more
+  good (record { kind = kind; fanins = fanins }, seen₁)
+
+-- as many gates as are left, from gate g on; and the rest of the text
+abbrev pub readLeft : (out left g : ℕ) → Seen → List ℕ → Step (List Gate × Seen × List ℕ)
+readLeft out zero g seen text = good ([], seen, text)
+readLeft out (suc left) g seen text = do
+  (bytes, rest) ← given (line text) 1 (suc g)
+  (gate₁, seen₁) ← readGate out g seen bytes
+  (gates, seen₂, rest₁) ← readLeft out left (suc g) seen₁ rest
+  good (gate₁ ∷ gates, seen₂, rest₁)
+
+-- ---- after the last line and the bytes beyond it: each gate but the root was read
+
+-- of the gates `gs`, the first that is not among the read ones turns the sheet down
+abbrev pub readUnread : (gs read : List ℕ) → Step (Unit {0})
+readUnread [] read = good tt
+readUnread (g ∷ gs) read = do
+  _ ← require (member g read) 13 (suc g)
+  readUnread gs read
+
+-- ---- a sheet
+
+abbrev pub readAll : List ℕ → Step Sheet
+readAll text = do
+  (bytes, rest) ← given (line text) 1 1
+  head ← readHead bytes
+  (gates, seen, rest₁) ← readLeft (head .out) (head .count) 1 nothing rest
+  _ ← require (empty rest₁) 1 (head .count + 2)
+  _ ← readUnread (from 1 (head .count - 1)) (seen .gates)
+  good (record { out = head .out; inverted = head .inverted; gates = gates })
+
+abbrev pub reading : Step Sheet → Reading
+reading (good s) = sheet s
+reading (bad number place) = refused number place
+
+abbrev pub readSheet : List ℕ → Reading
+readSheet text = reading (readAll text)

@@ -1,0 +1,218 @@
+-- A sheet that was read is well formed. Each step of the reading shows its own part.
+use Prim.Native.Nat.{ℕ, zero, suc, _+_, _-_, _≤_, _<_}
+use native.Mathlib.Omega.{arith}
+use mathlib.Core.Path.{_≡_, refl, sym, ap, _∙_, subst}
+use mathlib.Core.Bool.{cond, _&&_}
+use mathlib.Core.Option.{none, some}
+use mathlib.Core.List.{List, [], _∷_, _++_, append-assoc, append-nil}
+use lib.Dec.{ltb, ltb→lt, eqb→eq}
+use lib.ListN.{length, length-append}
+use Rattle.lists.specs.Lists.{_∈_, Every, Distinct, Permuted}
+use Rattle.lists.specs.ListLaws.{every-none, every-cons, every-head, every-append, permuted-to, permuted-sym}
+use Rattle.lists.specs.Cases.{and-split}
+use Rattle.tree.specs.Limits.{greatestNet}
+use Rattle.decimal.specs.Number.{Number}
+use Rattle.sheet.specs.Limits.{gateBase, mostGates, fewestFanins, mostFanins, mostLeaves}
+use Rattle.sheet.specs.Sheet.{Source, net, gate, Fanin, Gate, Sheet, sheet, netOf, gateOf, faninNets, faninGates, leafNets, gatesRead, from}
+use Rattle.sheet.specs.Step.{Step}
+use Rattle.sheet.specs.StepLaws.{Meets, on, off, meets-map, meets-bind, meets-require, meets-given}
+use Rattle.sheet.specs.Read.{within, Seen, nothing, readHead, sourceOf, readSource, readFanins, readGate, readLeft, readUnread, readAll, reading, readSheet}
+use Rattle.sheet.specs.Formed.{Net, LeafNet, FaninCount, Before, Earlier, WellFormed}
+use Rattle.sheet.specs.NumberLaws.{by-test, within-holds, counts-holds, not-eqb, member-holds, not-member, distinct-end, distinct-permuted, same-numbers, from-once, in-from}
+
+-- what holds of the nets and gates read so far
+pub record Sound (out : ℕ) (seen : Seen) : Type 0 where
+  pub leaf-nets : Every (LeafNet out) (seen .nets)
+  pub leaf-once : Distinct (seen .nets)
+  pub leaf-count : length (seen .nets) ≤ mostLeaves
+  pub gate-once : Distinct (seen .gates)
+
+-- the nets `ns` and the gates `gs` were read on top of those seen before
+pub record Also (out : ℕ) (before after : Seen) (ns gs : List ℕ) : Type 0 where
+  pub sound : Sound out after
+  pub nets : after .nets ≡ before .nets ++ ns
+  pub gates : after .gates ≡ before .gates ++ gs
+
+also-none : {out : ℕ} {seen : Seen} → Sound out seen → Also out seen seen [] []
+also-none h = record { sound = h; nets = sym (append-nil _); gates = sym (append-nil _) }
+
+also-more : {out : ℕ} {a b c : Seen} {ms ns fs gs : List ℕ} → Also out a b ms fs → Also out b c ns gs → Also out a c (ms ++ ns) (fs ++ gs)
+also-more {a = a} {ms = ms} {ns = ns} {fs = fs} {gs = gs} p q = record {
+  sound = q .sound;
+  nets = q .nets ∙ (ap (λ l. l ++ ns) (p .nets) ∙ append-assoc (a .nets) ms ns);
+  gates = q .gates ∙ (ap (λ l. l ++ gs) (p .gates) ∙ append-assoc (a .gates) fs gs);
+}
+
+-- ---- line 1
+
+pub head-meets : (bytes : List ℕ) → Meets (λ h. Net (h .out) × (1 ≤ h .count) × (h .count ≤ mostGates)) (readHead bytes)
+head-meets bytes =
+    meets-given _ _ _ _ (λ xs d. meets-given _ _ _ _ (λ x e.
+    meets-require _ _ _ _ (λ t. meets-require _ _ _ _ (λ u. meets-require _ _ _ _ (λ v.
+    let c = counts-holds 1 mostGates (x .1) v in
+    on (within-holds 1 greatestNet (x .0 .magnitude) u, c .0, c .1))))))
+
+-- ---- fanins
+
+abbrev Named : (g : ℕ) → Source → Type 0
+Named g s = Every Net (netOf s) × Every (Before g) (gateOf s)
+
+source-named : (g n : ℕ) (s : Source) → sourceOf g n ≡ some s → Named g s
+source-named g n =
+    by-test (λ b. (s : Source) → cond b (some (net n)) (cond (ltb gateBase n && ltb n (gateBase + g)) (some (gate (n - gateBase))) none) ≡ some s → Named g s)
+    (within 1 greatestNet n)
+    (λ t s e. let q : net n ≡ s = cc in subst (Named g) q (every-cons (within-holds 1 greatestNet n t) (every-none _), every-none _))
+    (λ f. by-test (λ b. (s : Source) → cond b (some (gate (n - gateBase))) none ≡ some s → Named g s) (ltb gateBase n && ltb n (gateBase + g))
+    (λ t s e.
+    let q : gate (n - gateBase) ≡ s = cc in
+    let a = and-split (ltb gateBase n) (ltb n (gateBase + g)) t in
+    let l = ltb→lt gateBase n (a .0) in
+    let u = ltb→lt n (gateBase + g) (a .1) in
+    subst (Named g) q (every-none _, every-cons (omega arith) (every-none _)))
+    (λ t s e. let z : _≡_ {A = ℕ} 0 1 = cc in absurd (omega arith)))
+
+source-meets : (out place : ℕ) (seen : Seen) (s : Source) → Sound out seen → Every Net (netOf s) →
+    Meets (λ r. Also out seen r (netOf s) (gateOf s)) (readSource out place seen s)
+source-meets out place seen (net n) h i =
+    meets-require _ _ _ _ (λ t. meets-require _ _ _ _ (λ u. meets-require _ _ _ _ (λ v.
+    let r = every-head i in
+    on (record {
+      sound = record {
+        leaf-nets = every-append _ _ (h .leaf-nets) (every-cons (r .0, r .1, not-eqb n out u) (every-none _));
+        leaf-once = distinct-end (seen .nets) n (h .leaf-once) (not-member n (seen .nets) t);
+        leaf-count = simp length-append (omega (arith, ltb→lt (length (seen .nets)) mostLeaves v));
+        gate-once = h .gate-once;
+      };
+      nets = refl;
+      gates = sym (append-nil _);
+    }))))
+source-meets out place seen (gate g) h i =
+    meets-require _ _ _ _ (λ t. on (record {
+      sound = record {
+        leaf-nets = h .leaf-nets;
+        leaf-once = h .leaf-once;
+        leaf-count = h .leaf-count;
+        gate-once = distinct-end (seen .gates) g (h .gate-once) (not-member g (seen .gates) t);
+      };
+      nets = sym (append-nil _);
+      gates = refl;
+    }))
+
+pub record FaninsRead (out g : ℕ) (seen : Seen) (count : ℕ) (r : List Fanin × Seen) : Type 0 where
+  pub also : Also out seen (r .1) (faninNets (r .0)) (faninGates (r .0))
+  pub earlier : Every (Before g) (faninGates (r .0))
+  pub number : length (r .0) ≡ count
+
+fanins-meets : (out g : ℕ) (seen : Seen) (xs : List Number) → Sound out seen → Meets (FaninsRead out g seen (length xs)) (readFanins out g seen xs)
+fanins-meets out g seen [] h = on (record { also = also-none h; earlier = every-none _; number = refl })
+fanins-meets out g seen (x ∷ xs) h =
+    meets-given _ _ _ _ (λ s e.
+    let d = source-named g (x .magnitude) s e in
+    meets-bind _ _ (source-meets out (suc g) seen s h (d .0)) (λ seen₁ p.
+    meets-bind _ _ (fanins-meets out g seen₁ xs (p .sound)) (λ r f.
+    on (record {
+      also = also-more p (f .also);
+      earlier = every-append (gateOf s) (faninGates (r .0)) (d .1) (f .earlier);
+      number = ap suc (f .number);
+    }))))
+
+-- ---- gates
+
+pub record GateRead (out g : ℕ) (seen : Seen) (r : Gate × Seen) : Type 0 where
+  pub also : Also out seen (r .1) (faninNets (r .0 .fanins)) (faninGates (r .0 .fanins))
+  pub earlier : Every (Before g) (faninGates (r .0 .fanins))
+  pub count : FaninCount (r .0)
+
+gate-meets : (out g : ℕ) (seen : Seen) (bytes : List ℕ) → Sound out seen → Meets (GateRead out g seen) (readGate out g seen bytes)
+gate-meets out g seen bytes h =
+    meets-given _ _ _ _ (λ xs d. meets-given _ _ _ _ (λ x e. meets-given _ _ _ _ (λ k e₁.
+    meets-require _ _ _ _ (λ t. meets-require _ _ _ _ (λ u.
+    meets-bind _ _ (fanins-meets out g seen (x .2) h) (λ r f.
+    let c = counts-holds fewestFanins mostFanins (x .1) t in
+    let q = eqb→eq (length (x .2)) (x .1 .magnitude) u in
+    on (record { also = f .also; earlier = f .earlier; count = omega (arith, f .number) })))))))
+
+pub record LeftRead (out left g : ℕ) (seen : Seen) (r : List Gate × Seen × List ℕ) : Type 0 where
+  pub also : Also out seen (r .1) (leafNets (r .0)) (gatesRead (r .0))
+  pub earlier : Earlier g (r .0)
+  pub counts : Every FaninCount (r .0)
+  pub number : length (r .0) ≡ left
+
+left-meets : (out left g : ℕ) (seen : Seen) (text : List ℕ) → Sound out seen → Meets (LeftRead out left g seen) (readLeft out left g seen text)
+left-meets out zero g seen text h = on (record { also = also-none h; earlier = tt; counts = every-none _; number = refl })
+left-meets out (suc left) g seen text h =
+    meets-given _ _ _ _ (λ l e.
+    meets-bind _ _ (gate-meets out g seen (l .0) h) (λ r p.
+    meets-bind _ _ (left-meets out left (suc g) (r .1) (l .1) (p .also .sound)) (λ q f.
+    on (record {
+      also = also-more (p .also) (f .also);
+      earlier = (p .earlier, f .earlier);
+      counts = every-cons (p .count) (f .counts);
+      number = ap suc (f .number);
+    }))))
+
+-- ---- after the last line
+
+unread-meets : (gs read : List ℕ) → Meets (λ u. Every (λ g. g ∈ read) gs) (readUnread gs read)
+unread-meets [] read = on (every-none _)
+unread-meets (g ∷ gs) read =
+    meets-require _ _ _ _ (λ t. meets-map (λ u f. every-cons (member-holds g read t) f) (unread-meets gs read))
+
+-- what the gates from gate g on read lies before the last of them
+earlier-below : (g : ℕ) (xs : List Gate) → Earlier g xs → Every (λ j. (1 ≤ j) × (suc j < g + length xs)) (gatesRead xs)
+earlier-below g [] h = every-none _
+earlier-below g (x ∷ xs) h =
+    every-append (faninGates (x .fanins)) (gatesRead xs)
+    (λ j m. let b = h .0 j m in omega arith)
+    (λ j m. let b = earlier-below (suc g) xs (h .1) j m in omega arith)
+
+-- so what they read is each gate but the last, once
+each-once : (xs : List Gate) (n : ℕ) (read : List ℕ) → length xs ≡ n → read ≡ gatesRead xs → Earlier 1 xs → Distinct read →
+    Every (λ g. g ∈ read) (from 1 (n - 1)) → Permuted (gatesRead xs) (from 1 (length xs - 1))
+each-once xs n read l q e d f =
+    same-numbers (gatesRead xs) (from 1 (length xs - 1)) (subst Distinct q d) (from-once 1 (length xs - 1))
+    (λ j m. let b = earlier-below 1 xs e j m in in-from 1 (length xs - 1) j (b .0) (omega arith))
+    (subst (λ k. Every (λ g. g ∈ gatesRead xs) (from 1 (k - 1))) (sym l) (subst (λ r. Every (λ g. g ∈ r) (from 1 (n - 1))) q f))
+
+-- ---- a sheet
+
+nothing-sound : {out : ℕ} → Sound out nothing
+nothing-sound = record { leaf-nets = every-none _; leaf-once = tt; leaf-count = omega arith; gate-once = tt }
+
+all-meets : (text : List ℕ) → Meets WellFormed (readAll text)
+all-meets text =
+    meets-given _ _ _ _ (λ l e.
+    meets-bind _ _ (head-meets (l .0)) (λ h a.
+    meets-bind _ _ (left-meets (h .out) (h .count) 1 nothing (l .1) nothing-sound) (λ r f.
+    meets-require _ _ _ _ (λ t.
+    meets-bind _ _ (unread-meets (from 1 (h .count - 1)) (r .1 .gates)) (λ u g.
+    on (record {
+      out-net = a .0;
+      gate-count = omega (arith, f .number);
+      fanin-counts = f .counts;
+      earlier = f .earlier;
+      read-once = each-once (r .0) (h .count) (r .1 .gates) (f .number) (f .also .gates) (f .earlier) (f .also .sound .gate-once) g;
+      leaf-nets = rw (f .also .nets) at (f .also .sound .leaf-nets);
+      leaf-once = rw (f .also .nets) at (f .also .sound .leaf-once);
+      leaf-count = rw (f .also .nets) at (f .also .sound .leaf-count);
+    }))))))
+
+-- A SHEET THAT WAS READ IS WELL FORMED
+pub read-formed : (text : List ℕ) (s : Sheet) → readSheet text ≡ sheet s → WellFormed s
+read-formed text s e = of (readAll text) (all-meets text) e
+  where
+    of : (m : Step Sheet) → Meets WellFormed m → reading m ≡ sheet s → WellFormed s
+    of m (on {a = a} h) e = let q : a ≡ s = cc in subst WellFormed q h
+    of m off e = let z : _≡_ {A = ℕ} 0 1 = cc in absurd (omega arith)
+
+-- ---- the same by gates: each is read once, except the last, which is not read
+
+pub gate-read : (s : Sheet) → WellFormed s → (j : ℕ) → 1 ≤ j → j < length (s .gates) → j ∈ gatesRead (s .gates)
+gate-read s w j l u =
+    permuted-to {P = λ i. i ∈ gatesRead (s .gates)} (w .read-once) (λ i m. m) j (in-from 1 (length (s .gates) - 1) j l (omega arith))
+
+pub gates-distinct : (s : Sheet) → WellFormed s → Distinct (gatesRead (s .gates))
+gates-distinct s w = distinct-permuted (permuted-sym (w .read-once)) (from-once 1 (length (s .gates) - 1))
+
+pub root-unread : (s : Sheet) → WellFormed s → ¬ (length (s .gates) ∈ gatesRead (s .gates))
+root-unread s w m = omega (arith, earlier-below 1 (s .gates) (w .earlier) (length (s .gates)) m)

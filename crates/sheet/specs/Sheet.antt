@@ -1,0 +1,58 @@
+-- A sheet as it is drawn: its gates in order, numbered from 1, the last of which is the root. Definitions only.
+use Prim.Native.Nat.{ℕ, zero, suc}
+use mathlib.Core.Bool.{Bool}
+use mathlib.Core.List.{List, [], _∷_}
+use Rattle.lists.specs.Lists.{gather}
+use Rattle.tree.specs.declared.Kind.{Kind}
+
+-- what a fanin reads
+pub data Source : Type 0 where
+  net : ℕ → Source
+  gate : ℕ → Source
+
+pub record Fanin : Type 0 where
+  pub inverted : Bool
+  pub source : Source
+
+pub record Gate : Type 0 where
+  pub kind : Kind
+  pub fanins : List Fanin
+
+-- `inverted` says that the tree's value is
+pub record Sheet : Type 0 where
+  pub out : ℕ
+  pub inverted : Bool
+  pub gates : List Gate
+
+-- what comes of a text: a sheet, or the number of the condition that turns it down, and the line (from 1) at which it does
+pub data Reading : Type 0 where
+  sheet : Sheet → Reading
+  refused : (number place : ℕ) → Reading
+
+-- the net, or the gate, that is read
+abbrev pub netOf : Source → List ℕ
+netOf (net n) = n ∷ []
+netOf (gate g) = []
+
+abbrev pub gateOf : Source → List ℕ
+gateOf (net n) = []
+gateOf (gate g) = g ∷ []
+
+-- the nets and the gates that some fanins read, from left to right
+abbrev pub faninNets : List Fanin → List ℕ
+faninNets = gather (λ f. netOf (f .source))
+
+abbrev pub faninGates : List Fanin → List ℕ
+faninGates = gather (λ f. gateOf (f .source))
+
+-- and those that some gates read: of a whole sheet these are its leaves, and the gates that are not its root
+abbrev pub leafNets : List Gate → List ℕ
+leafNets = gather (λ g. faninNets (g .fanins))
+
+abbrev pub gatesRead : List Gate → List ℕ
+gatesRead = gather (λ g. faninGates (g .fanins))
+
+-- so many numbers, from g on
+abbrev pub from : (g count : ℕ) → List ℕ
+from g zero = []
+from g (suc n) = g ∷ from (suc g) n

@@ -1,0 +1,6 @@
+pub mod Limits
+pub mod Records
+pub mod Rules
+pub mod RecordTest
+pub mod RuleLaws
+pub mod TestedLaws

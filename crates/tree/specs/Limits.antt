@@ -1,0 +1,10 @@
+-- The numbers of nets and codes, each named once; the code's are in src/lib.rt. Definitions only.
+use Prim.Native.Nat.{ℕ}
+
+-- nets go from 1 to the greatest
+abbrev pub greatestNet : ℕ
+greatestNet = 999
+
+-- what is no net has a code above it: in a fanin gate g is written as the base and g, and in a table's input table t as the base and t
+abbrev pub codeBase : ℕ
+codeBase = 1000
