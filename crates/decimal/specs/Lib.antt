@@ -1,3 +1,6 @@
 pub mod Number
+pub mod NumberLaws
+pub mod Reading
+pub mod ReadingLaws
 pub mod Columns
 pub mod ColumnLaws

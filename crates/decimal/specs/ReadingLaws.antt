@@ -1,0 +1,39 @@
+-- A field's answer and the number in its columns: each gives the other, so that a value with its sign stands for the number.
+use Prim.Native.Nat.{ℕ, zero, suc, _<_}
+use native.Mathlib.Omega.{arith}
+use mathlib.Core.Path.{_≡_, refl, sym, ap, _∙_}
+use mathlib.Core.Bool.{Bool, true, false, cond}
+use mathlib.Core.Option.{Option, none, some}
+use mathlib.Core.List.{List}
+use lib.IntN.{ℤ, pos, negℤ}
+use Rattle.decimal.specs.Number.{Number, columns, fieldNumber, Within}
+use Rattle.decimal.specs.NumberLaws.{Given, field-given, field-within}
+use Rattle.decimal.specs.Reading.{valueOf, numberOf, answerOf, fieldRead}
+use Rattle.decimal.specs.declared.Field.the-variants.{Value, NoNumber}
+
+back : (b : Bool) (m : ℕ) → (b ≡ true → 0 < m) → numberOf (cond b (negℤ (pos m)) (pos m)) ≡ record { negative = b; magnitude = m }
+back false m h = refl
+back true zero h = absurd (omega (arith, h refl))
+back true (suc m) h = refl
+
+-- there is no "-0", so a value gives its number back
+pub value-number : (width : ℕ) (n : Number) → Within width n → numberOf (valueOf n) ≡ n
+value-number width n h = back (n .negative) (n .magnitude) (λ e. h .sign e .0)
+
+answer-value : (o : Option Number) {v : ℤ} → Given (Within columns) o → answerOf o ≡ Value v → o ≡ some (numberOf v)
+answer-value none h e = let no : _≡_ {A = ℕ} 0 1 = cc in absurd (omega arith)
+answer-value (some n) {v} h e = let same : valueOf n ≡ v = cc in ap some (sym (value-number columns n h) ∙ ap numberOf same)
+
+answer-none : (o : Option Number) → answerOf o ≡ NoNumber → o ≡ none
+answer-none none e = refl
+answer-none (some n) e = let no : _≡_ {A = ℕ} 0 1 = cc in absurd (omega arith)
+
+-- what a caller learns from the answer of `read`: the number, with what `negative` and `magnitude` answer of the value
+pub read-value : (bs : List ℕ) {v : ℤ} → fieldRead bs ≡ Value v → fieldNumber bs ≡ some (numberOf v)
+read-value bs = answer-value (fieldNumber bs) (field-given bs)
+
+pub read-within : (bs : List ℕ) {v : ℤ} → fieldRead bs ≡ Value v → Within columns (numberOf v)
+read-within bs e = field-within bs (read-value bs e)
+
+pub read-none : (bs : List ℕ) → fieldRead bs ≡ NoNumber → fieldNumber bs ≡ none
+read-none bs = answer-none (fieldNumber bs)
