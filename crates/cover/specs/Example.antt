@@ -14,7 +14,9 @@ use Rattle.cover.specs.Cover.{Cover, net, top, Fanins, end, old, new, sa
 use Rattle.cover.specs.Key.{key, Way, leaf-key, held, cut, pack, better}
 use Rattle.cover.specs.Subsets.{least-of}
 use Rattle.cover.specs.Least.{least-is}
-use Rattle.cover.specs.Plans.{Token, push, join, fanin, binary, Planned, made, Runs, stop, pushed, joined}
+use Rattle.cover.specs.declared.Token.{Token}
+use Rattle.cover.specs.declared.Token.the-variants.{Push as push, Join as join}
+use Rattle.cover.specs.Plans.{fanin, binary, Planned, made, Runs, stop, pushed, joined}
 use Rattle.cover.specs.Tables.{Table, numbered, settled}
 use Rattle.cover.specs.Placed.{records, records*}
 use Rattle.cover.specs.Placings.{placings}

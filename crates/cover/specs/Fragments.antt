@@ -10,7 +10,8 @@ use Rattle.lists.specs.Lists.{Inserted, Permuted, empty, more, Paired, no-pair,
 use Rattle.lists.specs.MixLaws.{paired-append}
 use Rattle.tree.specs.Tree.{Node, Edges, none, edge}
 use Rattle.cover.specs.Cover.{Cover, net, top, Fanins, end, pick, arity, frontier, tables, tables*, width, widths, Fits*, Fits, SplitOf, same, split, Matched, done, match}
-use Rattle.cover.specs.Key.{Key, leaf-key, Taken, held, cut, Way}
+use Rattle.cover.specs.declared.Key.{Key}
+use Rattle.cover.specs.Key.{leaf-key, Taken, held, cut, Way}
 use Rattle.cover.specs.Plans.{Fragment, drawn, made, marked, place, Says, Standing, Ready, ready-none, ready-edge}
 
 -- ---- which fanin a cover stands for

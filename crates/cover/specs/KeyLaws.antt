@@ -7,7 +7,8 @@ use native.Mathlib.Nat.{add-comm, min-comm}
 use native.Mathlib.Omega.{arith}
 use lib.Dec.{leb}
 use Rattle.lists.specs.Cases.{by-leb, if-leb}
-use Rattle.cover.specs.Key.{Key, key, _≼_, better, _⊕_, pack, join, cuts, Taken, held, cut, Way}
+use Rattle.cover.specs.declared.Key.{Key}
+use Rattle.cover.specs.Key.{key, _≼_, better, _⊕_, pack, join, cuts, Taken, held, cut, Way}
 
 key-path : {a b : Key} → a .below ≡ b .below → a .width ≡ b .width → a ≡ b
 key-path p q = λ i. key (p i) (q i)

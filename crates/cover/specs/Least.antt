@@ -9,7 +9,8 @@ use Rattle.lists.specs.Cases.{and-split}
 use Rattle.tree.specs.declared.Kind.{Kind}
 use Rattle.tree.specs.Tree.{Node, leaf, gate, Edges, none, edge, many, proper, propers}
 use Rattle.cover.specs.Cover.{top, Fanins, tables, Least}
-use Rattle.cover.specs.Key.{Key, leaf-key}
+use Rattle.cover.specs.declared.Key.{Key}
+use Rattle.cover.specs.Key.{leaf-key}
 use Rattle.cover.specs.Reach.{Wide, Best, at-leaf, at-gate, Bests, at-end, at-edge}
 use Rattle.cover.specs.ReachLaws.{chain, bests-wide}
 use Rattle.cover.specs.Lower.{root-low}

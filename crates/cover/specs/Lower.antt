@@ -8,7 +8,8 @@ use native.Mathlib.Omega.{arith}
 use Rattle.lists.specs.Lists.{Permuted, empty, more, Mix, left, Paired, no-pair, pair}
 use Rattle.lists.specs.MixLaws.{mix-none, mix-all, paired-insert, paired-split}
 use Rattle.tree.specs.Tree.{Node, Edges}
-use Rattle.cover.specs.Key.{Key, key, leaf-key, _≼_}
+use Rattle.cover.specs.declared.Key.{Key}
+use Rattle.cover.specs.Key.{key, leaf-key, _≼_}
 use Rattle.cover.specs.KeyLaws.{≼-refl, ≼-trans, join-low}
 use Rattle.cover.specs.Reach.{Reach, one, both, LeastReach, Best, at-leaf, at-gate, Bests, at-end, at-edge}
 use Rattle.cover.specs.ReachLaws.{reach-permuted}

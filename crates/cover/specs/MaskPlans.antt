@@ -10,10 +10,13 @@ use Rattle.lists.specs.Lists.{Inserted, Permuted, empty, more, upto}
 use Rattle.lists.specs.ListLaws.{permuted-append, permuted-trans}
 use Rattle.lists.specs.MixLaws.{mix-append}
 use Rattle.lists.specs.NumberLaws.{upto-length, upto-at}
-use Rattle.cover.specs.Key.{Key, leaf-key, Way}
+use Rattle.cover.specs.declared.Key.{Key}
+use Rattle.cover.specs.Key.{leaf-key, Way}
 use Rattle.cover.specs.Masks.{select, Within}
 use Rattle.cover.specs.MaskLaws.{select-top, select-none, select-mix, select-all}
-use Rattle.cover.specs.Plans.{Token, push, join, fanin, binary, Planned}
+use Rattle.cover.specs.declared.Token.{Token}
+use Rattle.cover.specs.declared.Token.the-variants.{Push as push, Join as join}
+use Rattle.cover.specs.Plans.{fanin, binary, Planned}
 
 -- a plan for the fanins at the set bits of the mask s
 abbrev pub MaskPlanned : ℕ → List Key → ℕ → List Token → Key → Type 0

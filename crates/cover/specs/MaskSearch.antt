@@ -11,7 +11,8 @@ use lib.ListN.{length, getD}
 use lib.Pow.{pow-pos, pow-lt}
 use Rattle.lists.specs.Lists.{Permuted, more, Mix, left}
 use Rattle.lists.specs.ListLaws.{permuted-refl, permuted-sym, permuted-to}
-use Rattle.cover.specs.Key.{Key, leaf-key, _≼_, join}
+use Rattle.cover.specs.declared.Key.{Key}
+use Rattle.cover.specs.Key.{leaf-key, _≼_, join}
 use Rattle.cover.specs.Reach.{Reach, both, LeastReach, Wide}
 use Rattle.cover.specs.ReachLaws.{least-permuted, least-one, least-single, no-reach}
 use Rattle.cover.specs.SubsetLaws.{least-step}

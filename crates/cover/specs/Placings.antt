@@ -9,10 +9,12 @@ use Rattle.lists.specs.Lists.{Permuted, more, here, there, upto, gather}
 use Rattle.lists.specs.ListLaws.{permuted-refl, permuted-sym, permuted-trans, permuted-append, permuted-swap, gather-append, gather-permuted, gather-map}
 use Rattle.tree.specs.declared.Kind.{Kind}
 use Rattle.cover.specs.Cover.{Cover, net, top, Fanins, end}
-use Rattle.cover.specs.Key.{Key}
+use Rattle.cover.specs.declared.Key.{Key}
 use Rattle.cover.specs.Tables.{Placed}
 use Rattle.cover.specs.Placed.{placed, tableOf, records, records*}
-use Rattle.cover.specs.Plans.{Token, push, join, Denotes, fanin, binary, Planned, Fragment, drawn, made, marked, place, Runs, stop, pushed, joined}
+use Rattle.cover.specs.declared.Token.{Token}
+use Rattle.cover.specs.declared.Token.the-variants.{Push as push, Join as join}
+use Rattle.cover.specs.Plans.{Denotes, fanin, binary, Planned, Fragment, drawn, made, marked, place, Runs, stop, pushed, joined}
 
 -- a few lists in two orders
 push-blocks : (s w t p : List Placed) → Permuted (s ++ ((w ++ t) ++ p)) ((w ++ s) ++ (t ++ p))

@@ -13,8 +13,11 @@ use Rattle.lists.specs.NumberLaws.{upto-length}
 use Rattle.tree.specs.declared.Kind.{Kind}
 use Rattle.tree.specs.Tree.{leaf, gate, Edges}
 use Rattle.cover.specs.Cover.{Cover, net, top, Fanins, end, same, split, rooted, CoverOf}
-use Rattle.cover.specs.Key.{Key, leaf-key}
-use Rattle.cover.specs.Plans.{Token, push, join, Denotes, fanin, binary, Planned, Fragment, made, place, Says, Runs, stop, pushed, joined, Standing, Ready, ready-none, ready-edge, Body}
+use Rattle.cover.specs.declared.Key.{Key}
+use Rattle.cover.specs.Key.{leaf-key}
+use Rattle.cover.specs.declared.Token.{Token}
+use Rattle.cover.specs.declared.Token.the-variants.{Push as push, Join as join}
+use Rattle.cover.specs.Plans.{Denotes, fanin, binary, Planned, Fragment, made, place, Says, Runs, stop, pushed, joined, Standing, Ready, ready-none, ready-edge, Body}
 use Rattle.cover.specs.Fragments.{names-matched, edges, Stands, as-drawn, as-made, ready-names, stands-join}
 
 -- ---- a run

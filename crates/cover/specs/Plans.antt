@@ -8,13 +8,12 @@ use lib.ListN.{length, getD}
 use Rattle.lists.specs.Lists.{Permuted}
 use Rattle.tree.specs.Tree.{Node, Edges, none, edge}
 use Rattle.cover.specs.Cover.{Cover, net, top, Fanins, end, old, new, arity, frontier, tables, tables*, width, widths, Fits, Fits*, SplitOf, Matched}
-use Rattle.cover.specs.Key.{Key, leaf-key, Way}
+-- keys and tokens are those of the code
+use Rattle.cover.specs.declared.Key.{Key}
+use Rattle.cover.specs.declared.Token.{Token}
+use Rattle.cover.specs.declared.Token.the-variants.{Push as push, Join as join}
+use Rattle.cover.specs.Key.{leaf-key, Way}
 use Rattle.cover.specs.Placed.{number}
-
--- take the fanin i, counted from 0; join the two taken or joined last, each placed where the flag says so
-pub data Token : Type 0 where
-  push : ℕ → Token
-  join : Bool → Bool → Token
 
 -- ---- what a plan gives: its key
 

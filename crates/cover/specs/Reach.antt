@@ -6,7 +6,8 @@ use mathlib.Core.List.{List, [], _∷_}
 use Rattle.lists.specs.Lists.{Every, Mix}
 use Rattle.tree.specs.declared.Kind.{Kind}
 use Rattle.tree.specs.Tree.{Node, leaf, gate, Edges, none, edge}
-use Rattle.cover.specs.Key.{Key, leaf-key, _≼_, join}
+use Rattle.cover.specs.declared.Key.{Key}
+use Rattle.cover.specs.Key.{leaf-key, _≼_, join}
 
 -- what a tree of joins over the list gives (no list in it is empty, since nothing is reached from an empty one)
 pub data Reach (K : ℕ) : List Key → Key → Type 0 where

@@ -10,7 +10,8 @@ use Rattle.lists.specs.ListLaws.{every-none, every-cons, every-head, permuted-s
 use Rattle.lists.specs.MixLaws.{mix-none, mix-permuted, mix-every}
 use Rattle.tree.specs.declared.Kind.{Kind}
 use Rattle.tree.specs.Tree.{Node, leaf, gate, Edges, none, edge}
-use Rattle.cover.specs.Key.{Key, _≼_}
+use Rattle.cover.specs.declared.Key.{Key}
+use Rattle.cover.specs.Key.{_≼_}
 use Rattle.cover.specs.KeyLaws.{≼-refl, ≼-antisym, join-width}
 use Rattle.cover.specs.Reach.{Reach, one, both, LeastReach, Wide, Best, at-leaf, at-gate, Bests, at-end, at-edge}
 

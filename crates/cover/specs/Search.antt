@@ -9,13 +9,14 @@ use lib.ListN.{length}
 use Rattle.tree.specs.declared.Kind.{Kind}
 use Rattle.tree.specs.Tree.{gate, Edges}
 use Rattle.cover.specs.Cover.{Cover, top, Fanins, tables, CoverOf, Least}
-use Rattle.cover.specs.Key.{Key}
+use Rattle.cover.specs.declared.Key.{Key}
 use Rattle.cover.specs.Reach.{Best, Bests}
 use Rattle.cover.specs.ReachLaws.{best-gate, bests-wide}
 use Rattle.cover.specs.Masks.{Filled}
 use Rattle.cover.specs.MaskSearch.{masks-whole}
 use Rattle.cover.specs.MaskPlans.{MaskPlanned, mask-plan-all}
-use Rattle.cover.specs.Plans.{Token, Fragment, made, Runs, Ready, Body}
+use Rattle.cover.specs.declared.Token.{Token}
+use Rattle.cover.specs.Plans.{Fragment, made, Runs, Ready, Body}
 use Rattle.cover.specs.PlanLaws.{plan-body, body-cover}
 use Rattle.cover.specs.Least.{body-least}
 

@@ -10,7 +10,8 @@ use lib.ListN.{length}
 use Rattle.lists.specs.Lists.{Mix, neither, left, right}
 use Rattle.lists.specs.ListLaws.{every-none, every-cons, every-head, every-tail}
 use Rattle.lists.specs.MixLaws.{every-mix, mix-every, mix-swap}
-use Rattle.cover.specs.Key.{Key, leaf-key, _≼_, join}
+use Rattle.cover.specs.declared.Key.{Key}
+use Rattle.cover.specs.Key.{leaf-key, _≼_, join}
 use Rattle.cover.specs.KeyLaws.{≼-refl, ≼-trans, better-cases, join-comm, join-mono}
 use Rattle.cover.specs.Reach.{Reach, one, both, LeastReach, Wide}
 use Rattle.cover.specs.ReachLaws.{no-reach, reach-wide}

@@ -12,10 +12,13 @@ use Rattle.lists.specs.MixLaws.{mix-append, paired-mix}
 use Rattle.tree.specs.declared.Kind.{Kind}
 use Rattle.tree.specs.Tree.{Node, leaf, gate, Edges, none, edge}
 use Rattle.cover.specs.Cover.{Cover, Fanins}
-use Rattle.cover.specs.Key.{Key, leaf-key}
+use Rattle.cover.specs.declared.Key.{Key}
+use Rattle.cover.specs.Key.{leaf-key}
 use Rattle.cover.specs.KeyLaws.{join-way}
 use Rattle.cover.specs.Reach.{Reach, one, both, Best, at-leaf, at-gate, Bests, at-end, at-edge}
-use Rattle.cover.specs.Plans.{Token, push, Denotes, fanin, binary, Planned, Standing, Ready, ready-none, ready-edge, Body}
+use Rattle.cover.specs.declared.Token.{Token}
+use Rattle.cover.specs.declared.Token.the-variants.{Push as push}
+use Rattle.cover.specs.Plans.{Denotes, fanin, binary, Planned, Standing, Ready, ready-none, ready-edge, Body}
 use Rattle.cover.specs.PlanLaws.{plan-runs, plan-body, net-standing, body-standing}
 
 -- the key z is that of the fanin n
