@@ -54,6 +54,16 @@ pack-cases : (K c w m : ℕ) (P : Key → Type 0) →
 unfolding pack
 pack-cases K c w m P f g h = if-leb P w K f (λ p. if-leb P (1 + m) K (g p) (h p))
 
+-- a key that is right in each of the three cases
+pub is-pack : (r : Key) (K c w m : ℕ) →
+    (w ≤ K → (r .below ≡ c) × (r .width ≡ w)) × (K < w → 1 + m ≤ K → (r .below ≡ c + 1) × (r .width ≡ 1 + m)) ×
+    (K < w → K < 1 + m → (r .below ≡ c + 2) × (r .width ≡ 2)) →
+    r ≡ pack K c w m
+is-pack r K c w m h =
+    pack-cases K c w m (λ p. r ≡ p) (λ f. let e = h .0 f in key-path (e .0) (e .1))
+    (λ f g. let e = h .1 f g in key-path (e .0) (e .1))
+    (λ f g. let e = h .2 f g in key-path (e .0) (e .1))
+
 pub join-comm : (K : ℕ) (a b : Key) → join K a b ≡ join K b a
 join-comm K a b = rw (add-comm (a .below), add-comm (a .width), min-comm (a .width))
 

@@ -4,7 +4,9 @@ pub mod Key
 pub mod KeyLaws
 pub mod Reach
 pub mod ReachLaws
+pub mod Limits
 pub mod Masks
+pub mod Entries
 pub mod Bits
 pub mod Tables
 pub mod Placed

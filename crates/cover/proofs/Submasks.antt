@@ -1,0 +1,74 @@
+-- The loop over the submasks of r, from the greatest down: what holds of the best key so far, when the loop starts, after a turn,
+-- and when it ends. Assumes nothing.
+use Prim.Native.Nat.{ℕ, _+_, _-_, _≤_, _<_}
+use native.Mathlib.Omega.{arith}
+use native.Mathlib.Decide.{decLt}
+use mathlib.Core.Path.{_≡_, sym}
+use mathlib.Core.Logic.{by-cases}
+use mathlib.Core.List.{List}
+use lib.Bits.{bitAnd, and-self}
+use Rattle.cover.specs.declared.Key.{Key}
+use Rattle.cover.specs.Key.{_≼_, join}
+use Rattle.cover.specs.KeyLaws.{≼-refl, ≼-trans}
+use Rattle.cover.specs.Masks.{Within}
+use Rattle.cover.specs.MaskLaws.{within-le, next-within, next-greatest}
+use Rattle.cover.specs.Entries.{entry, Joinable, Split, Made, BestJoin}
+
+-- the key `a`, made by w, is no worse than the join by any submask above u, which is the next to be tried
+pub record Passed (K : ℕ) (bs ws : List ℕ) (top r : ℕ) (a : Key) (w u : ℕ) : Type 0 where
+  pub made : Made K bs ws top r a w
+  pub at : Within u r
+  pub here : u ≤ r
+  pub low : (v : ℕ) → u < v → Within v r → a ≼ join K (entry bs ws (top + r - v)) (entry bs ws v)
+
+module _ (K : ℕ) (bs ws : List ℕ) (top r : ℕ) where
+  -- the join by u
+  abbrev by : ℕ → Key
+  by u = join K (entry bs ws (top + r - u)) (entry bs ws u)
+
+  pub joinable-at : Split K top r bs ws → (u : ℕ) → 0 < u → u ≤ r →
+      (top + r - u < 1024) × (u < 1024) × Joinable K (entry bs ws (top + r - u)) (entry bs ws u)
+  joinable-at h u p l = (
+    omega arith,
+    omega arith,
+    record { table = h .table; left = h .keys (top + r - u) (omega arith) (omega arith); right = h .keys u p (omega arith) },
+  )
+
+  -- a submask above the next one is u or above u
+  above-next : (u : ℕ) → Within u r → (P : ℕ → Type 0) → P u → ((v : ℕ) → u < v → Within v r → P v) →
+      (v : ℕ) → bitAnd (u - 1) r < v → Within v r → P v
+  above-next u w P here above v l x =
+      by-cases (decLt u v) (λ h. above v h x) λ h.
+      by-cases (decLt v u) (λ g. absurd (omega (arith, next-greatest u r v w x g))) λ g.
+      let e : v ≡ u = omega arith in
+      rw e here
+
+  pub passed-first : 0 < r → (a : Key) → a ≡ by r → Passed K bs ws top r a r (bitAnd (r - 1) r)
+  passed-first p a e = record {
+    made = record { some = p; part = and-self r; is = e };
+    at = next-within r r;
+    here = within-le _ r (next-within r r);
+    low = above-next r (and-self r) (λ v. a ≼ by v) (rw e (≼-refl _)) (λ v h w. absurd (omega (arith, within-le v r w)));
+  }
+
+  -- the best so far stays
+  pub passed-stay : {a : Key} {w u : ℕ} → Passed K bs ws top r a w u → a ≼ by u → Passed K bs ws top r a w (bitAnd (u - 1) r)
+  passed-stay {a} {w} {u} p l = record {
+    made = p .made;
+    at = next-within u r;
+    here = within-le _ r (next-within u r);
+    low = above-next u (p .at) (λ v. a ≼ by v) l (p .low);
+  }
+
+  -- or the join by u takes its place
+  pub passed-take : {a : Key} {w u : ℕ} (b : Key) → Passed K bs ws top r a w u → 0 < u → b ≡ by u → b ≼ a →
+      Passed K bs ws top r b u (bitAnd (u - 1) r)
+  passed-take {u = u} b p s e l = record {
+    made = record { some = s; part = p .at; is = e };
+    at = next-within u r;
+    here = within-le _ r (next-within u r);
+    low = above-next u (p .at) (λ v. b ≼ by v) (rw (sym e) (≼-refl b)) (λ v h w. ≼-trans l (p .low v h w));
+  }
+
+  pub passed-last : {a : Key} {w u : ℕ} → Passed K bs ws top r a w u → u ≡ 0 → BestJoin K bs ws top r a w
+  passed-last p z = record { made = p .made; low = λ v h. p .low v (omega arith) }

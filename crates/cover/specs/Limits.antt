@@ -1,0 +1,23 @@
+-- The numbers that bound the search for one gate, each named once; the code's are in src/lib.rt. Definitions only.
+use Prim.Native.Nat.{ℕ}
+
+-- a table has from 2 to 6 inputs, and a gate from 2 to 10 fanins
+abbrev pub leastInputs : ℕ
+leastInputs = 2
+
+abbrev pub mostInputs : ℕ
+mostInputs = 6
+
+abbrev pub leastFanins : ℕ
+leastFanins = 2
+
+abbrev pub mostFanins : ℕ
+mostFanins = 10
+
+-- the most tables below one fanin's root
+abbrev pub mostBelow : ℕ
+mostBelow = 255
+
+-- and below the root of a gate of at most that many fanins: each fanin adds its own and two, the first its own alone
+abbrev pub mostReached : ℕ
+mostReached = 2568
