@@ -13,7 +13,10 @@ use Rattle.tree.specs.declared.Kind.the-variants.{And as and, Or as or}
 use Rattle.tree.specs.Tree.{Node, Edges, leaves}
 use Rattle.decimal.specs.Number.{Number}
 use Rattle.sheet.specs.Line.{fields}
-use Rattle.sheet.specs.Sheet.{Source, net, gate, Fanin, Sheet, Reading, sheet, refused}
+use Rattle.sheet.specs.declared.Source.{Source}
+use Rattle.sheet.specs.declared.Source.the-variants.{Net as net, Gate as gate}
+use Rattle.sheet.specs.declared.Edge.{Edge as Fanin}
+use Rattle.sheet.specs.Sheet.{DrawnSheet, Outcome, sheet, refused}
 use Rattle.sheet.specs.Step.{_>>=_, require, given}
 use Rattle.sheet.specs.Read.{readSheet}
 use Rattle.sheet.specs.Cut.{sheetText}
@@ -79,7 +82,7 @@ up s = record { inverted = false; source = s }
 abbrev down : Source → Fanin
 down s = record { inverted = true; source = s }
 
-abbrev firstSheet : Sheet
+abbrev firstSheet : DrawnSheet
 firstSheet = record {
   out = 20;
   inverted = false;
@@ -90,7 +93,7 @@ firstSheet = record {
       ∷ [];
 }
 
-abbrev secondSheet : Sheet
+abbrev secondSheet : DrawnSheet
 secondSheet = record { out = 21; inverted = true; gates = record { kind = and; fanins = up (net 20) ∷ down (net 5) ∷ [] } ∷ [] }
 
 pub first-cut : sheetText (bytes first ++ bytes second) ≡ (bytes first, bytes second)
@@ -124,7 +127,7 @@ first-tree = refl
 -- ---- what comes of texts
 
 abbrev pub Case : Type 0
-Case = String × Reading
+Case = String × Outcome
 
 abbrev pub cases : List Case
 cases =
@@ -217,7 +220,7 @@ abbrev link : ℕ → List ℕ
 link g = bytes "     1     2" ++ three (101 + g) ++ bytes "  1" ++ drop 3 (three g) ++ (10 ∷ [])
 
 -- the numbers of gates and of leaves
-abbrev sizes : Reading → ℕ × ℕ
+abbrev sizes : Outcome → ℕ × ℕ
 sizes (sheet s) = (length (s .gates), length (leaves (treeOf s)))
 sizes (refused number place) = (0, 0)
 

@@ -10,7 +10,7 @@ use lib.Dec.{T}
 use lib.ListN.{length, length-append}
 use Rattle.lists.specs.Cases.{by-eqb}
 use Rattle.sheet.specs.Line.{after, line}
-use Rattle.sheet.specs.Sheet.{Gate, Sheet, sheet, from}
+use Rattle.sheet.specs.Sheet.{DrawnGate, DrawnSheet, sheet, from}
 use Rattle.sheet.specs.Step.{Step, good, bad, _>>=_, require, given}
 use Rattle.sheet.specs.StepLaws.{Meets, on, off, meets-any, meets-self, meets-bind, meets-require, meets-given}
 use Rattle.sheet.specs.Read.{empty, Head, Seen, nothing, readHead, readGate, readLeft, readUnread, readAll, reading, readSheet}
@@ -79,21 +79,21 @@ lines-whole (suc n) text = of (line text) refl (λ rest. lines-whole n rest)
 -- ---- gates read off the front of a text, and off their lines alone
 
 abbrev Gates : Type 0
-Gates = List Gate × Seen × List ℕ
+Gates = List DrawnGate × Seen × List ℕ
 
 -- the one reading is the other with a rest, where that has none
 abbrev Fronted : List ℕ → Step Gates → Step Gates → Type 0
 Fronted rest f k = (f ≡ (k >>= λ r. good (r .0, r .1, rest))) × Meets (λ r. r .2 ≡ []) k
 
-abbrev added : Gate → Step Gates → Step Gates
+abbrev added : DrawnGate → Step Gates → Step Gates
 added x f = f >>= λ r. good (x ∷ r .0, r .1, r .2)
 
-fronted-more : (rest : List ℕ) (x : Gate) (f k : Step Gates) → Fronted rest f k → Fronted rest (added x f) (added x k)
+fronted-more : (rest : List ℕ) (x : DrawnGate) (f k : Step Gates) → Fronted rest f k → Fronted rest (added x f) (added x k)
 unfolding _>>=_
 fronted-more rest x f k (e, on {a = a} q) = (ap (added x) e, on q)
 fronted-more rest x f k (e, off) = (ap (added x) e, off)
 
-fronted-step : (rest : List ℕ) (m : Step (Gate × Seen)) (f k : Gate × Seen → Step Gates) → ((q : Gate × Seen) → Fronted rest (f q) (k q)) →
+fronted-step : (rest : List ℕ) (m : Step (DrawnGate × Seen)) (f k : DrawnGate × Seen → Step Gates) → ((q : DrawnGate × Seen) → Fronted rest (f q) (k q)) →
     Fronted rest (m >>= λ q. added (q .0) (f q)) (m >>= λ q. added (q .0) (k q))
 unfolding _>>=_
 fronted-step rest (good q) f k h = fronted-more rest (q .0) (f q) (k q) (h q)
@@ -105,7 +105,7 @@ left-lines out zero g seen text = (refl, on refl)
 left-lines out (suc n) g seen text = of (line text) refl (λ q rest. left-lines out n (suc g) (q .1) rest)
   where
     of : (o : Option (List ℕ × List ℕ)) → line text ≡ o →
-        ((q : Gate × Seen) (rest : List ℕ) → Fronted (lines n rest .1) (readLeft out n (suc g) (q .1) rest) (readLeft out n (suc g) (q .1) (lines n rest .0))) →
+        ((q : DrawnGate × Seen) (rest : List ℕ) → Fronted (lines n rest .1) (readLeft out n (suc g) (q .1) rest) (readLeft out n (suc g) (q .1) (lines n rest .0))) →
         Fronted (lines (suc n) text .1) (readLeft out (suc n) g seen text) (readLeft out (suc n) g seen (lines (suc n) text .0))
     of none e h =
         let l = left-none out n g seen text e in
@@ -132,14 +132,14 @@ text-good : (text : List ℕ) (p : List ℕ × List ℕ) (h : Head) → line tex
     sheetText text ≡ lines (suc (h .count)) text
 text-good text p h e g = rw (e, sheetText) (ap (λ (m : Step Head). elim (gatesOf m) as (λ x. List ℕ × List ℕ) [ none ↦ (text, []) | some n ↦ lines (suc n) text ]) g)
 
-abbrev sheetOf : Head → List Gate → Sheet
+abbrev sheetOf : Head → List DrawnGate → DrawnSheet
 sheetOf h gs = record { out = h .out; inverted = h .inverted; gates = gs }
 
 -- what comes after the gates, with a rest and without
-abbrev withRest : Head → Step Gates → Step (Sheet × List ℕ)
+abbrev withRest : Head → Step Gates → Step (DrawnSheet × List ℕ)
 withRest h f = f >>= λ r. readUnread (from 1 (h .count - 1)) (r .1 .gates) >>= λ _. good (sheetOf h (r .0), r .2)
 
-abbrev withNone : Head → Step Gates → Step Sheet
+abbrev withNone : Head → Step Gates → Step DrawnSheet
 withNone h k = k >>= λ r. require (empty (r .2)) 1 (h .count + 2) >>= λ _. readUnread (from 1 (h .count - 1)) (r .1 .gates) >>= λ _. good (sheetOf h (r .0))
 
 next-none : (text : List ℕ) → line text ≡ none → (readNext text ≡ bad 1 1) × (readAll text ≡ bad 1 1)
@@ -270,10 +270,10 @@ all-on text =
     ∙ (lines-some (h .count) (text ++ rest) (p .0, p .1 ++ rest) l
     ∙ (ap (λ (x : List ℕ × List ℕ). (p .0 ++ (10 ∷ x .0), x .1)) (f (empty-is (r .2) t) rest) ∙ ap (λ l. (l, rest)) (sym (line-cut text p e .whole))))))))))
 
-pub text-of : (text : List ℕ) (s : Sheet) (rest : List ℕ) → readSheet text ≡ sheet s → sheetText (text ++ rest) ≡ (text, rest)
+pub text-of : (text : List ℕ) (s : DrawnSheet) (rest : List ℕ) → readSheet text ≡ sheet s → sheetText (text ++ rest) ≡ (text, rest)
 text-of text s rest e = of (readAll text) (all-on text) e
   where
-    of : (m : Step Sheet) → Meets (λ s. (rest : List ℕ) → sheetText (text ++ rest) ≡ (text, rest)) m → reading m ≡ sheet s →
+    of : (m : Step DrawnSheet) → Meets (λ s. (rest : List ℕ) → sheetText (text ++ rest) ≡ (text, rest)) m → reading m ≡ sheet s →
         sheetText (text ++ rest) ≡ (text, rest)
     of m (on h) e = h rest
     of m off e = let z : _≡_ {A = ℕ} 0 1 = cc in absurd (omega arith)

@@ -6,7 +6,7 @@ use lib.ListN.{length}
 use Rattle.lists.specs.Lists.{Every, Distinct, Permuted}
 use Rattle.tree.specs.Limits.{greatestNet}
 use Rattle.sheet.specs.Limits.{mostGates, fewestFanins, mostFanins, mostLeaves}
-use Rattle.sheet.specs.Sheet.{Gate, Sheet, faninGates, leafNets, gatesRead, from}
+use Rattle.sheet.specs.Sheet.{DrawnGate, DrawnSheet, faninGates, leafNets, gatesRead, from}
 
 abbrev pub Net : ℕ → Type 0
 Net n = (1 ≤ n) × (n ≤ greatestNet)
@@ -15,7 +15,7 @@ Net n = (1 ≤ n) × (n ≤ greatestNet)
 abbrev pub LeafNet : (out n : ℕ) → Type 0
 LeafNet out n = (1 ≤ n) × (n ≤ greatestNet) × (n ≢ out)
 
-abbrev pub FaninCount : Gate → Type 0
+abbrev pub FaninCount : DrawnGate → Type 0
 FaninCount x = (fewestFanins ≤ length (x .fanins)) × (length (x .fanins) ≤ mostFanins)
 
 -- gate j comes before gate g
@@ -23,11 +23,11 @@ abbrev pub Before : (g j : ℕ) → Type 0
 Before g j = (1 ≤ j) × (j < g)
 
 -- each gate reads only gates before itself, where the first of them is gate g
-abbrev pub Earlier : (g : ℕ) → List Gate → Type 0
+abbrev pub Earlier : (g : ℕ) → List DrawnGate → Type 0
 Earlier g [] = Unit {0}
 Earlier g (x ∷ xs) = Every (Before g) (faninGates (x .fanins)) × Earlier (suc g) xs
 
-pub record WellFormed (s : Sheet) : Type 0 where
+pub record WellFormed (s : DrawnSheet) : Type 0 where
   pub out-net : Net (s .out)
   pub gate-count : (1 ≤ length (s .gates)) × (length (s .gates) ≤ mostGates)
   pub fanin-counts : Every FaninCount (s .gates)

@@ -4,6 +4,7 @@ pub mod Sheet
 pub mod Step
 pub mod Read
 pub mod Cut
+pub mod Answers
 pub mod Trees
 pub mod Formed
 pub mod NumberLaws

@@ -11,7 +11,10 @@ use Rattle.tree.specs.Limits.{greatestNet}
 use Rattle.decimal.specs.Number.{Number}
 use Rattle.sheet.specs.Limits.{gateBase, mostGates, fewestFanins, mostFanins, mostLeaves}
 use Rattle.sheet.specs.Line.{line, fields}
-use Rattle.sheet.specs.Sheet.{Source, net, gate, Fanin, Gate, Sheet, Reading, sheet, refused, from}
+use Rattle.sheet.specs.declared.Source.{Source}
+use Rattle.sheet.specs.declared.Source.the-variants.{Net as net, Gate as gate}
+use Rattle.sheet.specs.declared.Edge.{Edge as Fanin}
+use Rattle.sheet.specs.Sheet.{DrawnGate, DrawnSheet, Outcome, sheet, refused, from}
 use Rattle.sheet.specs.Step.{Step, good, bad, _>>=_, require, given}
 
 -- ---- tests
@@ -93,7 +96,7 @@ abbrev pub kindOf : Number → Option Kind
 kindOf x = cond (counts 1 1 x) (some and) (cond (counts 2 2 x) (some or) none)
 
 -- gate g stands at line g + 1; of the bytes before the line feed
-abbrev pub readGate : (out g : ℕ) → Seen → List ℕ → Step (Gate × Seen)
+abbrev pub readGate : (out g : ℕ) → Seen → List ℕ → Step (DrawnGate × Seen)
 readGate out g seen bytes = do
   xs ← given (fields bytes) 1 (suc g)
   (kind, count, more) ← given (two xs) 1 (suc g)
@@ -104,7 +107,7 @@ readGate out g seen bytes = do
   good (record { kind = kind; fanins = fanins }, seen₁)
 
 -- as many gates as are left, from gate g on; and the rest of the text
-abbrev pub readLeft : (out left g : ℕ) → Seen → List ℕ → Step (List Gate × Seen × List ℕ)
+abbrev pub readLeft : (out left g : ℕ) → Seen → List ℕ → Step (List DrawnGate × Seen × List ℕ)
 readLeft out zero g seen text = good ([], seen, text)
 readLeft out (suc left) g seen text = do
   (bytes, rest) ← given (line text) 1 (suc g)
@@ -123,7 +126,7 @@ readUnread (g ∷ gs) read = do
 
 -- ---- a sheet
 
-abbrev pub readAll : List ℕ → Step Sheet
+abbrev pub readAll : List ℕ → Step DrawnSheet
 readAll text = do
   (bytes, rest) ← given (line text) 1 1
   head ← readHead bytes
@@ -132,9 +135,9 @@ readAll text = do
   _ ← readUnread (from 1 (head .count - 1)) (seen .gates)
   good (record { out = head .out; inverted = head .inverted; gates = gates })
 
-abbrev pub reading : Step Sheet → Reading
+abbrev pub reading : Step DrawnSheet → Outcome
 reading (good s) = sheet s
 reading (bad number place) = refused number place
 
-abbrev pub readSheet : List ℕ → Reading
+abbrev pub readSheet : List ℕ → Outcome
 readSheet text = reading (readAll text)

@@ -13,7 +13,10 @@ use Rattle.lists.specs.Cases.{and-split}
 use Rattle.tree.specs.Limits.{greatestNet}
 use Rattle.decimal.specs.Number.{Number}
 use Rattle.sheet.specs.Limits.{gateBase, mostGates, fewestFanins, mostFanins, mostLeaves}
-use Rattle.sheet.specs.Sheet.{Source, net, gate, Fanin, Gate, Sheet, sheet, netOf, gateOf, faninNets, faninGates, leafNets, gatesRead, from}
+use Rattle.sheet.specs.declared.Source.{Source}
+use Rattle.sheet.specs.declared.Source.the-variants.{Net as net, Gate as gate}
+use Rattle.sheet.specs.declared.Edge.{Edge as Fanin}
+use Rattle.sheet.specs.Sheet.{DrawnGate, DrawnSheet, sheet, netOf, gateOf, faninNets, faninGates, leafNets, gatesRead, from}
 use Rattle.sheet.specs.Step.{Step}
 use Rattle.sheet.specs.StepLaws.{Meets, on, off, meets-map, meets-bind, meets-require, meets-given}
 use Rattle.sheet.specs.Read.{within, Seen, nothing, readHead, sourceOf, readSource, readFanins, readGate, readLeft, readUnread, readAll, reading, readSheet}
@@ -118,7 +121,7 @@ fanins-meets out g seen (x ∷ xs) h =
 
 -- ---- gates
 
-pub record GateRead (out g : ℕ) (seen : Seen) (r : Gate × Seen) : Type 0 where
+pub record GateRead (out g : ℕ) (seen : Seen) (r : DrawnGate × Seen) : Type 0 where
   pub also : Also out seen (r .1) (faninNets (r .0 .fanins)) (faninGates (r .0 .fanins))
   pub earlier : Every (Before g) (faninGates (r .0 .fanins))
   pub count : FaninCount (r .0)
@@ -132,7 +135,7 @@ gate-meets out g seen bytes h =
     let q = eqb→eq (length (x .2)) (x .1 .magnitude) u in
     on (record { also = f .also; earlier = f .earlier; count = omega (arith, f .number) })))))))
 
-pub record LeftRead (out left g : ℕ) (seen : Seen) (r : List Gate × Seen × List ℕ) : Type 0 where
+pub record LeftRead (out left g : ℕ) (seen : Seen) (r : List DrawnGate × Seen × List ℕ) : Type 0 where
   pub also : Also out seen (r .1) (leafNets (r .0)) (gatesRead (r .0))
   pub earlier : Earlier g (r .0)
   pub counts : Every FaninCount (r .0)
@@ -159,7 +162,7 @@ unread-meets (g ∷ gs) read =
     meets-require _ _ _ _ (λ t. meets-map (λ u f. every-cons (member-holds g read t) f) (unread-meets gs read))
 
 -- what the gates from gate g on read lies before the last of them
-earlier-below : (g : ℕ) (xs : List Gate) → Earlier g xs → Every (λ j. (1 ≤ j) × (suc j < g + length xs)) (gatesRead xs)
+earlier-below : (g : ℕ) (xs : List DrawnGate) → Earlier g xs → Every (λ j. (1 ≤ j) × (suc j < g + length xs)) (gatesRead xs)
 earlier-below g [] h = every-none _
 earlier-below g (x ∷ xs) h =
     every-append (faninGates (x .fanins)) (gatesRead xs)
@@ -167,7 +170,7 @@ earlier-below g (x ∷ xs) h =
     (λ j m. let b = earlier-below (suc g) xs (h .1) j m in omega arith)
 
 -- so what they read is each gate but the last, once
-each-once : (xs : List Gate) (n : ℕ) (read : List ℕ) → length xs ≡ n → read ≡ gatesRead xs → Earlier 1 xs → Distinct read →
+each-once : (xs : List DrawnGate) (n : ℕ) (read : List ℕ) → length xs ≡ n → read ≡ gatesRead xs → Earlier 1 xs → Distinct read →
     Every (λ g. g ∈ read) (from 1 (n - 1)) → Permuted (gatesRead xs) (from 1 (length xs - 1))
 each-once xs n read l q e d f =
     same-numbers (gatesRead xs) (from 1 (length xs - 1)) (subst Distinct q d) (from-once 1 (length xs - 1))
@@ -198,21 +201,21 @@ all-meets text =
     }))))))
 
 -- A SHEET THAT WAS READ IS WELL FORMED
-pub read-formed : (text : List ℕ) (s : Sheet) → readSheet text ≡ sheet s → WellFormed s
+pub read-formed : (text : List ℕ) (s : DrawnSheet) → readSheet text ≡ sheet s → WellFormed s
 read-formed text s e = of (readAll text) (all-meets text) e
   where
-    of : (m : Step Sheet) → Meets WellFormed m → reading m ≡ sheet s → WellFormed s
+    of : (m : Step DrawnSheet) → Meets WellFormed m → reading m ≡ sheet s → WellFormed s
     of m (on {a = a} h) e = let q : a ≡ s = cc in subst WellFormed q h
     of m off e = let z : _≡_ {A = ℕ} 0 1 = cc in absurd (omega arith)
 
 -- ---- the same by gates: each is read once, except the last, which is not read
 
-pub gate-read : (s : Sheet) → WellFormed s → (j : ℕ) → 1 ≤ j → j < length (s .gates) → j ∈ gatesRead (s .gates)
+pub gate-read : (s : DrawnSheet) → WellFormed s → (j : ℕ) → 1 ≤ j → j < length (s .gates) → j ∈ gatesRead (s .gates)
 gate-read s w j l u =
     permuted-to {P = λ i. i ∈ gatesRead (s .gates)} (w .read-once) (λ i m. m) j (in-from 1 (length (s .gates) - 1) j l (omega arith))
 
-pub gates-distinct : (s : Sheet) → WellFormed s → Distinct (gatesRead (s .gates))
+pub gates-distinct : (s : DrawnSheet) → WellFormed s → Distinct (gatesRead (s .gates))
 gates-distinct s w = distinct-permuted (permuted-sym (w .read-once)) (from-once 1 (length (s .gates) - 1))
 
-pub root-unread : (s : Sheet) → WellFormed s → ¬ (length (s .gates) ∈ gatesRead (s .gates))
+pub root-unread : (s : DrawnSheet) → WellFormed s → ¬ (length (s .gates) ∈ gatesRead (s .gates))
 root-unread s w m = omega (arith, earlier-below 1 (s .gates) (w .earlier) (length (s .gates)) m)

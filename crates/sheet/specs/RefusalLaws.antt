@@ -8,7 +8,9 @@ use mathlib.Core.Option.{Option, none, some}
 use mathlib.Core.List.{List, [], _∷_}
 use Rattle.decimal.specs.Number.{Number}
 use Rattle.sheet.specs.Limits.{mostGates}
-use Rattle.sheet.specs.Sheet.{Source, net, gate, Sheet, refused, from}
+use Rattle.sheet.specs.declared.Source.{Source}
+use Rattle.sheet.specs.declared.Source.the-variants.{Net as net, Gate as gate}
+use Rattle.sheet.specs.Sheet.{DrawnSheet, refused, from}
 use Rattle.sheet.specs.Step.{Step, good, bad, _>>=_, require, given}
 use Rattle.sheet.specs.StepLaws.{Meets, on, off, meets-any}
 use Rattle.sheet.specs.Read.{Seen, nothing, readHead, readSource, readFanins, readGate, readLeft, readUnread, readAll, reading, readSheet}
@@ -81,7 +83,7 @@ all-tells text =
 pub refused-told : (text : List ℕ) (number place : ℕ) → readSheet text ≡ refused number place → Told number place
 refused-told text number place e = of (readAll text) (all-tells text) e
   where
-    of : (m : Step Sheet) → Tells m → reading m ≡ refused number place → Told number place
+    of : (m : Step DrawnSheet) → Tells m → reading m ≡ refused number place → Told number place
     of m went e = let z : _≡_ {A = ℕ} 0 1 = cc in absurd (omega arith)
     of m (told {number = n} {place = p} t) e =
         let q : n ≡ number = cc in

@@ -4,30 +4,25 @@ use mathlib.Core.Bool.{Bool}
 use mathlib.Core.List.{List, [], _∷_}
 use Rattle.lists.specs.Lists.{gather}
 use Rattle.tree.specs.declared.Kind.{Kind}
+-- a fanin, and what it reads, are those of the code
+use Rattle.sheet.specs.declared.Source.{Source}
+use Rattle.sheet.specs.declared.Source.the-variants.{Net as net, Gate as gate}
+use Rattle.sheet.specs.declared.Edge.{Edge as Fanin}
 
--- what a fanin reads
-pub data Source : Type 0 where
-  net : ℕ → Source
-  gate : ℕ → Source
-
-pub record Fanin : Type 0 where
-  pub inverted : Bool
-  pub source : Source
-
-pub record Gate : Type 0 where
+pub record DrawnGate : Type 0 where
   pub kind : Kind
   pub fanins : List Fanin
 
 -- `inverted` says that the tree's value is
-pub record Sheet : Type 0 where
+pub record DrawnSheet : Type 0 where
   pub out : ℕ
   pub inverted : Bool
-  pub gates : List Gate
+  pub gates : List DrawnGate
 
 -- what comes of a text: a sheet, or the number of the condition that turns it down, and the line (from 1) at which it does
-pub data Reading : Type 0 where
-  sheet : Sheet → Reading
-  refused : (number place : ℕ) → Reading
+pub data Outcome : Type 0 where
+  sheet : DrawnSheet → Outcome
+  refused : (number place : ℕ) → Outcome
 
 -- the net, or the gate, that is read
 abbrev pub netOf : Source → List ℕ
@@ -46,10 +41,10 @@ abbrev pub faninGates : List Fanin → List ℕ
 faninGates = gather (λ f. gateOf (f .source))
 
 -- and those that some gates read: of a whole sheet these are its leaves, and the gates that are not its root
-abbrev pub leafNets : List Gate → List ℕ
+abbrev pub leafNets : List DrawnGate → List ℕ
 leafNets = gather (λ g. faninNets (g .fanins))
 
-abbrev pub gatesRead : List Gate → List ℕ
+abbrev pub gatesRead : List DrawnGate → List ℕ
 gatesRead = gather (λ g. faninGates (g .fanins))
 
 -- so many numbers, from g on

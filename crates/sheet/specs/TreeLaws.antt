@@ -12,7 +12,10 @@ use Rattle.lists.specs.ListLaws.{every-none, every-cons, every-head, every-tail
 use Rattle.tree.specs.declared.Kind.{Kind}
 use Rattle.tree.specs.Tree.{Node, leaf, Edges, leaves, leaves*, many, proper, propers}
 use Rattle.sheet.specs.Limits.{gateBase, mostLeaves}
-use Rattle.sheet.specs.Sheet.{Source, Fanin, Gate, Sheet, sheet, netOf, gateOf, faninNets, faninGates, leafNets, gatesRead, from}
+use Rattle.sheet.specs.declared.Source.{Source}
+use Rattle.sheet.specs.declared.Source.the-variants.{Net as net, Gate as gate}
+use Rattle.sheet.specs.declared.Edge.{Edge as Fanin}
+use Rattle.sheet.specs.Sheet.{DrawnGate, DrawnSheet, sheet, netOf, gateOf, faninNets, faninGates, leafNets, gatesRead, from}
 use Rattle.sheet.specs.Read.{readSheet}
 use Rattle.sheet.specs.ReadLaws.{read-formed}
 use Rattle.sheet.specs.NumberLaws.{distinct-permuted}
@@ -42,8 +45,8 @@ at-proper (t ∷ ts) zero h = every-head h
 at-proper (t ∷ ts) (suc i) h = at-proper ts i (every-tail h)
 
 node-proper : (ts : List Node) (s : Source) → Every (λ t. T (proper t)) ts → T (proper (nodeOf ts s))
-node-proper ts (Source.net n) h = tt
-node-proper ts (Source.gate g) h = at-proper ts (g - 1) h
+node-proper ts (net n) h = tt
+node-proper ts (gate g) h = at-proper ts (g - 1) h
 
 both : (a b : Bool) → T a → T b → T (a && b)
 both true b p q = q
@@ -58,27 +61,27 @@ edges-many ts [] l = absurd (omega arith)
 edges-many ts (f ∷ []) l = absurd (omega arith)
 edges-many ts (f ∷ g ∷ fs) l = tt
 
-trees-proper : (ts : List Node) (gs : List Gate) → Every FaninCount gs → Every (λ t. T (proper t)) ts → Every (λ t. T (proper t)) (treesOf ts gs)
+trees-proper : (ts : List Node) (gs : List DrawnGate) → Every FaninCount gs → Every (λ t. T (proper t)) ts → Every (λ t. T (proper t)) (treesOf ts gs)
 trees-proper ts [] c h = h
 trees-proper ts (g ∷ gs) c h =
     trees-proper _ gs (every-tail c)
     (every-append ts _ h (every-cons (both (many (edgesOf ts (g .fanins))) _ (edges-many ts (g .fanins) (every-head c .0)) (edges-proper ts (g .fanins) h)) (every-none _)))
 
-pub tree-proper : (s : Sheet) → WellFormed s → T (proper (treeOf s))
+pub tree-proper : (s : DrawnSheet) → WellFormed s → T (proper (treeOf s))
 tree-proper s w = at-proper (treesOf [] (s .gates)) (length (s .gates) - 1) (trees-proper [] (s .gates) (w .fanin-counts) (every-none _))
 
 -- ---- the trees by their places
 
 -- the trees of the gates alone, where `ts` are those of the gates before them
-abbrev newTrees : List Node → List Gate → List Node
+abbrev newTrees : List Node → List DrawnGate → List Node
 newTrees ts [] = []
 newTrees ts (g ∷ gs) = let t = Node.gate (g .kind) (edgesOf ts (g .fanins)) in t ∷ newTrees (ts ++ (t ∷ [])) gs
 
-trees-split : (ts : List Node) (gs : List Gate) → treesOf ts gs ≡ ts ++ newTrees ts gs
+trees-split : (ts : List Node) (gs : List DrawnGate) → treesOf ts gs ≡ ts ++ newTrees ts gs
 trees-split ts [] = sym (append-nil ts)
 trees-split ts (g ∷ gs) = trees-split (ts ++ _) gs ∙ append-assoc ts _ _
 
-new-length : (ts : List Node) (gs : List Gate) → length (newTrees ts gs) ≡ length gs
+new-length : (ts : List Node) (gs : List DrawnGate) → length (newTrees ts gs) ≡ length gs
 new-length ts [] = refl
 new-length ts (g ∷ gs) = ap suc (new-length _ gs)
 
@@ -114,8 +117,8 @@ interchange : {A : Type 0} (ws xs ys zs : List A) → Permuted ((ws ++ xs) ++ (y
 interchange ws xs ys zs = simp append-assoc (permuted-append (permuted-refl ws) (permuted-swap xs ys zs))
 
 node-leaves : (ts : List Node) (s : Source) → leaves (nodeOf ts s) ≡ netOf s ++ gather (leavesAt ts) (gateOf s)
-node-leaves ts (Source.net n) = refl
-node-leaves ts (Source.gate g) = sym (append-nil _)
+node-leaves ts (net n) = refl
+node-leaves ts (gate g) = sym (append-nil _)
 
 edges-leaves : (ts : List Node) (fs : List Fanin) → Permuted (leaves* (edgesOf ts fs)) (faninNets fs ++ gather (leavesAt ts) (faninGates fs))
 edges-leaves ts [] = empty
@@ -124,7 +127,7 @@ edges-leaves ts (f ∷ fs) =
     (permuted-trans (permuted-append (permuted-refl (netOf (f .source) ++ gather (leavesAt ts) (gateOf (f .source)))) (edges-leaves ts fs)) (interchange (netOf (f .source)) (gather (leavesAt ts) (gateOf (f .source))) (faninNets fs) (gather (leavesAt ts) (faninGates fs))))
 
 -- the leaves of all trees together are the nets, and once more those of each gate that is read
-new-leaves : (ts : List Node) (gs : List Gate) (all : List Node) → ts ++ newTrees ts gs ≡ all → Earlier (suc (length ts)) gs →
+new-leaves : (ts : List Node) (gs : List DrawnGate) (all : List Node) → ts ++ newTrees ts gs ≡ all → Earlier (suc (length ts)) gs →
     Permuted (gather leaves (newTrees ts gs)) (leafNets gs ++ gather (leavesAt all) (gatesRead gs))
 new-leaves ts [] all e h = empty
 new-leaves ts (g ∷ gs) all e h =
@@ -139,7 +142,7 @@ new-leaves ts (g ∷ gs) all e h =
     (interchange (faninNets (g .fanins)) (gather (leavesAt all) (faninGates (g .fanins))) (leafNets gs) (gather (leavesAt all) (gatesRead gs))))
 
 -- the root's stand last
-root-last : (gs : List Gate) (all : List Node) → treesOf [] gs ≡ all → 1 ≤ length gs →
+root-last : (gs : List DrawnGate) (all : List Node) → treesOf [] gs ≡ all → 1 ≤ length gs →
     gather leaves (newTrees [] gs) ≡ gather (leavesAt all) (from 1 (length gs - 1)) ++ (leavesAt all (length gs) ++ [])
 root-last gs all e l =
     let m = length gs - 1 in
@@ -151,10 +154,10 @@ root-last gs all e l =
     ∙ ap (λ k. gather f (from 1 m) ++ (f k ++ [])) (let h : 1 + m ≡ length gs = omega arith in h))))
 
 -- THE TREE'S LEAVES ARE THE NETS OF THE SHEET: those of each gate but the root are above on both sides
-pub leaves-are : (s : Sheet) → WellFormed s → Permuted (leafNets (s .gates)) (leaves (treeOf s))
+pub leaves-are : (s : DrawnSheet) → WellFormed s → Permuted (leafNets (s .gates)) (leaves (treeOf s))
 leaves-are s w = of (s .gates) (treesOf [] (s .gates)) refl (w .gate-count .0) (w .earlier) (w .read-once)
   where
-    of : (gs : List Gate) (all : List Node) → treesOf [] gs ≡ all → 1 ≤ length gs → Earlier 1 gs → Permuted (gatesRead gs) (from 1 (length gs - 1)) →
+    of : (gs : List DrawnGate) (all : List Node) → treesOf [] gs ≡ all → 1 ≤ length gs → Earlier 1 gs → Permuted (gatesRead gs) (from 1 (length gs - 1)) →
         Permuted (leafNets gs) (leavesAt all (length gs))
     of gs all e l h r =
         let f = leavesAt all in
@@ -178,11 +181,11 @@ every-at (u ∷ ts) (suc i) t h l = every-at ts i t (every-tail h) (omega arith)
 abbrev IsGate : Node → Type 0
 IsGate t = (k : Kind) × (es : Edges) × (t ≡ Node.gate k es)
 
-new-gates : (ts : List Node) (gs : List Gate) → Every IsGate (newTrees ts gs)
+new-gates : (ts : List Node) (gs : List DrawnGate) → Every IsGate (newTrees ts gs)
 new-gates ts [] = every-none _
 new-gates ts (g ∷ gs) = every-cons (g .kind, edgesOf ts (g .fanins), refl) (new-gates _ gs)
 
-pub root-gate : (s : Sheet) → WellFormed s → (k : Kind) × (es : Edges) × (treeOf s ≡ Node.gate k es)
+pub root-gate : (s : DrawnSheet) → WellFormed s → (k : Kind) × (es : Edges) × (treeOf s ≡ Node.gate k es)
 root-gate s w =
     let c = w .gate-count .0 in
     subst (λ ts. IsGate (treeAt ts (length (s .gates)))) (sym (trees-split [] (s .gates)))
@@ -190,11 +193,11 @@ root-gate s w =
 
 -- ---- the sheet as the theory has it
 
-pub leaves-count : (s : Sheet) → WellFormed s → length (leaves (treeOf s)) ≤ mostLeaves
+pub leaves-count : (s : DrawnSheet) → WellFormed s → length (leaves (treeOf s)) ≤ mostLeaves
 leaves-count s w = omega (arith, permuted-length (leaves-are s w), w .leaf-count)
 
 -- A WELL FORMED SHEET IS LEGAL
-pub drawn-legal : (s : Sheet) → WellFormed s → Added.Legal gateBase (drawn s)
+pub drawn-legal : (s : DrawnSheet) → WellFormed s → Added.Legal gateBase (drawn s)
 drawn-legal s w = record {
   out-net = omega (arith, w .out-net);
   leaf-nets = permuted-to (leaves-are s w) (λ x m. let n = w .leaf-nets x m in (omega arith, omega arith, n .2));
@@ -203,14 +206,14 @@ drawn-legal s w = record {
 
 -- ---- and from the text on
 
-pub record Drawn (s : Sheet) : Type 0 where
+pub record Drawn (s : DrawnSheet) : Type 0 where
   pub formed : WellFormed s
   pub is-proper : T (proper (treeOf s))
   pub root : (k : Kind) × (es : Edges) × (treeOf s ≡ Node.gate k es)
   pub legal : Added.Legal gateBase (drawn s)
   pub few : length (leaves (treeOf s)) ≤ mostLeaves
 
-pub read-drawn : (text : List ℕ) (s : Sheet) → readSheet text ≡ sheet s → Drawn s
+pub read-drawn : (text : List ℕ) (s : DrawnSheet) → readSheet text ≡ sheet s → Drawn s
 read-drawn text s e =
     let w = read-formed text s e in
     record { formed = w; is-proper = tree-proper s w; root = root-gate s w; legal = drawn-legal s w; few = leaves-count s w }

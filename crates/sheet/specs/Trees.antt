@@ -3,7 +3,10 @@ use Prim.Native.Nat.{ℕ, _-_}
 use mathlib.Core.List.{List, [], _∷_, _++_}
 use lib.ListN.{length, getD}
 use Rattle.tree.specs.Tree.{Node, Edges}
-use Rattle.sheet.specs.Sheet.{Source, Fanin, Gate, Sheet}
+use Rattle.sheet.specs.declared.Source.{Source}
+use Rattle.sheet.specs.declared.Source.the-variants.{Net as net, Gate as gate}
+use Rattle.sheet.specs.declared.Edge.{Edge as Fanin}
+use Rattle.sheet.specs.Sheet.{DrawnGate, DrawnSheet}
 use Rattle.cover.specs.Added as Added
 
 -- the tree of gate g, where `ts` has the gates' trees in order
@@ -11,22 +14,22 @@ abbrev pub treeAt : List Node → ℕ → Node
 treeAt ts g = getD ts (g - 1) (Node.leaf 0)
 
 abbrev pub nodeOf : List Node → Source → Node
-nodeOf ts (Source.net n) = Node.leaf n
-nodeOf ts (Source.gate g) = treeAt ts g
+nodeOf ts (net n) = Node.leaf n
+nodeOf ts (gate g) = treeAt ts g
 
 abbrev pub edgesOf : List Node → List Fanin → Edges
 edgesOf ts [] = Edges.none
 edgesOf ts (f ∷ fs) = Edges.edge (f .inverted) (nodeOf ts (f .source)) (edgesOf ts fs)
 
 -- the trees of the gates, after those of the gates before them
-abbrev pub treesOf : List Node → List Gate → List Node
+abbrev pub treesOf : List Node → List DrawnGate → List Node
 treesOf ts [] = ts
 treesOf ts (g ∷ gs) = treesOf (ts ++ (Node.gate (g .kind) (edgesOf ts (g .fanins)) ∷ [])) gs
 
 -- the last gate is the root
-abbrev pub treeOf : Sheet → Node
+abbrev pub treeOf : DrawnSheet → Node
 treeOf s = treeAt (treesOf [] (s .gates)) (length (s .gates))
 
 -- the sheet as the theory has it
-abbrev pub drawn : Sheet → Added.Sheet
+abbrev pub drawn : DrawnSheet → Added.Sheet
 drawn s = record { tree = treeOf s; out = s .out; inverted = s .inverted }
