@@ -1,4 +1,5 @@
 // Reading a sheet: one fanout-free tree of gates, with an output net.
+ghost use Rattle.sheet.specs.Inside.{LineEnds};
 use tree::Kind;
 
 // What a fanin reads: a net, or an earlier gate.
@@ -53,4 +54,24 @@ pub enum Answer {
 pub struct Reading {
     pub answer: Answer,
     pub sheet: Sheet,
+}
+
+// Where a line ends: at its line feed, or nowhere.
+enum Ending {
+    At(usize),
+    Missing,
+}
+
+// The first line feed from a place on.
+fn line_end(text: &[u8], start: usize) -> Ending
+    ensures { λ r. ⌜ LineEnds (now (text .entry)) start r ⌝ }
+{
+    let mut i = start;
+    while i < text.len() {
+        if text[i] == b'\n' {
+            return Ending::At(i);
+        }
+        i += 1;
+    }
+    Ending::Missing
 }
