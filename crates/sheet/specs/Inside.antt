@@ -1,12 +1,25 @@
 -- What the functions inside answer. Definitions only.
-use Prim.Native.Nat.{ℕ, _+_, _-_, _≤_, _<_}
+use Prim.Native.Nat.{ℕ, suc, _+_, _-_, _≤_, _<_}
 use mathlib.Core.Path.{_≡_}
+use mathlib.Core.Bool.{Bool, true, false, cond}
 use mathlib.Core.Option.{Option, none, some}
-use mathlib.Core.List.{List}
-use lib.ListN.{length, take, drop}
+use mathlib.Core.List.{List, _++_, map}
+use lib.ListN.{length, getD, take, drop}
+use Rattle.tree.specs.declared.Kind.{Kind}
+use Rattle.tree.specs.Limits.{greatestNet}
+use Rattle.decimal.specs.Number.{Number}
+use Rattle.sheet.specs.declared.Source.{Source}
 use Rattle.sheet.specs.declared.Ending.{Ending}
 use Rattle.sheet.specs.declared.Ending.the-variants.{At, Missing}
+use Rattle.sheet.specs.declared.FieldValue.{FieldValue}
+use Rattle.sheet.specs.declared.Fields.{Fields}
+use Rattle.sheet.specs.declared.Head.{Head}
+use Rattle.sheet.specs.declared.Head.the-variants.{Good, Bad}
+use Rattle.sheet.specs.Limits.{mostFields}
 use Rattle.sheet.specs.Line.{line}
+use Rattle.sheet.specs.Step.{Step, good, bad}
+use Rattle.sheet.specs.Read.{Head as LineOne}
+use Rattle.sheet.specs.Answers.{numberOf}
 
 -- ---- where a line ends
 
@@ -18,3 +31,25 @@ cutAt text start Missing = none
 pub record LineEnds (text : List ℕ) (start : ℕ) (r : Ending) : Type 0 where
   pub cut : line (drop start text) ≡ cutAt text start r
   pub within : (end : ℕ) → r ≡ At end → (start ≤ end) × (end < length text)
+
+-- ---- the fields of a line
+
+abbrev pub valueOf : FieldValue → Number
+valueOf x = record { negative = x .negative; magnitude = x .magnitude }
+
+abbrev pub valuesOf : Fields → List Number
+valuesOf f = map valueOf (take (f .count) (f .numbers))
+
+abbrev pub fieldsOf : Fields → Option (List Number)
+fieldsOf f = cond (f .laid) (some (valuesOf f)) none
+
+-- the numbers fill their array, and the count is at most as many
+pub record Room (f : Fields) : Type 0 where
+  pub whole : length (f .numbers) ≡ mostFields
+  pub within : f .count ≤ mostFields
+
+-- ---- line 1
+
+abbrev pub headStep : Head → Step LineOne
+headStep (Good out inverted count) = good (record { out = out; inverted = inverted; count = count })
+headStep (Bad why) = bad (numberOf why) 1

@@ -47,15 +47,19 @@ pub record Head : Type 0 where
   pub inverted : Bool
   pub count : ℕ
 
--- of the bytes before the line feed
-abbrev pub readHead : List ℕ → Step Head
-readHead bytes = do
-  xs ← given (fields bytes) 1 1
+-- of the line's fields
+abbrev pub headOf : Option (List Number) → Step Head
+headOf fs = do
+  xs ← given fs 1 1
   (out, count, more) ← given (two xs) 1 1
   _ ← require (empty more) 1 1
   _ ← require (within 1 greatestNet (out .magnitude)) 4 1
   _ ← require (counts 1 mostGates count) 5 1
   good (record { out = out .magnitude; inverted = out .negative; count = count .magnitude })
+
+-- of the bytes before the line feed
+abbrev pub readHead : List ℕ → Step Head
+readHead bytes = headOf (fields bytes)
 
 -- ---- fanins
 
@@ -81,12 +85,18 @@ readSource out place seen (net n) = do
   _ ← require (ltb (length (seen .nets)) mostLeaves) 12 place
   good (record { nets = seen .nets ++ (n ∷ []); gates = seen .gates })
 
+-- a fanin of gate g that is written as n: what it reads
+abbrev pub readFanin : (out g : ℕ) → Seen → (n : ℕ) → Step (Source × Seen)
+readFanin out g seen n = do
+  source ← given (sourceOf g n) 8 (suc g)
+  seen₁ ← readSource out (suc g) seen source
+  good (source, seen₁)
+
 -- the fanins of gate g, from left to right
 abbrev pub readFanins : (out g : ℕ) → Seen → List Number → Step (List Fanin × Seen)
 readFanins out g seen [] = good ([], seen)
 readFanins out g seen (x ∷ xs) = do
-  source ← given (sourceOf g (x .magnitude)) 8 (suc g)
-  seen₁ ← readSource out (suc g) seen source
+  (source, seen₁) ← readFanin out g seen (x .magnitude)
   (fanins, seen₂) ← readFanins out g seen₁ xs
   good (record { inverted = x .negative; source = source } ∷ fanins, seen₂)
 
@@ -95,14 +105,20 @@ readFanins out g seen (x ∷ xs) = do
 abbrev pub kindOf : Number → Option Kind
 kindOf x = cond (counts 1 1 x) (some and) (cond (counts 2 2 x) (some or) none)
 
--- gate g stands at line g + 1; of the bytes before the line feed
-abbrev pub readGate : (out g : ℕ) → Seen → List ℕ → Step (DrawnGate × Seen)
-readGate out g seen bytes = do
-  xs ← given (fields bytes) 1 (suc g)
+-- gate g stands at line g + 1; of the line's fields: the kind, and the numbers of the fanins
+abbrev pub gateHeadOf : (g : ℕ) → Option (List Number) → Step (Kind × List Number)
+gateHeadOf g fs = do
+  xs ← given fs 1 (suc g)
   (kind, count, more) ← given (two xs) 1 (suc g)
   kind ← given (kindOf kind) 6 (suc g)
   _ ← require (counts fewestFanins mostFanins count) 7 (suc g)
   _ ← require (eqb (length more) (count .magnitude)) 1 (suc g)
+  good (kind, more)
+
+-- of the bytes before the line feed
+abbrev pub readGate : (out g : ℕ) → Seen → List ℕ → Step (DrawnGate × Seen)
+readGate out g seen bytes = do
+  (kind, more) ← gateHeadOf g (fields bytes)
   (fanins, seen₁) ← readFanins out g seen more
   good (record { kind = kind; fanins = fanins }, seen₁)
 

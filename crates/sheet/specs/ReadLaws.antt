@@ -3,7 +3,7 @@ use Prim.Native.Nat.{ℕ, zero, suc, _+_, _-_, _≤_, _<_}
 use native.Mathlib.Omega.{arith}
 use mathlib.Core.Path.{_≡_, refl, sym, ap, _∙_, subst}
 use mathlib.Core.Bool.{cond, _&&_}
-use mathlib.Core.Option.{none, some}
+use mathlib.Core.Option.{Option, none, some}
 use mathlib.Core.List.{List, [], _∷_, _++_, append-assoc, append-nil}
 use lib.Dec.{ltb, ltb→lt, eqb→eq}
 use lib.ListN.{length, length-append}
@@ -13,13 +13,14 @@ use Rattle.lists.specs.Cases.{and-split}
 use Rattle.tree.specs.Limits.{greatestNet}
 use Rattle.decimal.specs.Number.{Number}
 use Rattle.sheet.specs.Limits.{gateBase, mostGates, fewestFanins, mostFanins, mostLeaves}
+use Rattle.sheet.specs.Line.{fields}
 use Rattle.sheet.specs.declared.Source.{Source}
 use Rattle.sheet.specs.declared.Source.the-variants.{Net as net, Gate as gate}
 use Rattle.sheet.specs.declared.Edge.{Edge as Fanin}
 use Rattle.sheet.specs.Sheet.{DrawnGate, DrawnSheet, sheet, netOf, gateOf, faninNets, faninGates, leafNets, gatesRead, from}
 use Rattle.sheet.specs.Step.{Step}
 use Rattle.sheet.specs.StepLaws.{Meets, on, off, meets-map, meets-bind, meets-require, meets-given}
-use Rattle.sheet.specs.Read.{within, Seen, nothing, readHead, sourceOf, readSource, readFanins, readGate, readLeft, readUnread, readAll, reading, readSheet}
+use Rattle.sheet.specs.Read.{within, Seen, nothing, readHead, sourceOf, readSource, readFanin, readFanins, gateHeadOf, readGate, readLeft, readUnread, readAll, reading, readSheet}
 use Rattle.sheet.specs.Formed.{Net, LeafNet, FaninCount, Before, Earlier, WellFormed}
 use Rattle.sheet.specs.NumberLaws.{by-test, within-holds, counts-holds, not-eqb, member-holds, not-member, distinct-end, distinct-permuted, same-numbers, from-once, in-from}
 
@@ -101,6 +102,13 @@ source-meets out place seen (gate g) h i =
       gates = refl;
     }))
 
+fanin-meets : (out g : ℕ) (seen : Seen) (n : ℕ) → Sound out seen →
+    Meets (λ r. Also out seen (r .1) (netOf (r .0)) (gateOf (r .0)) × Every (Before g) (gateOf (r .0))) (readFanin out g seen n)
+fanin-meets out g seen n h =
+    meets-given _ _ _ _ (λ s e.
+    let d = source-named g n s e in
+    meets-bind _ _ (source-meets out (suc g) seen s h (d .0)) (λ seen₁ p. on (p, d .1)))
+
 pub record FaninsRead (out g : ℕ) (seen : Seen) (count : ℕ) (r : List Fanin × Seen) : Type 0 where
   pub also : Also out seen (r .1) (faninNets (r .0)) (faninGates (r .0))
   pub earlier : Every (Before g) (faninGates (r .0))
@@ -109,15 +117,13 @@ pub record FaninsRead (out g : ℕ) (seen : Seen) (count : ℕ) (r : List Fanin 
 fanins-meets : (out g : ℕ) (seen : Seen) (xs : List Number) → Sound out seen → Meets (FaninsRead out g seen (length xs)) (readFanins out g seen xs)
 fanins-meets out g seen [] h = on (record { also = also-none h; earlier = every-none _; number = refl })
 fanins-meets out g seen (x ∷ xs) h =
-    meets-given _ _ _ _ (λ s e.
-    let d = source-named g (x .magnitude) s e in
-    meets-bind _ _ (source-meets out (suc g) seen s h (d .0)) (λ seen₁ p.
-    meets-bind _ _ (fanins-meets out g seen₁ xs (p .sound)) (λ r f.
+    meets-bind _ _ (fanin-meets out g seen (x .magnitude) h) (λ s p.
+    meets-bind _ _ (fanins-meets out g (s .1) xs (p .0 .sound)) (λ r f.
     on (record {
-      also = also-more p (f .also);
-      earlier = every-append (gateOf s) (faninGates (r .0)) (d .1) (f .earlier);
+      also = also-more (p .0) (f .also);
+      earlier = every-append (gateOf (s .0)) (faninGates (r .0)) (p .1) (f .earlier);
       number = ap suc (f .number);
-    }))))
+    })))
 
 -- ---- gates
 
@@ -126,14 +132,19 @@ pub record GateRead (out g : ℕ) (seen : Seen) (r : DrawnGate × Seen) : Type 0
   pub earlier : Every (Before g) (faninGates (r .0 .fanins))
   pub count : FaninCount (r .0)
 
-gate-meets : (out g : ℕ) (seen : Seen) (bytes : List ℕ) → Sound out seen → Meets (GateRead out g seen) (readGate out g seen bytes)
-gate-meets out g seen bytes h =
+gate-head-meets : (g : ℕ) (fs : Option (List Number)) → Meets (λ r. (fewestFanins ≤ length (r .1)) × (length (r .1) ≤ mostFanins)) (gateHeadOf g fs)
+gate-head-meets g fs =
     meets-given _ _ _ _ (λ xs d. meets-given _ _ _ _ (λ x e. meets-given _ _ _ _ (λ k e₁.
     meets-require _ _ _ _ (λ t. meets-require _ _ _ _ (λ u.
-    meets-bind _ _ (fanins-meets out g seen (x .2) h) (λ r f.
     let c = counts-holds fewestFanins mostFanins (x .1) t in
     let q = eqb→eq (length (x .2)) (x .1 .magnitude) u in
-    on (record { also = f .also; earlier = f .earlier; count = omega (arith, f .number) })))))))
+    on (omega arith))))))
+
+gate-meets : (out g : ℕ) (seen : Seen) (bytes : List ℕ) → Sound out seen → Meets (GateRead out g seen) (readGate out g seen bytes)
+gate-meets out g seen bytes h =
+    meets-bind _ _ (gate-head-meets g (fields bytes)) (λ x c.
+    meets-bind _ _ (fanins-meets out g seen (x .1) h) (λ r f.
+    on (record { also = f .also; earlier = f .earlier; count = omega (arith, f .number) })))
 
 pub record LeftRead (out left g : ℕ) (seen : Seen) (r : List DrawnGate × Seen × List ℕ) : Type 0 where
   pub also : Also out seen (r .1) (leafNets (r .0)) (gatesRead (r .0))

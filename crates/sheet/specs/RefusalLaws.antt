@@ -8,12 +8,13 @@ use mathlib.Core.Option.{Option, none, some}
 use mathlib.Core.List.{List, [], _∷_}
 use Rattle.decimal.specs.Number.{Number}
 use Rattle.sheet.specs.Limits.{mostGates}
+use Rattle.sheet.specs.Line.{fields}
 use Rattle.sheet.specs.declared.Source.{Source}
 use Rattle.sheet.specs.declared.Source.the-variants.{Net as net, Gate as gate}
 use Rattle.sheet.specs.Sheet.{DrawnSheet, refused, from}
 use Rattle.sheet.specs.Step.{Step, good, bad, _>>=_, require, given}
 use Rattle.sheet.specs.StepLaws.{Meets, on, off, meets-any}
-use Rattle.sheet.specs.Read.{Seen, nothing, readHead, readSource, readFanins, readGate, readLeft, readUnread, readAll, reading, readSheet}
+use Rattle.sheet.specs.Read.{Seen, nothing, readHead, readSource, readFanin, readFanins, gateHeadOf, readGate, readLeft, readUnread, readAll, reading, readSheet}
 use Rattle.sheet.specs.ReadLaws.{head-meets}
 
 pub record Told (number place : ℕ) : Type 0 where
@@ -48,18 +49,25 @@ source-tells : (out g : ℕ) (seen : Seen) (s : Source) → g ≤ mostGates → 
 source-tells out g seen (net n) l = tells-require _ _ _ _ (omega arith) (tells-require _ _ _ _ (omega arith) (tells-require _ _ _ _ (omega arith) went))
 source-tells out g seen (gate j) l = tells-require _ _ _ _ (omega arith) went
 
+fanin-tells : (out g : ℕ) (seen : Seen) (n : ℕ) → g ≤ mostGates → Tells (readFanin out g seen n)
+fanin-tells out g seen n l =
+    tells-given _ _ _ _ (omega arith) (λ s. tells-bind _ _ (source-tells out g seen s l) (meets-any _) (λ seen₁ u. went))
+
 fanins-tell : (out g : ℕ) (seen : Seen) (xs : List Number) → g ≤ mostGates → Tells (readFanins out g seen xs)
 fanins-tell out g seen [] l = went
 fanins-tell out g seen (x ∷ xs) l =
-    tells-given _ _ _ _ (omega arith) (λ s.
-    tells-bind _ _ (source-tells out g seen s l) (meets-any _) (λ seen₁ u.
-    tells-bind _ _ (fanins-tell out g seen₁ xs l) (meets-any _) (λ r v. went)))
+    tells-bind _ _ (fanin-tells out g seen (x .magnitude) l) (meets-any _) (λ s u.
+    tells-bind _ _ (fanins-tell out g (s .1) xs l) (meets-any _) (λ r v. went))
+
+gate-head-tells : (g : ℕ) (fs : Option (List Number)) → g ≤ mostGates → Tells (gateHeadOf g fs)
+gate-head-tells g fs l =
+    tells-given _ _ _ _ (omega arith) (λ xs. tells-given _ _ _ _ (omega arith) (λ x. tells-given _ _ _ _ (omega arith) (λ k.
+    tells-require _ _ _ _ (omega arith) (tells-require _ _ _ _ (omega arith) went))))
 
 gate-tells : (out g : ℕ) (seen : Seen) (bytes : List ℕ) → g ≤ mostGates → Tells (readGate out g seen bytes)
 gate-tells out g seen bytes l =
-    tells-given _ _ _ _ (omega arith) (λ xs. tells-given _ _ _ _ (omega arith) (λ x. tells-given _ _ _ _ (omega arith) (λ k.
-    tells-require _ _ _ _ (omega arith) (tells-require _ _ _ _ (omega arith)
-    (tells-bind _ _ (fanins-tell out g seen (x .2) l) (meets-any _) (λ r u. went))))))
+    tells-bind _ _ (gate-head-tells g (fields bytes) l) (meets-any _) (λ x u.
+    tells-bind _ _ (fanins-tell out g seen (x .1) l) (meets-any _) (λ r v. went))
 
 left-tells : (out left g : ℕ) (seen : Seen) (text : List ℕ) → left + g ≤ mostGates + 1 → Tells (readLeft out left g seen text)
 left-tells out zero g seen text l = went

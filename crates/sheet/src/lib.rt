@@ -1,6 +1,16 @@
 // Reading a sheet: one fanout-free tree of gates, with an output net.
-ghost use Rattle.sheet.specs.Inside.{LineEnds};
+ghost use mathlib.Core.Path.{_≡_};
+ghost use Rattle.sheet.specs.Read.{within, counts, headOf};
+ghost use Rattle.sheet.specs.Inside.{LineEnds, valueOf, fieldsOf, Room, headStep};
 use tree::Kind;
+
+// The most gates of a sheet, and the most fanins of a gate.
+pub const MOST_GATES: usize = 255;
+pub const MOST_FANINS: usize = 10;
+
+// The most fields of a line, and the columns of a field.
+const MOST_FIELDS: usize = 12;
+const COLUMNS: usize = 6;
 
 // What a fanin reads: a net, or an earlier gate.
 pub enum Source {
@@ -18,7 +28,7 @@ pub struct Edge {
 pub struct Gate {
     pub kind: Kind,
     pub count: u8,
-    pub fanins: [Edge; 10],
+    pub fanins: [Edge; MOST_FANINS],
 }
 
 // A sheet: its output net, whether the tree's value is inverted, how many gates it has, and the gates, those past the count zero.
@@ -26,7 +36,7 @@ pub struct Sheet {
     pub out: u16,
     pub inverted: bool,
     pub count: u8,
-    pub gates: [Gate; 255],
+    pub gates: [Gate; MOST_GATES],
 }
 
 // Why a text is no sheet. Its number in 01 is `numberOf` in specs/Refusals.
@@ -74,4 +84,67 @@ fn line_end(text: &[u8], start: usize) -> Ending
         i += 1;
     }
     Ending::Missing
+}
+
+// The number in a field: its sign apart, since on a net or a fanin it says that the value is inverted.
+struct FieldValue {
+    negative: bool,
+    magnitude: u32,
+}
+
+// The fields of a line: whether it is laid out as a line is, and the numbers in them, those past the count zero.
+struct Fields {
+    laid: bool,
+    count: usize,
+    numbers: [FieldValue; MOST_FIELDS],
+}
+
+fn within(low: u32, high: u32, n: u32) -> bool
+    ensures { λ r. ⌜ r ≡ within low high n ⌝ }
+{
+    if n < low {
+        return false;
+    }
+    n <= high
+}
+
+// A count has no sign.
+fn counts(low: u32, high: u32, x: FieldValue) -> bool
+    ensures { λ r. ⌜ r ≡ counts low high (valueOf x) ⌝ }
+{
+    if x.negative {
+        return false;
+    }
+    within(low, high, x.magnitude)
+}
+
+// What line 1 says: the output net, whether the tree's value is inverted, and the number of gates.
+enum Head {
+    Good(u16, bool, u8),
+    Bad(Refusal),
+}
+
+fn read_head(f: Fields) -> Head
+    requires { ⌜ Room f ⌝ }
+    ensures { λ r. ⌜ headOf (fieldsOf f) ≡ headStep r ⌝ }
+{
+    let laid = f.laid;
+    let count = f.count;
+    if !laid {
+        return Head::Bad(Refusal::Layout);
+    }
+    if count != 2 {
+        return Head::Bad(Refusal::Layout);
+    }
+    let out = f.numbers[0];
+    let gates = f.numbers[1];
+    let net = out.magnitude;
+    if !within(1, tree::GREATEST_NET as u32, net) {
+        return Head::Bad(Refusal::OutputNet);
+    }
+    if !counts(1, MOST_GATES as u32, gates) {
+        return Head::Bad(Refusal::GateCount);
+    }
+    let n = gates.magnitude;
+    Head::Good(net as u16, out.negative, n as u8)
 }
