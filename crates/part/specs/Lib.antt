@@ -3,6 +3,7 @@ pub mod Sound
 pub mod SoundTest
 pub mod Sheets
 pub mod Adds
+pub mod Openings
 pub mod Calls
 pub mod Demands
 pub mod Settled

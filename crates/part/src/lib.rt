@@ -1,7 +1,13 @@
 // Parts of the row module: a device that holds lookup tables.
 ghost use mathlib.Core.Path.{_≡_};
+ghost use Rattle.part.specs.Adds.{empty as emptyPart, opened};
+ghost use Rattle.part.specs.Openings.{openedResult};
 ghost use Rattle.part.specs.Parts.{Shaped};
+use table::INPUT_ROOM;
+use table::TABLE_ROOM;
 use table::Table;
+use table::blank;
+use table::within;
 
 // A part of the row module: the most inputs of a table, how many tables it can hold, how many it holds, and the tables.
 pub struct Part {
@@ -16,4 +22,55 @@ pub fn used(p: Part) -> u16
     ensures { λ r. ⌜ (r ≡ p .used) × Shaped p ⌝ }
 {
     p.used
+}
+
+// What an opening answers. Openings in specs/ gives the refusals' numbers.
+pub enum Opening {
+    Accepted,
+    KOutOfRange,
+    CapacityOutOfRange,
+}
+
+// The part that an opening hands back, all zeros where it is refused, and the answer.
+pub struct Opened {
+    pub part: Part,
+    pub answer: Opening,
+}
+
+// A part with this K and this capacity that holds no table.
+fn empty(k: u8, capacity: u16) -> Part
+    ensures { λ r. ⌜ r ≡ emptyPart k capacity ⌝ }
+{
+    Part {
+        k,
+        capacity,
+        used: 0,
+        tables: [blank(); 800],
+    }
+}
+
+impl Part {
+    // A part of no tables. K is tested before the capacity.
+    pub fn open(k: u32, capacity: u32) -> Opened
+        ensures { λ r. ⌜ openedResult r ≡ opened k capacity ⌝ }
+    {
+        if within(2, INPUT_ROOM, k) {
+            if within(1, TABLE_ROOM, capacity) {
+                Opened {
+                    part: empty(k as u8, capacity as u16),
+                    answer: Opening::Accepted,
+                }
+            } else {
+                Opened {
+                    part: empty(0, 0),
+                    answer: Opening::CapacityOutOfRange,
+                }
+            }
+        } else {
+            Opened {
+                part: empty(0, 0),
+                answer: Opening::KOutOfRange,
+            }
+        }
+    }
 }

@@ -1,4 +1,12 @@
 // Lookup tables as records of a part.
+ghost use mathlib.Core.Path.{_≡_};
+ghost use Rattle.lists.specs.Tests.{within as inRange};
+ghost use Rattle.table.specs.Records.{blank as blankRecord};
+
+// The inputs that a record has room for, and the records that a part has room for.
+pub const INPUT_ROOM: u32 = 6;
+
+pub const TABLE_ROOM: u32 = 800;
 
 // A lookup table of a part: the net that it drives (0 for none), how many inputs it has, the inputs, and its truth table.
 pub struct Table {
@@ -6,4 +14,23 @@ pub struct Table {
     pub count: u8,
     pub inputs: [u16; 6],
     pub truth: u64,
+}
+
+// A record of zeros.
+pub fn blank() -> Table
+    ensures { λ r. ⌜ r ≡ blankRecord ⌝ }
+{
+    Table {
+        net: 0,
+        count: 0,
+        inputs: [0u16; 6],
+        truth: 0,
+    }
+}
+
+// The number is neither below the least nor above the greatest.
+pub fn within(least: u32, greatest: u32, n: u32) -> bool
+    ensures { λ r. ⌜ r ≡ inRange least greatest n ⌝ }
+{
+    if least <= n { n <= greatest } else { false }
 }
