@@ -101,13 +101,13 @@ module _ (base : ℕ) where
     within-all [] = refl
     within-all (d ∷ ds) = ap (_++_ (inner (d .1))) (gather-map (within (d ∷ ds)) suc (upto (length ds)) ∙ within-all ds)
 
-    -- THE TABLES OF A RUN: those within the fanins and those that it places are those within the gate
-    pub plan-placed : {K : ℕ} {ks : List Key} {p : List Token} {a : Key} {ds : List (Bool × Cover)} {body : Fanins} →
+    -- THE TABLES OF A RUN: those within the fanins and those that it places are those within the fragment that it makes
+    pub plan-placed : {K : ℕ} {ks : List Key} {p : List Token} {a : Key} {ds : List (Bool × Cover)} {f : Fragment} →
         length ds ≡ length ks →
-        Planned K ks (upto (length ks)) p a → (h : Runs ds p [] (made body ∷ [])) →
-        Permuted (gather (λ q. inner (q .1)) ds ++ placings ds h) (records* base body k)
-    plan-placed {ks = ks} {p} {ds = ds} {body} e pl h =
-        permuted-trans (permuted-append fanins (permuted-refl _)) (rw (append-nil (records* base body k)) at (run-placed ds h))
+        Planned K ks (upto (length ks)) p a → (h : Runs ds p [] (f ∷ [])) →
+        Permuted (gather (λ q. inner (q .1)) ds ++ placings ds h) (inside f)
+    plan-placed {ks = ks} {p} {ds = ds} {f} e pl h =
+        permuted-trans (permuted-append fanins (permuted-refl _)) (rw (append-nil (inside f)) at (run-placed ds h))
       where
         fanins : Permuted (gather (λ q. inner (q .1)) ds) (taken ds p)
         fanins = rw (← (within-all ds), e, denotes-taken ds (pl .denotes)) (permuted-sym (gather-permuted (within ds) (pl .once)))

@@ -22,7 +22,7 @@ use Rattle.cover.specs.Fragments.{names-matched, edges, Stands, as-drawn
 
 -- ---- a run
 
-pub runs-append : {ds : List (Bool × Cover)} {p q : List Token} {st st′ st″ : List Fragment} →
+unfoldable pub runs-append : {ds : List (Bool × Cover)} {p q : List Token} {st st′ st″ : List Fragment} →
     Runs ds p st st′ → Runs ds q st′ st″ → Runs ds (p ++ q) st st″
 runs-append stop b = b
 runs-append (pushed a) b = pushed (runs-append a b)

@@ -28,11 +28,11 @@ module _ (base : ℕ) where
     gate-same (suc m) xs a b f h = every-head h
 
     mutual
-      held-same : (c : Cover) → Agree d e (codes base c) → held base c d ≡ held base c e
+      pub held-same : (c : Cover) → Agree d e (codes base c) → held base c d ≡ held base c e
       held-same (net n) h = every-head h
       held-same (top m k fs) h = gate-same m (codes* base fs) (held* base fs k d) (held* base fs k e) (λ g. held-same* fs k g) h
 
-      held-same* : (fs : Fanins) (k : Kind) → Agree d e (codes* base fs) → held* base fs k d ≡ held* base fs k e
+      pub held-same* : (fs : Fanins) (k : Kind) → Agree d e (codes* base fs) → held* base fs k d ≡ held* base fs k e
       held-same* end k h = refl
       held-same* (old i c fs) k h =
           ap₂ (λ a b. meet k (turned i a) b) (held-same c (every-left (codes base c) (codes* base fs) h))

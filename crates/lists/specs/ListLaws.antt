@@ -2,7 +2,7 @@
 -- Those of mixes are in MixLaws, and those of lists of numbers in NumberLaws.
 use Prim.Native.Nat.{suc}
 use native.Mathlib.Omega.{arith}
-use mathlib.Core.Path.{_≡_, refl, sym, ap, _∙_, subst}
+use mathlib.Core.Path.{_≡_, refl, sym, ap, ap₂, _∙_, subst}
 use mathlib.Core.Logic.{_≢_, ⊎-elim}
 use mathlib.Core.List.{List, [], _∷_, _++_, append-assoc, map, List·Memᴰ·not-nil, List·Memᴰ·append-cases, Memᴰ·append-left, Memᴰ·append-right}
 use lib.ListN.{length}
@@ -134,3 +134,10 @@ module _ {A B : Type 0} (f : A → List B) where
   pub gather-map : {C : Type 0} (g : C → A) (xs : List C) → gather f (map g xs) ≡ gather (λ x. f (g x)) xs
   gather-map g [] = refl
   gather-map g (x ∷ xs) = ap (_++_ (f (g x))) (gather-map g xs)
+
+pub gather-same : {A B : Type 0} (f g : A → List B) (xs : List A) → Every (λ x. f x ≡ g x) xs → gather f xs ≡ gather g xs
+gather-same f g [] h = refl
+gather-same f g (x ∷ xs) h = ap₂ _++_ (every-head h) (gather-same f g xs (every-tail h))
+
+pub interchange : {A : Type 0} (ws xs ys zs : List A) → Permuted ((ws ++ xs) ++ (ys ++ zs)) ((ws ++ ys) ++ (xs ++ zs))
+interchange ws xs ys zs = simp append-assoc (permuted-append (permuted-refl ws) (permuted-swap xs ys zs))

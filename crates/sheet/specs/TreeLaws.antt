@@ -8,7 +8,7 @@ use lib.ListN.{length, getD, length-append, List·getD-append}
 use lib.Seq.{getD-append-add}
 use lib.Dec.{T}
 use Rattle.lists.specs.Lists.{Every, Inserted, here, there, Permuted, empty, more, gather}
-use Rattle.lists.specs.ListLaws.{every-none, every-cons, every-head, every-tail, every-append, gather-append, permuted-refl, permuted-insert, permuted-sym, permuted-trans, permuted-append, permuted-swap, permuted-to, permuted-length, gather-permuted}
+use Rattle.lists.specs.ListLaws.{every-none, every-cons, every-head, every-tail, every-append, gather-append, permuted-refl, permuted-insert, permuted-sym, permuted-trans, permuted-append, permuted-swap, permuted-to, permuted-length, gather-permuted, gather-same, interchange}
 use Rattle.tree.specs.declared.Kind.{Kind}
 use Rattle.tree.specs.Tree.{Node, leaf, Edges, leaves, leaves*, many, proper, propers}
 use Rattle.sheet.specs.Limits.{gateBase, mostLeaves}
@@ -103,18 +103,11 @@ in-order us (t ∷ ts) all e =
     ap₂ _++_ (ap leaves (sym (at-end us t ts) ∙ ap (λ l. treeAt l (suc (length us))) e))
     (in-order (us ++ (t ∷ [])) ts all (append-assoc us (t ∷ []) ts ∙ e) ∙ ap (λ n. gather (leavesAt all) (from (suc n) (length ts))) (end-length us t))
 
-from-end : (g n : ℕ) → from g (suc n) ≡ from g n ++ ((g + n) ∷ [])
+pub from-end : (g n : ℕ) → from g (suc n) ≡ from g n ++ ((g + n) ∷ [])
 from-end g zero = ap (λ m. m ∷ []) (omega arith)
 from-end g (suc n) = ap (λ l. g ∷ l) (from-end (suc g) n ∙ ap (λ m. from (suc g) n ++ (m ∷ [])) (omega arith))
 
-gather-same : {A B : Type 0} (f g : A → List B) (xs : List A) → Every (λ x. f x ≡ g x) xs → gather f xs ≡ gather g xs
-gather-same f g [] h = refl
-gather-same f g (x ∷ xs) h = ap₂ _++_ (every-head h) (gather-same f g xs (every-tail h))
-
 -- ---- leaves
-
-interchange : {A : Type 0} (ws xs ys zs : List A) → Permuted ((ws ++ xs) ++ (ys ++ zs)) ((ws ++ ys) ++ (xs ++ zs))
-interchange ws xs ys zs = simp append-assoc (permuted-append (permuted-refl ws) (permuted-swap xs ys zs))
 
 node-leaves : (ts : List Node) (s : Source) → leaves (nodeOf ts s) ≡ netOf s ++ gather (leavesAt ts) (gateOf s)
 node-leaves ts (net n) = refl

@@ -6,10 +6,12 @@ use tree::Kind;
 
 // The most gates of a sheet, and the most fanins of a gate.
 pub const MOST_GATES: usize = 255;
+
 pub const MOST_FANINS: usize = 10;
 
 // The most fields of a line, and the columns of a field.
 const MOST_FIELDS: usize = 12;
+
 const COLUMNS: usize = 6;
 
 // What a fanin reads: a net, or an earlier gate.

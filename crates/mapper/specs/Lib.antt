@@ -1,0 +1,4 @@
+pub mod Run
+pub mod Mapping
+pub mod RunLaws
+pub mod MappingLaws

@@ -1,0 +1,69 @@
+-- The run of a gate's plan on tables: operands are tables that are not placed yet, a join merges two of them into one, and placing
+-- one puts its table after those that are there and leaves the table's code in its stead. Definitions only: the laws are in RunLaws.
+use Prim.Native.Nat.{ℕ, suc, _+_}
+use mathlib.Core.Bool.{Bool, true, false}
+use mathlib.Core.List.{List, [], _∷_, _++_}
+use lib.ListN.{length, getD}
+use Rattle.lists.specs.Lists.{sorted}
+use Rattle.tree.specs.declared.Kind.{Kind}
+use Rattle.tree.specs.Tree.{turned, meet}
+use Rattle.cover.specs.Tables.{Table, output, tabled}
+use Rattle.cover.specs.declared.Token.{Token}
+use Rattle.cover.specs.declared.Token.the-variants.{Push as push, Join as join}
+
+-- a table that is not placed, and whether it is read inverted
+pub record Operand : Type 0 where
+  pub inverted : Bool
+  pub table : Table
+
+-- the table that has the value of one code
+abbrev pub single : ℕ → Table
+single c = record { drives = 0; inputs = c ∷ []; truth = 2 }
+
+-- the table that holds a gate of two fanins
+unfoldable pub merged : Kind → Operand → Operand → Table
+merged k x y =
+    tabled 0 (sorted (x .table .inputs ++ y .table .inputs))
+    (λ e. meet k (turned (x .inverted) (output (x .table) e)) (turned (y .inverted) (output (y .table) e)))
+
+abbrev pub merge : Kind → Operand → Operand → Operand
+merge k x y = record { inverted = false; table = merged k x y }
+
+-- the operands, the last one first, and the tables placed
+pub record State : Type 0 where
+  pub stack : List Operand
+  pub placed : List Table
+
+-- `n` tables stand before those that are placed
+module _ (base n : ℕ) where
+  -- the code of the next table to be placed
+  abbrev pub nextCode : List Table → ℕ
+  nextCode ts = base + suc (n + length ts)
+
+  -- an operand held, or placed
+  abbrev pub operand : Bool → List Table → Operand → Operand
+  operand false ts x = x
+  operand true ts x = record { inverted = x .inverted; table = single (nextCode ts) }
+
+  abbrev pub tables : Bool → List Table → Operand → List Table
+  tables false ts x = ts
+  tables true ts x = ts ++ (x .table ∷ [])
+
+  module _ (k : Kind) where
+    -- the left operand is placed before the right one; with fewer than two operands nothing is joined
+    abbrev pub joinTop : Bool → Bool → List Operand → List Table → State
+    joinTop l r [] ts = record { stack = []; placed = ts }
+    joinTop l r (y ∷ []) ts = record { stack = y ∷ []; placed = ts }
+    joinTop l r (y ∷ x ∷ st) ts = record {
+      stack = merge k (operand l ts x) (operand r (tables l ts x) y) ∷ st;
+      placed = tables r (tables l ts x) y;
+    }
+
+    module _ (fanins : List Operand) where
+      abbrev pub step : Token → State → State
+      step (push i) s = record { stack = getD fanins i (record { inverted = false; table = single 0 }) ∷ s .stack; placed = s .placed }
+      step (join l r) s = joinTop l r (s .stack) (s .placed)
+
+      abbrev pub run : List Token → State → State
+      run [] s = s
+      run (t ∷ ts) s = run ts (step t s)

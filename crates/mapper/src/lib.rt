@@ -1,0 +1,1 @@
+// Mapping one sheet to lookup tables.
