@@ -1,4 +1,5 @@
 pub mod Run
+pub mod Pendings
 pub mod Mapping
 pub mod RunLaws
 pub mod MappingLaws
