@@ -1,2 +1,4 @@
 mod NumberLaws
 mod SignLaws
+mod WriteLaws
+mod PlaceLaws

@@ -11,8 +11,11 @@ use lib.Seq.{take-append-seam, drop-append-seam}
 use Rattle.lists.specs.Cases.{by-eqb}
 use Rattle.lists.specs.Lists.{Every}
 use Rattle.lists.specs.ListLaws.{every-head, every-tail}
-use Rattle.lists.specs.TestLaws.{reflects-lt, reflects-and, by-reflects}
-use Rattle.decimal.specs.Columns.{column, fieldOf, fieldsOf}
+use Rattle.lists.specs.TestLaws.{Reflects, reflects-lt, reflects-and, by-reflects}
+use Rattle.decimal.specs.Columns.{room, column, fieldOf, fieldsOf}
+
+pub reflects-room : (width n : ℕ) → Reflects (room width n) ((0 < width) × (n < 10 ^ width))
+reflects-room width n = reflects-and (reflects-lt 0 width) (reflects-lt n (10 ^ width))
 
 -- ---- a number in its field
 
@@ -26,7 +29,7 @@ shown-digit d = by-eqb (λ b. cond b 0 (48 + d - 48) ≡ d) (48 + d) 32 (λ e. a
 shown-column : (n j : ℕ) → shown (column n j) ≡ (n / 10 ^ j) % 10
 shown-column n j =
     by-reflects (λ b. shown (cond b 32 (48 + (n / 10 ^ j) % 10)) ≡ (n / 10 ^ j) % 10)
-    (reflects-and (reflects-lt 0 j) (reflects-lt n (10 ^ j)))
+    (reflects-room j n)
     (λ h. sym (ap (λ m. m % 10) (div-eq-of-lt (h .1))))
     (λ h. shown-digit ((n / 10 ^ j) % 10))
 
@@ -54,7 +57,7 @@ field-mod (suc w) n m e =
     let l : 0 < 10 ^ w = one-le-pow w 10 (omega arith) in
     rw pow-suc (mod-more n (10 ^ w) l ∙ ap₂ (λ x y. x + 10 ^ w * y) t d ∙ sym (mod-more m (10 ^ w) l))
 
-field-length : (w n : ℕ) → length (fieldOf w n) ≡ w
+pub field-length : (w n : ℕ) → length (fieldOf w n) ≡ w
 field-length zero n = refl
 field-length (suc w) n = ap suc (field-length w n)
 

@@ -4,3 +4,4 @@ pub mod Reading
 pub mod ReadingLaws
 pub mod Columns
 pub mod ColumnLaws
+pub mod Writing

@@ -58,4 +58,4 @@ fieldNumber bs = cond (eqb (length bs) columns) (number bs) none
 -- what can stand in so many columns; a minus sign takes one
 pub record Within (width : ℕ) (n : Number) : Type 0 where
   pub size : n .magnitude < 10 ^ width
-  pub sign : n .negative ≡ true → (0 < n .magnitude) × (10 * n .magnitude < 10 ^ width)
+  pub sign : n .negative ≡ true → (0 < n .magnitude) × (n .magnitude < 10 ^ (width - 1))

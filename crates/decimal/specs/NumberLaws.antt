@@ -51,8 +51,11 @@ natural-below bs = given-some (λ m. m < 10 ^ length bs) (natural-given bs)
 
 -- ---- with a sign, after blanks
 
+minus-one : (k : ℕ) → suc k - 1 ≡ k
+minus-one k = omega arith
+
 within-more : (width : ℕ) (n : Number) → Within width n → Within (suc width) n
-within-more width n h = record { size = rw pow-suc (omega arith); sign = λ e. let s = h .sign e in (s .0, rw pow-suc (omega arith)) }
+within-more width n h = record { size = rw pow-suc (omega arith); sign = λ e. (h .sign e .0, rw (minus-one width) (h .size)) }
 
 unsigned-given : (o : Option ℕ) (width : ℕ) → Given (λ m. m < 10 ^ width) o → Given (Within width) (unsigned o)
 unsigned-given none width h = tt
@@ -63,7 +66,7 @@ negated-given none width h = tt
 negated-given (some n) width h =
     by-eqb (λ t. Given (Within (suc width)) (cond t none (some (record { negative = true; magnitude = n })))) n 0
     (λ e. tt)
-    (λ e. record { size = rw pow-suc (omega arith); sign = λ s. (omega arith, rw pow-suc (omega arith)) })
+    (λ e. record { size = rw pow-suc (omega arith); sign = λ s. (omega arith, rw (minus-one width) h) })
 
 signed-given : (bs : List ℕ) → Given (Within (length bs)) (signed bs)
 signed-given [] = tt

@@ -1,0 +1,49 @@
+-- What writing a number into a field does: the answer, and the bytes after it, for every width and every number.
+-- Definitions only: the laws are in WritingLaws.
+use Prim.Native.Nat.{ℕ, _+_, _-_, _%_, _^_, _≤_, _<_}
+use mathlib.Core.Bool.{Bool, true, false, not, cond, _&&_}
+use mathlib.Core.List.{List, _++_}
+use lib.Dec.{leb, eqb}
+use lib.ListN.{length, take, drop}
+use Rattle.decimal.specs.Number.{Number}
+use Rattle.decimal.specs.Columns.{room, fieldOf, signedRoom, signedFieldOf}
+use Rattle.decimal.specs.declared.Written.{Written}
+use Rattle.decimal.specs.declared.Written.the-variants.{Done, TooWide}
+
+pub record Outcome : Type 0 where
+  pub answer : Written
+  pub bytes : List ℕ
+
+-- a number without room alters no byte
+abbrev pub outcome : Bool → List ℕ → List ℕ → Outcome
+outcome true new old = record { answer = Done; bytes = new }
+outcome false new old = record { answer = TooWide; bytes = old }
+
+-- a number into a whole field
+abbrev pub fieldWritten : List ℕ → ℕ → Outcome
+fieldWritten old n = outcome (room (length old) n) (fieldOf (length old) n) old
+
+abbrev pub signedWritten : List ℕ → Number → Outcome
+signedWritten old n = outcome (signedRoom (length old) n) (signedFieldOf (length old) n) old
+
+-- a number into the field of so many columns that starts at a place of a longer line
+abbrev pub placed : List ℕ → ℕ → ℕ → List ℕ → List ℕ
+placed old at width field = take at old ++ (field ++ drop (at + width) old)
+
+abbrev pub fieldWrittenAt : List ℕ → ℕ → ℕ → ℕ → Outcome
+fieldWrittenAt old at width n = outcome (leb (at + width) (length old) && room width n) (placed old at width (fieldOf width n)) old
+
+abbrev pub signedWrittenAt : List ℕ → ℕ → ℕ → Number → Outcome
+signedWrittenAt old at width n = outcome (leb (at + width) (length old) && signedRoom width n) (placed old at width (signedFieldOf width n)) old
+
+-- ---- for the functions inside
+
+-- the byte of a column, of which `left` is what stands there and further left
+abbrev pub digitOf : ℕ → Bool → ℕ
+digitOf left last = cond (eqb left 0 && not last) 32 (48 + left % 10)
+
+-- how many digits a number has; 0 has one
+pub record DigitCount (n count : ℕ) : Type 0 where
+  pub some : 1 ≤ count
+  pub enough : n < 10 ^ count
+  pub least : 1 < count → 10 ^ (count - 1) ≤ n
