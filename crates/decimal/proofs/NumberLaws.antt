@@ -4,7 +4,6 @@ use native.Mathlib.Nat.{pow-le-pow-right}
 use native.Mathlib.Numerals.{add-one}
 use native.Mathlib.Omega.{arith}
 use mathlib.Core.Path.{_≡_, refl}
-use mathlib.Core.Bool.{true}
 use mathlib.Core.Option.{Option, none, some}
 use mathlib.Core.List.{List, [], _∷_}
 use lib.IntN.{pos}
@@ -76,9 +75,6 @@ signed-plain bs i h n = rw (drop-cons bs i 0, ne-eqb (getD bs i 0) 45 n)
 
 pub negated-zero : (n : ℕ) → n ≡ 0 → negated (some n) ≡ none
 negated-zero n e = rw (eq-eqb n 0 e)
-
-pub negated-more : (n : ℕ) → (n ≡ 0 → ⊥) → negated (some n) ≡ some (record { negative = true; magnitude = n })
-negated-more n h = rw (ne-eqb n 0 h)
 
 -- ---- a field
 

@@ -1,6 +1,6 @@
 -- Writing a number column by column: what division by ten leaves, and the digits that a number has.
 use Prim.Native.Nat.{ℕ, zero, suc, _+_, _*_, _-_, _/_, _%_, _^_, _≤_, _<_}
-use native.Mathlib.Nat.{pow-suc, one-le-pow, pow-le-pow-right, mod-lt, mod-add-div, div-eq-of-lt, le-div-iff-mul-le, div-div-eq-div-mul}
+use native.Mathlib.Nat.{pow-le-pow-right, mod-lt, mod-add-div, div-eq-of-lt, le-div-iff-mul-le}
 use native.Mathlib.Omega.{arith}
 use mathlib.Core.Path.{_≡_, refl, sym, ap, ap₂, _∙_}
 use mathlib.Core.Bool.{true, false, not, cond, _&&_}
@@ -12,19 +12,14 @@ use Rattle.lists.specs.Cases.{by-eqb, by-leb}
 use Rattle.lists.specs.TestLaws.{reflects-eq, reflects-not, reflects-and, reflects-same, reflects-true, by-reflects}
 use Rattle.decimal.specs.Columns.{room, column, fieldOf, signedFieldOf}
 use Rattle.decimal.specs.Number.{Number}
-use Rattle.decimal.specs.ColumnLaws.{reflects-room}
+use Rattle.decimal.specs.ColumnLaws.{reflects-room, ten-pos}
+use Rattle.decimal.specs.FieldLaws.{plain-field, minus-digits}
 use Rattle.decimal.specs.Writing.{outcome, fieldWritten, signedWritten, digitOf, DigitCount}
 use Rattle.decimal.specs.declared.Written.the-variants.{Done}
-
-pub ten-pos : (k : ℕ) → 0 < 10 ^ k
-ten-pos k = one-le-pow k 10 (omega arith)
 
 -- nothing is left of a number below the divisor, and only of such a number
 pub div-none : (n b : ℕ) → 0 < b → n / b ≡ 0 → n < b
 div-none n b h e = omega (arith, mod-lt n h, mod-add-div n b, ap (λ q. b * q) e)
-
-pub div-more : (n k : ℕ) → n / 10 ^ k / 10 ≡ n / 10 ^ suc k
-div-more n k = rw (div-div-eq-div-mul, pow-suc)
 
 column-digit : (n j : ℕ) → column n j ≡ digitOf (n / 10 ^ j) (eqb j 0)
 column-digit n j =
@@ -59,10 +54,6 @@ power-some n k h = omega (arith, le-div-iff-mul-le {k = 10 ^ k} {x = 1} {y = n} 
 pub power-below : (n k : ℕ) → n < 2 ^ 64 → 10 ^ k ≤ n → k < 20
 power-below n k h l = by-leb (λ b. k < 20) 20 k (λ m. absurd (omega (arith, pow-le-pow-right {n = 10} (omega arith) {i = 20} {j = k} m))) (λ m. m)
 
-plain-field : (width n : ℕ) → signedFieldOf width (record { negative = false; magnitude = n }) ≡ fieldOf width n
-plain-field zero n = refl
-plain-field (suc width) n = ap (_∷_ (column n width)) (plain-field width n)
-
 pub plain-written : (old : List ℕ) (n : ℕ) → fieldWritten old n ≡ signedWritten old (record { negative = false; magnitude = n })
 plain-written old n = ap (λ l. outcome (room (length old) n) l old) (sym (plain-field (length old) n))
 
@@ -83,19 +74,12 @@ module _ {n count : ℕ} (d : DigitCount n count) where
   minus : Number
   minus = record { negative = true; magnitude = n }
 
-  -- no column of the digits would be blank
-  digit-columns : (width : ℕ) → width ≤ count → signedFieldOf width minus ≡ fieldOf width n
-  unfolding minus
-  digit-columns zero h = refl
-  digit-columns (suc width) h =
-      ap₂ _∷_ (ap (λ b. cond (b && not (room (width - 1) n)) 45 (column n width)) (no-room width h)) (digit-columns width (omega arith))
-
   minus-field : (k width : ℕ) → width ≡ k + count → signedFieldOf (suc width) minus ≡ set (fieldOf (suc width) n) k 45
   unfolding minus
   minus-field zero width e =
       ap₂ _∷_
       (ap₂ (λ b c. cond (b && not c) 45 (column n width)) (has-room width (omega arith)) (no-room (width - 1) (omega (arith, d .some))))
-      (digit-columns width (omega arith))
+      (minus-digits width n (λ j h. no-room j (omega arith)))
   minus-field (suc k) zero e = absurd (omega arith)
   minus-field (suc k) (suc width) e =
       ap₂ _∷_

@@ -1,6 +1,6 @@
 -- A number can be read off its field: two different numbers have different fields.
 use Prim.Native.Nat.{ℕ, zero, suc, _+_, _*_, _-_, _/_, _%_, _^_, _≤_, _<_}
-use native.Mathlib.Nat.{mod-lt, mod-eq-of-lt, mod-add-div, div-eq-of-lt, add-mul-mod-self-left, pow-suc, one-le-pow, mul-le-mul-left}
+use native.Mathlib.Nat.{mod-lt, mod-eq-of-lt, mod-add-div, div-eq-of-lt, div-div-eq-div-mul, add-mul-mod-self-left, pow-suc, one-le-pow, mul-le-mul-left}
 use native.Mathlib.Omega.{arith}
 use mathlib.Core.Path.{_≡_, refl, sym, ap, ap₂, _∙_}
 use mathlib.Core.Bool.{cond}
@@ -16,6 +16,12 @@ use Rattle.decimal.specs.Columns.{room, column, fieldOf, fieldsOf}
 
 pub reflects-room : (width n : ℕ) → Reflects (room width n) ((0 < width) × (n < 10 ^ width))
 reflects-room width n = reflects-and (reflects-lt 0 width) (reflects-lt n (10 ^ width))
+
+pub ten-pos : (k : ℕ) → 0 < 10 ^ k
+ten-pos k = one-le-pow k 10 (omega arith)
+
+pub div-more : (n k : ℕ) → n / 10 ^ k / 10 ≡ n / 10 ^ suc k
+div-more n k = rw (div-div-eq-div-mul, pow-suc)
 
 -- ---- a number in its field
 
@@ -54,7 +60,7 @@ field-mod (suc w) n m e =
     let c : column n w ≡ column m w = cc in
     let d : (n / 10 ^ w) % 10 ≡ (m / 10 ^ w) % 10 = sym (shown-column n w) ∙ ap shown c ∙ shown-column m w in
     let t : n % (10 ^ w) ≡ m % (10 ^ w) = field-mod w n m (cc) in
-    let l : 0 < 10 ^ w = one-le-pow w 10 (omega arith) in
+    let l = ten-pos w in
     rw pow-suc (mod-more n (10 ^ w) l ∙ ap₂ (λ x y. x + 10 ^ w * y) t d ∙ sym (mod-more m (10 ^ w) l))
 
 pub field-length : (w n : ℕ) → length (fieldOf w n) ≡ w

@@ -4,4 +4,7 @@ pub mod Reading
 pub mod ReadingLaws
 pub mod Columns
 pub mod ColumnLaws
+pub mod FieldLaws
 pub mod Writing
+pub mod WritingLaws
+pub mod Examples

@@ -7,6 +7,7 @@ use mathlib.Core.Bool.{true, cond}
 use mathlib.Core.Option.{Option, none, some}
 use mathlib.Core.List.{List, [], _∷_}
 use lib.ListN.{length}
+use borrow.Author.Tests.{ne-eqb}
 use Rattle.lists.specs.Cases.{by-eqb}
 use Rattle.lists.specs.TestLaws.{reflects-within, by-reflects}
 use Rattle.decimal.specs.Number.{Number, digits, natural, unsigned, negated, signed, number, columns, fieldNumber, Within}
@@ -50,6 +51,9 @@ pub natural-below : (bs : List ℕ) {m : ℕ} → natural bs ≡ some m → m < 
 natural-below bs = given-some (λ m. m < 10 ^ length bs) (natural-given bs)
 
 -- ---- with a sign, after blanks
+
+pub negated-more : (n : ℕ) → (n ≡ 0 → ⊥) → negated (some n) ≡ some (record { negative = true; magnitude = n })
+negated-more n h = rw (ne-eqb n 0 h)
 
 minus-one : (k : ℕ) → suc k - 1 ≡ k
 minus-one k = omega arith

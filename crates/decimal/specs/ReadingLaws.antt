@@ -1,13 +1,15 @@
 -- A field's answer and the number in its columns: each gives the other, so that a value with its sign stands for the number.
-use Prim.Native.Nat.{ℕ, zero, suc, _<_}
+use Prim.Native.Nat.{ℕ, zero, suc, _^_, _<_}
 use native.Mathlib.Omega.{arith}
 use mathlib.Core.Path.{_≡_, refl, sym, ap, _∙_}
 use mathlib.Core.Bool.{Bool, true, false, cond}
 use mathlib.Core.Option.{Option, none, some}
 use mathlib.Core.List.{List}
-use lib.IntN.{ℤ, pos, negℤ}
+use lib.IntN.{ℤ, pos, negsuc, negℤ}
 use Rattle.decimal.specs.Number.{Number, columns, fieldNumber, Within}
 use Rattle.decimal.specs.NumberLaws.{Given, field-given, field-within}
+use Rattle.decimal.specs.Columns.{fieldOf, signedFieldOf}
+use Rattle.decimal.specs.FieldLaws.{field-read, signed-read}
 use Rattle.decimal.specs.Reading.{valueOf, numberOf, answerOf, fieldRead}
 use Rattle.decimal.specs.declared.Field.the-variants.{Value, NoNumber}
 
@@ -19,6 +21,10 @@ back true (suc m) h = refl
 -- there is no "-0", so a value gives its number back
 pub value-number : (width : ℕ) (n : Number) → Within width n → numberOf (valueOf n) ≡ n
 value-number width n h = back (n .negative) (n .magnitude) (λ e. h .sign e .0)
+
+pub number-value : (v : ℤ) → valueOf (numberOf v) ≡ v
+number-value (pos n) = refl
+number-value (negsuc n) = refl
 
 answer-value : (o : Option Number) {v : ℤ} → Given (Within columns) o → answerOf o ≡ Value v → o ≡ some (numberOf v)
 answer-value none h e = let no : _≡_ {A = ℕ} 0 1 = cc in absurd (omega arith)
@@ -37,3 +43,10 @@ read-within bs e = field-within bs (read-value bs e)
 
 pub read-none : (bs : List ℕ) → fieldRead bs ≡ NoNumber → fieldNumber bs ≡ none
 read-none bs = answer-none (fieldNumber bs)
+
+-- reading what was written gives the value back
+pub read-field : (n : ℕ) → n < 10 ^ columns → fieldRead (fieldOf columns n) ≡ Value (pos n)
+read-field n h = ap answerOf (field-read n h)
+
+pub read-signed : (v : ℤ) → Within columns (numberOf v) → fieldRead (signedFieldOf columns (numberOf v)) ≡ Value v
+read-signed v h = ap answerOf (signed-read (numberOf v) h) ∙ ap Value (number-value v)

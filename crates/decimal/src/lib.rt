@@ -193,10 +193,10 @@ pub fn write_signed_at(buf: &mut [u8], at: usize, width: usize, v: i32) -> Writt
 fn digit_count(n: u64) -> usize
     ensures { λ r. ⌜ DigitCount n r ⌝ }
 {
-    let mut left = n / 10;
+    let mut rest = n / 10;
     let mut count: usize = 1;
-    while 0 < left {
-        left = left / 10;
+    while 0 < rest {
+        rest = rest / 10;
         count += 1;
     }
     count

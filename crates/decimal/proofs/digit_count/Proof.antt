@@ -3,15 +3,16 @@
 use Prim.Native.Nat.{suc, _+_, _-_, _/_, _^_, _≤_, _<_}
 use native.Mathlib.Omega.{arith}
 use mathlib.Core.Path.{_≡_, refl, sym, ap, subst, _∙_}
-use Rattle.decimal.proofs.WriteLaws.{ten-pos, div-none, div-more, power-some, power-below}
+use Rattle.decimal.specs.ColumnLaws.{ten-pos, div-more}
+use Rattle.decimal.proofs.WriteLaws.{div-none, power-some, power-below}
 use Rattle.decimal.proofs.digit_count.Statement.{statement}
 use Rattle.decimal.proofs.digit_count.Tie as tie
 
 abbrev Inv-loop : tie.InvT-loop
-Inv-loop n left₀ count₀ left count = (1 ≤ count) × (count ≤ 20) × (left ≡ n / 10 ^ count) × (1 < count → 10 ^ (count - 1) ≤ n)
+Inv-loop n rest₀ count₀ rest count = (1 ≤ count) × (count ≤ 20) × (rest ≡ n / 10 ^ count) × (1 < count → 10 ^ (count - 1) ≤ n)
 
 abbrev μ-loop : tie.MeasureT-loop
-μ-loop n left₀ count₀ left count = left
+μ-loop n rest₀ count₀ rest count = rest
 
 loop-holds : tie.Need-loop-holds Inv-loop μ-loop
 loop-holds c = (omega arith, omega arith, refl, λ h. absurd (omega arith))
@@ -41,7 +42,7 @@ returns : tie.Need-returns Inv-loop μ-loop
 returns c =
     let l = c .before in
     let n = l .before .args .n in
-    let none : l .loop .left ≡ 0 = omega arith in
+    let none : l .loop .rest ≡ 0 = omega arith in
     record { some = l .loop .inv .0; enough = div-none n (10 ^ l .loop .count) (ten-pos (l .loop .count)) (sym (l .loop .inv .2) ∙ none); least = l .loop .inv .3 }
 
 pub digit-count-spec : {M : Type 1} → statement M

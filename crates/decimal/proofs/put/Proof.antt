@@ -7,7 +7,8 @@ use mathlib.Core.Path.{_≡_, refl, sym, ap, _∙_}
 use lib.ListN.{length, drop, length-set}
 use lib.Seq.{drop-length}
 use Rattle.decimal.specs.Columns.{fieldOf}
-use Rattle.decimal.proofs.WriteLaws.{div-more, column-more}
+use Rattle.decimal.specs.ColumnLaws.{div-more}
+use Rattle.decimal.proofs.WriteLaws.{column-more}
 use Rattle.decimal.proofs.put.Statement.{statement}
 use Rattle.decimal.proofs.put.Tie as tie
 

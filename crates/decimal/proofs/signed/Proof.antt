@@ -10,9 +10,10 @@ use mir.Syntax.{w32}
 use mir.Val.{SFits, toZ, ofZ}
 use mir.Facts.{toZ-ofZ}
 use Rattle.decimal.specs.Number.{natural, negated, unsigned, signed}
+use Rattle.decimal.specs.NumberLaws.{negated-more}
 use Rattle.decimal.specs.Reading.{answerOf}
 use Rattle.decimal.specs.declared.Field.the-variants.{Value}
-use Rattle.decimal.proofs.NumberLaws.{signed-none, signed-minus, signed-plain, negated-zero, negated-more, parsed-some, parsed-none, natural-fits}
+use Rattle.decimal.proofs.NumberLaws.{signed-none, signed-minus, signed-plain, negated-zero, parsed-some, parsed-none, natural-fits}
 use Rattle.decimal.proofs.SignLaws.{minus-bits, negated-fits}
 use borrow.Author.Needs.{needs}
 use Rattle.decimal.proofs.signed.Statement.{statement}
