@@ -1,1 +1,2 @@
 pub mod Submasks
+pub mod Filling

@@ -3,10 +3,11 @@
 use Prim.Native.Nat.{ℕ, _+_, _-_, _^_, _≤_, _<_}
 use mathlib.Core.Path.{_≡_}
 use mathlib.Core.List.{List}
-use lib.ListN.{length, getD}
+use lib.ListN.{length, getD, take}
+use Rattle.lists.specs.Lists.{Every}
 use Rattle.cover.specs.declared.Key.{Key}
 use Rattle.cover.specs.Key.{key, leaf-key, _≼_, join}
-use Rattle.cover.specs.Limits.{leastInputs, mostInputs, mostReached}
+use Rattle.cover.specs.Limits.{leastInputs, mostInputs, leastFanins, mostFanins, mostBelow, mostReached}
 use Rattle.cover.specs.Masks.{select, Within}
 use Rattle.cover.specs.Reach.{LeastReach}
 
@@ -48,3 +49,32 @@ pub record Made (K : ℕ) (bs ws : List ℕ) (top r : ℕ) (a : Key) (u : ℕ) :
 pub record BestJoin (K : ℕ) (bs ws : List ℕ) (top r : ℕ) (a : Key) (u : ℕ) : Type 0 where
   pub made : Made K bs ws top r a u
   pub low : (v : ℕ) → 0 < v → Within v r → a ≼ join K (entry bs ws (top + r - v)) (entry bs ws v)
+
+-- `a` and `u` are right for the mask s: the key is the least that the selected keys reach; where u is 0 it is a single fanin's,
+-- and else the join of those at the submask u and at the rest
+pub record Entered (K : ℕ) (ks : List Key) (bs ws : List ℕ) (s : ℕ) (a : Key) (u : ℕ) : Type 0 where
+  pub least : LeastReach K (select s ks) a
+  pub alone : u ≡ 0 → (h : ℕ) × (h < length ks) × (s ≡ 2 ^ h) × (a ≡ getD ks h leaf-key)
+  pub apart : 0 < u → Within u s × (u < s) × (a ≡ join K (entry bs ws (s - u)) (entry bs ws u))
+
+-- so at each mask below n
+pub record Entries (K : ℕ) (ks : List Key) (bs ws us : List ℕ) (n : ℕ) : Type 0 where
+  pub at : (s : ℕ) → 0 < s → s < n → Entered K ks bs ws s (entry bs ws s) (getD us s 0)
+
+-- the key of a fanin: at least one input and at most K, with few tables below
+pub record Fanin (K : ℕ) (a : Key) : Type 0 where
+  pub some : 1 ≤ a .width
+  pub most : a .width ≤ K
+  pub few : a .below ≤ mostBelow
+
+-- what can be searched: the keys of from 2 to 10 fanins
+pub record Good (K : ℕ) (ks : List Key) : Type 0 where
+  pub table : (leastInputs ≤ K) × (K ≤ mostInputs)
+  pub count : (leastFanins ≤ length ks) × (length ks ≤ mostFanins)
+  pub keys : Every (Fanin K) ks
+
+-- and the arrays for it: one place for each mask of ten fanins
+pub record Fillable (K count : ℕ) (keys : List Key) (bs ws us : List ℕ) : Type 0 where
+  pub good : Good K (take count keys)
+  pub size : length (take count keys) ≡ count
+  pub rooms : (length bs ≡ 1024) × (length ws ≡ 1024) × (length us ≡ 1024)

@@ -64,6 +64,10 @@ is-pack r K c w m h =
     (λ f g. let e = h .1 f g in key-path (e .0) (e .1))
     (λ f g. let e = h .2 f g in key-path (e .0) (e .1))
 
+-- a join has at most two tables more than its operands have
+pub join-below : (K : ℕ) (a b : Key) → (join K a b) .below ≤ a .below + b .below + 2
+join-below K a b = pack-cases K _ _ _ (λ r. r .below ≤ a .below + b .below + 2) (omega arith) (omega arith) (omega arith)
+
 pub join-comm : (K : ℕ) (a b : Key) → join K a b ≡ join K b a
 join-comm K a b = rw (add-comm (a .below), add-comm (a .width), min-comm (a .width))
 

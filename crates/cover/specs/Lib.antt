@@ -20,7 +20,9 @@ pub mod Subsets
 pub mod SubsetLaws
 pub mod Least
 pub mod MaskLaws
+pub mod ReachBounds
 pub mod MaskSearch
+pub mod EntryLaws
 pub mod MaskPlans
 pub mod Search
 pub mod BitLaws

@@ -1,9 +1,10 @@
 // Covers of a tree of gates by lookup tables, and the least number of tables.
 ghost use mathlib.Core.Path.{_≡_};
 ghost use mathlib.Core.Bool.{true, false};
-ghost use Prim.Native.Nat.{min, _<_};
+ghost use Prim.Native.Nat.{min, _≤_, _<_, _^_};
+ghost use lib.ListN.{take};
 ghost use Rattle.cover.specs.Key.{join as joinOf, cuts as cutsOf, _≼_};
-ghost use Rattle.cover.specs.Entries.{Joinable, Split, BestJoin, entry};
+ghost use Rattle.cover.specs.Entries.{Joinable, Split, BestJoin, Fillable, Entries, entry};
 
 // What matters of a cover of a tree: the tables below the one that holds the root, and the inputs of that one.
 pub struct Key {
@@ -125,5 +126,45 @@ fn best_join<'a>(
     Choice {
         key,
         sub: sub as u16,
+    }
+}
+
+// Fills the arrays at every mask of the first count fanins, in rising order, and gives the number past the last.
+fn fill(
+    k: u8,
+    count: usize,
+    keys: [Key; 10],
+    below: &mut [u16; 1024],
+    width: &mut [u8; 1024],
+    split: &mut [u16; 1024],
+) -> usize
+    requires { ⌜ Fillable k count keys (now below) (now width) (now split) ⌝ }
+    ensures { λ r. ⌜ (r ≡ 2 ^ count) × Entries k (take count keys) (now (below .exit)) (now (width .exit)) (now (split .exit)) r ⌝ }
+{
+    let mut h: usize = 0;
+    let mut top: usize = 0;
+    let mut next: usize = 1;
+    let mut s: usize = 1;
+    loop {
+        if s == next {
+            if h == count {
+                return s;
+            }
+            let key = keys[h];
+            below[s] = key.below;
+            width[s] = key.width;
+            split[s] = 0;
+            h += 1;
+            top = s;
+            next = s + s;
+            s += 1;
+        } else {
+            let c = best_join(k, top, s - top, below, width);
+            let key = c.key;
+            below[s] = key.below;
+            width[s] = key.width;
+            split[s] = c.sub;
+            s += 1;
+        }
     }
 }

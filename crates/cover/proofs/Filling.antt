@@ -1,0 +1,143 @@
+-- The loop that fills the arrays in rising order of masks: what holds before the mask s. Assumes nothing.
+use Prim.Native.Nat.{ℕ, zero, suc, _+_, _-_, _^_, _≤_, _<_}
+use native.Mathlib.Omega.{arith}
+use native.Mathlib.Decide.{decLt}
+use native.Mathlib.Numerals.{add-one}
+use mathlib.Core.Logic.{by-cases}
+use mathlib.Core.Path.{_≡_, refl, sym, ap, _∙_}
+use mathlib.Core.List.{List, [], _∷_}
+use lib.ListN.{length, getD, take, set, length-take, length-set}
+use lib.Seq.{getD-take}
+use lib.Pow.{pow-pos, pow-lt, pow-mono}
+use Rattle.cover.specs.declared.Key.{Key}
+use Rattle.cover.specs.Key.{leaf-key}
+use Rattle.cover.specs.Entries.{BestJoin, Entered, Entries, Split, Good}
+use Rattle.cover.specs.EntryLaws.{entries-more, entries-small, entered-one, entered-join}
+
+-- `h` fanins have come, `next` is the next one's bit, and `top` the bit of the one before
+pub record Filling (K count : ℕ) (ks : List Key) (bs ws us : List ℕ) (h top next s : ℕ) : Type 0 where
+  pub fanins : h ≤ count
+  pub bit : next ≡ 2 ^ h
+  pub room : next ≤ 2 ^ count
+  pub some : 1 ≤ s
+  pub most : s ≤ next
+  pub half : s < next → (g : ℕ) × (h ≡ g + 1) × (top ≡ 2 ^ g) × (top < s)
+  pub sizes : (length bs ≡ 1024) × (length ws ≡ 1024) × (length us ≡ 1024)
+  pub entries : Entries K ks bs ws us s
+
+-- an element that is there, whatever stands for one that is not
+at-any : {A : Type 0} (xs : List A) (i : ℕ) (d e : A) → i < length xs → getD xs i d ≡ getD xs i e
+at-any [] i d e l = absurd (omega arith)
+at-any (x ∷ xs) zero d e l = refl
+at-any (x ∷ xs) (suc i) d e l = at-any xs i d e (omega arith)
+
+pub taken-at : {A : Type 0} (xs : List A) (n i : ℕ) (d e : A) → i < n → length (take n xs) ≡ n → getD xs i d ≡ getD (take n xs) i e
+taken-at xs n i d e l s = at-any xs i d e (omega (arith, length-take n xs)) ∙ sym (getD-take n xs i e l)
+
+-- a mask that has a place in the arrays, and is not past the last
+abbrev pub Place : ℕ → ℕ → Type 0
+Place count s = (s < 2 ^ count) × (s < 1024)
+
+module _ {K count : ℕ} {ks : List Key} where
+  pub filling-first : {bs ws us : List ℕ} → (length bs ≡ 1024) × (length ws ≡ 1024) × (length us ≡ 1024) →
+      Filling K count ks bs ws us 0 0 1 1
+  filling-first l = record {
+    fanins = omega arith;
+    bit = refl;
+    room = pow-pos count;
+    some = omega arith;
+    most = omega arith;
+    half = λ l. absurd (omega arith);
+    sizes = l;
+    entries = record { at = λ s p l. absurd (omega arith) };
+  }
+
+  module _ (good : Good K ks) (size : length ks ≡ count) {bs ws us : List ℕ} {h top next s : ℕ}
+      (f : Filling K count ks bs ws us h top next s) where
+    -- no mask is past the arrays
+    filling-room : 2 ^ count ≤ 1024
+    filling-room = let l : count ≤ 10 = omega (arith, good .count .1) in pow-mono l
+
+    sizes-set : (x y z : ℕ) → (length (set bs s x) ≡ 1024) × (length (set ws s y) ≡ 1024) × (length (set us s z) ≡ 1024)
+    sizes-set x y z = simp length-set (f .sizes)
+
+    pub place-one : s ≡ next → ((h ≡ count) → ⊥) → Place count s × (h < count) × (count ≤ 10)
+    place-one e n =
+        let l : h < count = by-cases (decLt h count) (λ l. l) (λ l. absurd (n (omega arith))) in
+        let p = pow-lt l in
+        let r = filling-room in
+        (omega arith, l, omega (arith, good .count .1))
+
+    more : s < 2 ^ count → {a : Key} {u : ℕ} → Entered K ks bs ws s a u →
+        Entries K ks (set bs s (a .below)) (set ws s (a .width)) (set us s u) (s + 1)
+    more l e =
+        let r = filling-room in
+        let z = f .sizes in
+        entries-more (omega arith) (omega arith) (omega arith) (f .entries) e
+
+    -- the next fanin's bit
+    pub filling-one : s ≡ next → h < count → (a : Key) → a ≡ getD ks h leaf-key →
+        Filling K count ks (set bs s (a .below)) (set ws s (a .width)) (set us s 0) (h + 1) s (s + s) (s + 1)
+    filling-one e l a k =
+        let p : 2 ^ suc h ≤ 2 ^ count = pow-mono l in
+        let q = pow-pos h in
+        let b : s ≡ 2 ^ h = omega arith in record {
+          fanins = omega arith;
+          bit = rw add-one (omega arith);
+          room = omega arith;
+          some = omega arith;
+          most = omega arith;
+          half = λ l. (h, refl, b, omega arith);
+          sizes = sizes-set (a .below) (a .width) 0;
+          entries = more (omega arith) (rw (b, k) (entered-one good h (omega arith)));
+        }
+
+    -- the other bits of a mask that has more than its highest
+    module _ (n : (s ≡ next) → ⊥) where
+      within : s < next
+      within = by-cases (decLt s next) (λ l. l) (λ l. absurd (n (omega arith)))
+
+      pub place-join : Place count s × (top ≤ s)
+      place-join =
+          let l = within in
+          let g = f .half l in
+          let t = g .3 in
+          let r = filling-room in
+          (omega arith, omega arith)
+
+      pub filling-split : Split K top (s - top) bs ws
+      filling-split =
+          let l = within in
+          let g = f .half l in
+          let t = g .3 in
+          let r = filling-room in
+          let e : top + (s - top) ≡ s = omega arith in record {
+            table = good .table;
+            some = omega arith;
+            below = omega (arith, ap (λ n. 2 ^ n) (g .1 ∙ add-one (g .0)));
+            within = omega arith;
+            keys = rw e (entries-small good (f .entries));
+          }
+
+      joined : (g r : ℕ) {a : Key} {u : ℕ} → top ≡ 2 ^ g → top + r ≡ s → g < length ks → 0 < r → r < top →
+          BestJoin K bs ws top r a u → Entered K ks bs ws s a u
+      joined g r e w l p q b =
+          let v : 2 ^ g + r ≡ s = omega arith in
+          let es : Entries K ks bs ws us (2 ^ g + r) = rw v (f .entries) in
+          rw v at (entered-join good g r l p (omega arith) es (rw e at b))
+
+      pub filling-join : {a : Key} {u : ℕ} → BestJoin K bs ws top (s - top) a u →
+          Filling K count ks (set bs s (a .below)) (set ws s (a .width)) (set us s u) h top next (s + 1)
+      filling-join {a} {u} b =
+          let l = within in
+          let g = f .half l in
+          let t = g .3 in record {
+            fanins = omega arith;
+            bit = f .bit;
+            room = f .room;
+            some = omega arith;
+            most = omega arith;
+            half = λ l. (g .0, g .1, g .2, omega arith);
+            sizes = sizes-set (a .below) (a .width) u;
+            entries = more (omega arith) (joined (g .0) (s - top) (g .2) (omega arith) (omega arith) (filling-split .some) (filling-split .below) b);
+          }

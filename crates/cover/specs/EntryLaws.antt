@@ -1,0 +1,76 @@
+-- Laws of the arrays that the search fills: one more entry, and what the entries below a mask give for it.
+use Prim.Native.Nat.{ℕ, _+_, _-_, _^_, _≤_, _<_}
+use native.Mathlib.Omega.{arith}
+use native.Mathlib.Decide.{decLt}
+use mathlib.Core.Path.{_≡_, refl}
+use mathlib.Core.Logic.{by-cases}
+use mathlib.Core.List.{List}
+use lib.ListN.{length, getD, set}
+use lib.Seq.{getD-set-same, getD-set-other}
+use Rattle.cover.specs.declared.Key.{Key}
+use Rattle.cover.specs.Key.{leaf-key}
+use Rattle.cover.specs.MaskLaws.{within-le, within-top}
+use Rattle.cover.specs.MaskSearch.{mask-one, mask-step}
+use Rattle.cover.specs.Reach.{Wide}
+use Rattle.cover.specs.ReachBounds.{reach-small}
+use Rattle.cover.specs.Entries.{entry, Smalls, BestJoin, Entered, Entries, Good}
+
+kept : (xs : List ℕ) (i x s : ℕ) → s < i → getD (set xs i x) s 0 ≡ getD xs s 0
+kept xs i x s l = getD-set-other xs i s x 0 (λ e. omega arith)
+
+-- a store at s or above
+entered-kept : {K : ℕ} {ks : List Key} {bs ws : List ℕ} {s : ℕ} {a : Key} {u : ℕ} (i x y : ℕ) → s ≤ i →
+    Entered K ks bs ws s a u → Entered K ks (set bs i x) (set ws i y) s a u
+entered-kept {bs = bs} {ws = ws} {s = s} {u = u} i x y l e = record {
+  least = e .least;
+  alone = e .alone;
+  apart = λ p.
+      let h = e .apart p in
+      let j = h .1 in
+      let g : s - u < i = omega arith in
+      let f : u < i = omega arith in
+      (h .0, j, rw (kept bs i x (s - u) g, kept ws i y (s - u) g, kept bs i x u f, kept ws i y u f) (h .2));
+}
+
+-- one entry more
+pub entries-more : {K : ℕ} {ks : List Key} {bs ws us : List ℕ} {n : ℕ} {a : Key} {u : ℕ} →
+    n < length bs → n < length ws → n < length us → Entries K ks bs ws us n → Entered K ks bs ws n a u →
+    Entries K ks (set bs n (a .below)) (set ws n (a .width)) (set us n u) (n + 1)
+entries-more {bs = bs} {ws = ws} {us = us} {n = n} {a = a} {u = u} lb lw lu es e = record {
+  at = λ s p l.
+      by-cases (decLt s n)
+      (λ h.
+      rw (kept bs n (a .below) s h, kept ws n (a .width) s h, kept us n u s h)
+      (entered-kept n (a .below) (a .width) (omega arith) (es .at s p h)))
+      (λ h.
+      let q : s ≡ n = omega arith in
+      rw (q, getD-set-same bs n (a .below) 0 lb, getD-set-same ws n (a .width) 0 lw, getD-set-same us n u 0 lu)
+      (entered-kept n (a .below) (a .width) (omega arith) e));
+}
+
+module _ {K : ℕ} {ks : List Key} (good : Good K ks) where
+  wide : Wide ks
+  wide a m = good .keys a m .some
+
+  pub entries-small : {bs ws us : List ℕ} {n : ℕ} → Entries K ks bs ws us n → Smalls K bs ws n
+  entries-small es s p l = reach-small K ks good s (es .at s p l .least .reach)
+
+  -- a mask of one bit
+  pub entered-one : {bs ws : List ℕ} (h : ℕ) → h < length ks → Entered K ks bs ws (2 ^ h) (getD ks h leaf-key) 0
+  entered-one h l = record {
+    least = mask-one K (good .table .0) ks wide h l;
+    alone = λ z. (h, l, refl, refl);
+    apart = λ p. absurd (omega arith);
+  }
+
+  -- a mask of more: its highest bit h, and r below it
+  pub entered-join : {bs ws us : List ℕ} {a : Key} {u : ℕ} (h r : ℕ) → h < length ks → 0 < r → r < 2 ^ h →
+      Entries K ks bs ws us (2 ^ h + r) → BestJoin K bs ws (2 ^ h) r a u → Entered K ks bs ws (2 ^ h + r) a u
+  entered-join {bs} {ws} {a = a} {u = u} h r l p q es b =
+      let m = b .made in record {
+        least =
+            mask-step K (good .table .0) ks wide h r l p q (entry bs ws) (λ s f g. es .at s f g .least) a (u, m .some, m .part, m .is)
+            (b .low);
+        alone = λ z. absurd (omega (arith, m .some));
+        apart = λ f. (within-top h r u q (m .part), omega (arith, within-le u r (m .part)), m .is);
+      }

@@ -1,0 +1,61 @@
+-- How large a key can be that a list of keys reaches: its inputs, and the tables below it.
+use Prim.Native.Nat.{ℕ, zero, suc, _+_, _*_, _/_, _%_, _≤_}
+use native.Mathlib.Omega.{arith}
+use mathlib.Core.Path.{_≡_, sym, _∙_}
+use mathlib.Core.List.{List, [], _∷_}
+use lib.ListN.{length}
+use Rattle.lists.specs.Lists.{Every, Mix, sum}
+use Rattle.lists.specs.ListLaws.{every-head, every-tail}
+use Rattle.lists.specs.MixLaws.{mix-append, mix-every}
+use Rattle.lists.specs.NumberLaws.{sum-append, sum-permuted}
+use Rattle.cover.specs.declared.Key.{Key}
+use Rattle.cover.specs.Key.{join}
+use Rattle.cover.specs.KeyLaws.{join-width, join-below}
+use Rattle.cover.specs.Cover.{pick}
+use Rattle.cover.specs.Masks.{select}
+use Rattle.cover.specs.MaskLaws.{select-every}
+use Rattle.cover.specs.Reach.{Reach, one, both, Wide}
+use Rattle.cover.specs.ReachLaws.{reach-wide}
+use Rattle.cover.specs.Entries.{Small, Fanin, Good}
+
+-- the tables below a fanin, and two for it
+abbrev cost : Key → ℕ
+cost a = a .below + 2
+
+sum-mix : {xs ys zs : List Key} → Mix xs ys zs → sum cost zs ≡ sum cost xs + sum cost ys
+sum-mix {xs} {ys} m = sym (sum-permuted cost (mix-append m)) ∙ sum-append cost xs ys
+
+-- each fanin adds its own tables and two, the first its own alone
+pub reach-below : (K : ℕ) {zs : List Key} {r : Key} → Reach K zs r → r .below + 2 ≤ sum (λ a. a .below + 2) zs
+reach-below K (one {x = x}) = omega arith
+reach-below K (both {a = a} {b = b} m p q) = omega (arith, sum-mix m, reach-below K p, reach-below K q, join-below K a b)
+
+module _ (K : ℕ) (two : 2 ≤ K) where
+  pub reach-width : {zs : List Key} {r : Key} → Reach K zs r → Wide zs → Every (λ a. a .width ≤ K) zs → r .width ≤ K
+  reach-width one w h = every-head h
+  reach-width (both {a = a} {b = b} m p q) w h =
+      let v = mix-every m w in
+      omega (arith, join-width K two a b (reach-wide two p (v .0)) (reach-wide two q (v .1)))
+
+sum-few : (K : ℕ) (ks : List Key) → Every (Fanin K) ks → sum cost ks ≤ 257 * length ks
+sum-few K [] h = omega arith
+sum-few K (k ∷ ks) h = let f = every-head h in omega (arith, sum-few K ks (every-tail h))
+
+pick-length : {A : Type 0} (k : A) (xs : List A) (d : ℕ) → length (pick d xs (k ∷ xs)) ≤ suc (length xs)
+pick-length k xs zero = omega arith
+pick-length k xs (suc d) = omega arith
+
+select-length : {A : Type 0} (s : ℕ) (ks : List A) → length (select s ks) ≤ length ks
+select-length s [] = omega arith
+select-length s (k ∷ ks) = omega (arith, pick-length k (select (s / 2) ks) (s % 2), select-length (s / 2) ks)
+
+-- what some of the fanins reach
+pub reach-small : (K : ℕ) (ks : List Key) → Good K ks → (s : ℕ) {r : Key} → Reach K (select s ks) r → Small K r
+reach-small K ks g s {r} p =
+    let f = select-every ks s (g .keys) in
+    let w : Wide (select s ks) = λ a m. f a m .some in
+    record {
+      some = reach-wide (g .table .0) p w;
+      most = reach-width K (g .table .0) p w (λ a m. f a m .most);
+      few = omega (arith, reach-below K p, sum-few K (select s ks) f, select-length s ks, g .count .1);
+    }
