@@ -1,2 +1,3 @@
 pub mod Submasks
 pub mod Filling
+pub mod Writing

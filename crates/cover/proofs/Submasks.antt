@@ -12,7 +12,7 @@ use Rattle.cover.specs.Key.{_≼_, join}
 use Rattle.cover.specs.KeyLaws.{≼-refl, ≼-trans}
 use Rattle.cover.specs.Masks.{Within}
 use Rattle.cover.specs.MaskLaws.{within-le, next-within, next-greatest}
-use Rattle.cover.specs.Entries.{entry, Joinable, Split, Made, BestJoin}
+use Rattle.cover.specs.Entries.{entry, JoinableAt, Split, Made, BestJoin}
 
 -- the key `a`, made by w, is no worse than the join by any submask above u, which is the next to be tried
 pub record Passed (K : ℕ) (bs ws : List ℕ) (top r : ℕ) (a : Key) (w u : ℕ) : Type 0 where
@@ -26,13 +26,12 @@ module _ (K : ℕ) (bs ws : List ℕ) (top r : ℕ) where
   abbrev by : ℕ → Key
   by u = join K (entry bs ws (top + r - u)) (entry bs ws u)
 
-  pub joinable-at : Split K top r bs ws → (u : ℕ) → 0 < u → u ≤ r →
-      (top + r - u < 1024) × (u < 1024) × Joinable K (entry bs ws (top + r - u)) (entry bs ws u)
-  joinable-at h u p l = (
-    omega arith,
-    omega arith,
-    record { table = h .table; left = h .keys (top + r - u) (omega arith) (omega arith); right = h .keys u p (omega arith) },
-  )
+  pub joinable-at : Split K top r bs ws → (u : ℕ) → 0 < u → u ≤ r → JoinableAt K bs ws (top + r - u) u
+  joinable-at h u p l = record {
+    places = (omega arith, omega arith);
+    keys =
+        record { table = h .table; left = h .keys (top + r - u) (omega arith) (omega arith); right = h .keys u p (omega arith) };
+  }
 
   -- a submask above the next one is u or above u
   above-next : (u : ℕ) → Within u r → (P : ℕ → Type 0) → P u → ((v : ℕ) → u < v → Within v r → P v) →

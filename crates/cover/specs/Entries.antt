@@ -27,6 +27,11 @@ pub record Joinable (K : ℕ) (a b : Key) : Type 0 where
   pub left : Small K a
   pub right : Small K b
 
+-- at two masks
+pub record JoinableAt (K : ℕ) (bs ws : List ℕ) (x y : ℕ) : Type 0 where
+  pub places : (x < 1024) × (y < 1024)
+  pub keys : Joinable K (entry bs ws x) (entry bs ws y)
+
 -- at each mask below n
 abbrev pub Smalls : ℕ → List ℕ → List ℕ → ℕ → Type 0
 Smalls K bs ws n = (s : ℕ) → 0 < s → s < n → Small K (entry bs ws s)
@@ -78,3 +83,7 @@ pub record Fillable (K count : ℕ) (keys : List Key) (bs ws us : List ℕ) : Ty
   pub good : Good K (take count keys)
   pub size : length (take count keys) ≡ count
   pub rooms : (length bs ≡ 1024) × (length ws ≡ 1024) × (length us ≡ 1024)
+
+-- a mask of one bit of at most ten
+abbrev pub OneBit : ℕ → Type 0
+OneBit s = (h : ℕ) × (h < mostFanins) × (s ≡ 2 ^ h)

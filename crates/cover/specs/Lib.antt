@@ -24,6 +24,8 @@ pub mod ReachBounds
 pub mod MaskSearch
 pub mod EntryLaws
 pub mod MaskPlans
+pub mod PlanBounds
+pub mod Steps
 pub mod Search
 pub mod BitLaws
 pub mod Eval

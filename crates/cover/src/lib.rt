@@ -3,8 +3,9 @@ ghost use mathlib.Core.Path.{_≡_};
 ghost use mathlib.Core.Bool.{true, false};
 ghost use Prim.Native.Nat.{min, _≤_, _<_, _^_};
 ghost use lib.ListN.{take};
-ghost use Rattle.cover.specs.Key.{join as joinOf, cuts as cutsOf, _≼_};
-ghost use Rattle.cover.specs.Entries.{Joinable, Split, BestJoin, Fillable, Entries, entry};
+ghost use Rattle.cover.specs.Key.{join as joinOf, _≼_};
+ghost use Rattle.cover.specs.Steps.{stepped, joinToken, Took, Writable, Writes};
+ghost use Rattle.cover.specs.Entries.{Joinable, JoinableAt, Split, BestJoin, Fillable, Entries, OneBit, entry};
 
 // What matters of a cover of a tree: the tables below the one that holds the root, and the inputs of that one.
 pub struct Key {
@@ -17,6 +18,19 @@ pub struct Key {
 pub enum Token {
     Push(u8),
     Join(bool, bool),
+}
+
+// A token in a struct of its own, for an array.
+pub struct Step {
+    pub token: Token,
+}
+
+// A plan for a gate, or none where ok is false: the key that it gives, and its first len steps.
+pub struct Plan {
+    pub ok: bool,
+    pub key: Key,
+    pub len: u8,
+    pub steps: [Step; 19],
 }
 
 // The lesser of two numbers.
@@ -53,7 +67,7 @@ fn join(k: u8, a: Key, b: Key) -> Key
 // The token of that join: which operands are placed.
 fn join_token(k: u8, a: Key, b: Key) -> Token
     requires { ⌜ Joinable k a b ⌝ }
-    ensures { λ r. ⌜ r ≡ Token.Join (cutsOf k a b .0) (cutsOf k a b .1) ⌝ }
+    ensures { λ r. ⌜ r ≡ joinToken k a b ⌝ }
 {
     if a.width + b.width <= k {
         return Token::Join(false, false);
@@ -78,19 +92,24 @@ fn precedes(a: Key, b: Key) -> bool
     }
 }
 
-// The join of the entries at two masks.
+// The key at a mask.
+fn key_at<'a>(s: usize, below: &'a [u16; 1024], width: &'a [u8; 1024]) -> Key
+    requires { ⌜ s < 1024 ⌝ }
+    ensures { λ r. ⌜ r ≡ entry (now (below .entry)) (now (width .entry)) s ⌝ }
+{
+    Key {
+        below: below[s],
+        width: width[s],
+    }
+}
+
+// The join of the keys at two masks.
 fn join_at<'a>(k: u8, x: usize, y: usize, below: &'a [u16; 1024], width: &'a [u8; 1024]) -> Key
-    requires { ⌜ (x < 1024) × (y < 1024) × Joinable k (entry (now below) (now width) x) (entry (now below) (now width) y) ⌝ }
+    requires { ⌜ JoinableAt k (now below) (now width) x y ⌝ }
     ensures { λ r. ⌜ r ≡ joinOf k (entry (now (below .entry)) (now (width .entry)) x) (entry (now (below .entry)) (now (width .entry)) y) ⌝ }
 {
-    let a = Key {
-        below: below[x],
-        width: width[x],
-    };
-    let b = Key {
-        below: below[y],
-        width: width[y],
-    };
+    let a = key_at(x, below, width);
+    let b = key_at(y, below, width);
     join(k, a, b)
 }
 
@@ -167,4 +186,81 @@ fn fill(
             s += 1;
         }
     }
+}
+
+// The number of a mask's only bit.
+fn bit_number(s: usize) -> u8
+    requires { ⌜ OneBit s ⌝ }
+    ensures { λ r. ⌜ (2 ^ r ≡ s) × (r < 10) ⌝ }
+{
+    let mut h: u8 = 0;
+    let mut b: usize = 1;
+    while b < s {
+        b += b;
+        h += 1;
+    }
+    h
+}
+
+// The plan with one step more.
+fn with_step(plan: Plan, token: Token) -> Plan
+    requires { ⌜ plan .len < 19 ⌝ }
+    ensures { λ r. ⌜ r ≡ stepped plan token ⌝ }
+{
+    let mut p = plan;
+    let len = p.len;
+    let at = len as usize;
+    let step = Step { token };
+    p.steps[at] = step;
+    p.len = len + 1;
+    p
+}
+
+// The plan with the step that takes the fanin of a mask of one bit.
+fn with_fanin(s: usize, plan: Plan) -> Plan
+    requires { ⌜ OneBit s × (plan .len < 19) ⌝ }
+    ensures { λ r. ⌜ Took s plan r ⌝ }
+{
+    let h = bit_number(s);
+    with_step(plan, Token::Push(h))
+}
+
+// The plan with the step that joins the operands of two masks.
+fn with_join<'a>(
+    k: u8,
+    x: usize,
+    y: usize,
+    below: &'a [u16; 1024],
+    width: &'a [u8; 1024],
+    plan: Plan,
+) -> Plan
+    requires { ⌜ JoinableAt k (now below) (now width) x y × (plan .len < 19) ⌝ }
+    ensures { λ r. ⌜ r ≡ stepped plan (joinToken k (entry (now (below .entry)) (now (width .entry)) x) (entry (now (below .entry)) (now (width .entry)) y)) ⌝ }
+{
+    let a = key_at(x, below, width);
+    let b = key_at(y, below, width);
+    let token = join_token(k, a, b);
+    with_step(plan, token)
+}
+
+// The plan with the steps for the mask s added. It calls itself for the two parts of a mask, so at most ten deep.
+fn with_steps<'a>(
+    k: u8,
+    s: usize,
+    below: &'a [u16; 1024],
+    width: &'a [u8; 1024],
+    split: &'a [u16; 1024],
+    plan: Plan,
+) -> Plan
+    requires { ⌜ Writable k (now below) (now width) (now split) s plan ⌝ }
+    ensures { λ r. ⌜ Writes k (now (below .entry)) (now (width .entry)) (now (split .entry)) s plan r ⌝ }
+{
+    let u = split[s] as usize;
+    if u == 0 {
+        return with_fanin(s, plan);
+    }
+    let rest = s - u;
+    let first = with_steps(k, rest, below, width, split, plan);
+    let second = with_steps(k, u, below, width, split, first);
+    with_join(k, rest, u, below, width, second)
 }
