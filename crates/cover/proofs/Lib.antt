@@ -1,3 +1,4 @@
 pub mod Submasks
 pub mod Filling
 pub mod Writing
+pub mod Checks

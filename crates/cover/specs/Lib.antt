@@ -26,6 +26,7 @@ pub mod EntryLaws
 pub mod MaskPlans
 pub mod PlanBounds
 pub mod Steps
+pub mod PlanOf
 pub mod Search
 pub mod BitLaws
 pub mod Eval

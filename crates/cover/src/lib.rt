@@ -4,6 +4,8 @@ ghost use mathlib.Core.Bool.{true, false};
 ghost use Prim.Native.Nat.{min, _≤_, _<_, _^_};
 ghost use lib.ListN.{take};
 ghost use Rattle.cover.specs.Key.{join as joinOf, _≼_};
+ghost use Rattle.lists.specs.Tests.{all};
+ghost use Rattle.cover.specs.PlanOf.{faninTest, goodInput, blank as blankOf, PlanOf};
 ghost use Rattle.cover.specs.Steps.{stepped, joinToken, Took, Writable, Writes};
 ghost use Rattle.cover.specs.Entries.{Joinable, JoinableAt, Split, BestJoin, Fillable, Entries, OneBit, entry};
 
@@ -263,4 +265,68 @@ fn with_steps<'a>(
     let first = with_steps(k, rest, below, width, split, plan);
     let second = with_steps(k, u, below, width, split, first);
     with_join(k, rest, u, below, width, second)
+}
+
+// Whether a fanin has such a key: from 1 to k inputs, and few enough tables below.
+fn is_fanin(k: u8, a: Key) -> bool
+    ensures { λ r. ⌜ r ≡ faninTest k a ⌝ }
+{
+    if a.width < 1 {
+        return false;
+    }
+    if k < a.width {
+        return false;
+    }
+    a.below <= 255
+}
+
+// Whether each of the first count keys is a fanin's.
+fn are_fanins(k: u8, count: usize, keys: [Key; 10]) -> bool
+    requires { ⌜ count ≤ 10 ⌝ }
+    ensures { λ r. ⌜ r ≡ all (faninTest k) (take count keys) ⌝ }
+{
+    let mut i: usize = 0;
+    while i < count {
+        let a = keys[i];
+        if !is_fanin(k, a) {
+            return false;
+        }
+        i += 1;
+    }
+    true
+}
+
+// Whether a plan can be sought: from 2 to 6 inputs a table, and from 2 to 10 fanins.
+fn is_good(k: u8, count: u8, keys: [Key; 10]) -> bool
+    ensures { λ r. ⌜ r ≡ goodInput k count keys ⌝ }
+{
+    if k < 2 {
+        return false;
+    }
+    if 6 < k {
+        return false;
+    }
+    if count < 2 {
+        return false;
+    }
+    if 10 < count {
+        return false;
+    }
+    are_fanins(k, count as usize, keys)
+}
+
+// A plan of no steps.
+fn blank(ok: bool, key: Key) -> Plan
+    ensures { λ r. ⌜ r ≡ blankOf ok key ⌝ }
+{
+    let step = Step {
+        token: Token::Push(0),
+    };
+    let steps = [step; 19];
+    Plan {
+        ok,
+        key,
+        len: 0,
+        steps,
+    }
 }
