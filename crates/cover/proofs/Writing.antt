@@ -1,14 +1,14 @@
 -- The steps for a mask: one, where it is a single fanin's; else those for the rest and for the submask, and a join.
 -- Assumes nothing.
-use Prim.Native.Nat.{ℕ, _+_, _-_, _*_, _^_, _≤_, _<_}
+use Prim.Native.Nat.{ℕ, _+_, _-_, _^_, _≤_, _<_}
 use native.Mathlib.Omega.{arith}
 use native.Mathlib.Numerals.{add-one}
 use native.Mathlib.Decide.{decLt}
 use mathlib.Core.Logic.{by-cases}
 use mathlib.Core.Path.{_≡_, refl, sym, ap, subst, _∙_}
 use mathlib.Core.Bool.{Bool}
-use mathlib.Core.List.{List, [], _∷_, _++_, map, map-append, append-assoc}
-use lib.ListN.{length, getD, take, set, length-append, length-set}
+use mathlib.Core.List.{List, [], _∷_, _++_, map-append, append-assoc}
+use lib.ListN.{length, getD, take, length-append, length-set}
 use lib.Seq.{take-suc-set}
 use lib.Pow.{pow-lt}
 use Rattle.lists.specs.Lists.{upto}
@@ -22,10 +22,10 @@ use Rattle.cover.specs.declared.Plan.{Plan}
 use Rattle.cover.specs.Key.{leaf-key, cuts, Way}
 use Rattle.cover.specs.KeyLaws.{join-way}
 use Rattle.cover.specs.Masks.{select, Within}
-use Rattle.cover.specs.MaskLaws.{within-le, select-mix, select-some}
+use Rattle.cover.specs.MaskLaws.{select-mix, select-some}
 use Rattle.cover.specs.MaskPlans.{MaskPlanned, mask-plan-one, mask-plan-join}
 use Rattle.cover.specs.PlanBounds.{planned-length}
-use Rattle.cover.specs.Entries.{entry, JoinableAt, Entered, Entries, Good, OneBit}
+use Rattle.cover.specs.Entries.{entry, JoinableAt, Entered, Entries, OneBit}
 use Rattle.cover.specs.EntryLaws.{entries-small}
 use Rattle.cover.specs.Steps.{tokens, stepped, joinToken, Took, Writable, Written, Writes}
 

@@ -12,7 +12,7 @@ use Rattle.cover.specs.Key.{leaf-key}
 use Rattle.cover.specs.MaskLaws.{within-le, within-top}
 use Rattle.cover.specs.MaskSearch.{mask-one, mask-step}
 use Rattle.cover.specs.Reach.{Wide}
-use Rattle.cover.specs.ReachBounds.{reach-small}
+use Rattle.cover.specs.ReachBounds.{select-small}
 use Rattle.cover.specs.Entries.{entry, Smalls, BestJoin, Entered, Entries, Good}
 
 kept : (xs : List ℕ) (i x s : ℕ) → s < i → getD (set xs i x) s 0 ≡ getD xs s 0
@@ -53,7 +53,7 @@ module _ {K : ℕ} {ks : List Key} (good : Good K ks) where
   wide a m = good .keys a m .some
 
   pub entries-small : {bs ws us : List ℕ} {n : ℕ} → Entries K ks bs ws us n → Smalls K bs ws n
-  entries-small es s p l = reach-small K ks good s (es .at s p l .least .reach)
+  entries-small es s p l = select-small good s (es .at s p l .least .reach)
 
   -- a mask of one bit
   pub entered-one : {bs ws : List ℕ} (h : ℕ) → h < length ks → Entered K ks bs ws (2 ^ h) (getD ks h leaf-key) 0

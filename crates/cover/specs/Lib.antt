@@ -27,6 +27,7 @@ pub mod MaskPlans
 pub mod PlanBounds
 pub mod Steps
 pub mod PlanOf
+pub mod PlanOfLaws
 pub mod Search
 pub mod BitLaws
 pub mod Eval

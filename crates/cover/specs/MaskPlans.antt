@@ -1,5 +1,4 @@
 -- Plans that a search by masks writes: one for each mask, of the plans for a submask and for the rest.
--- The plan for the mask of all bits joins all the fanins.
 use Prim.Native.Nat.{ℕ, _-_, _^_, _<_}
 use native.Mathlib.Nat.{add-zero}
 use mathlib.Core.Bool.{Bool}
@@ -13,7 +12,7 @@ use Rattle.lists.specs.NumberLaws.{upto-length, upto-at}
 use Rattle.cover.specs.declared.Key.{Key}
 use Rattle.cover.specs.Key.{leaf-key, Way}
 use Rattle.cover.specs.Masks.{select, Within}
-use Rattle.cover.specs.MaskLaws.{select-top, select-none, select-mix, select-all}
+use Rattle.cover.specs.MaskLaws.{select-top, select-none, select-mix}
 use Rattle.cover.specs.declared.Token.{Token}
 use Rattle.cover.specs.declared.Token.the-variants.{Push as push, Join as join}
 use Rattle.cover.specs.Plans.{fanin, binary, Planned}
@@ -43,12 +42,4 @@ module _ {K : ℕ} {ks : List Key} where
     order = x .order ++ y .order;
     denotes = binary (x .denotes) (y .denotes) z;
     once = permuted-trans (permuted-append (x .once) (y .once)) (mix-append (select-mix (upto (length ks)) u s w));
-  }
-
-  -- the mask of all bits
-  pub mask-plan-all : {p : List Token} {k : Key} → MaskPlanned K ks (2 ^ length ks - 1) p k → Planned K ks (upto (length ks)) p k
-  mask-plan-all x = record {
-    order = x .order;
-    denotes = x .denotes;
-    once = rw (select-all (upto (length ks)) (length ks) (upto-length (length ks))) at (x .once);
   }

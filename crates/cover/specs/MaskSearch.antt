@@ -1,10 +1,10 @@
 -- A search that goes by masks: from the least keys of all smaller masks, the best join of a mask's two parts is the mask's
--- least key. So an array filled in rising order of masks ends with the least key of the whole list.
-use Prim.Native.Nat.{ℕ, zero, suc, _+_, _-_, _^_, _≤_, _<_}
+-- least key. So an array filled in rising order of masks ends with the least key of the whole list (EntryLaws).
+use Prim.Native.Nat.{ℕ, _+_, _-_, _^_, _≤_, _<_}
 use native.Mathlib.Nat.{add-zero}
 use native.Mathlib.Omega.{arith}
 use native.Mathlib.Decide.{decLt}
-use mathlib.Core.Path.{_≡_, refl}
+use mathlib.Core.Path.{_≡_}
 use mathlib.Core.Logic.{by-cases}
 use mathlib.Core.List.{List, _∷_}
 use lib.ListN.{length, getD}
@@ -16,8 +16,8 @@ use Rattle.cover.specs.Key.{leaf-key, _≼_, join}
 use Rattle.cover.specs.Reach.{Reach, both, LeastReach, Wide}
 use Rattle.cover.specs.ReachLaws.{least-permuted, least-one, least-single, no-reach}
 use Rattle.cover.specs.SubsetLaws.{least-step}
-use Rattle.cover.specs.Masks.{select, Within, Filled}
-use Rattle.cover.specs.MaskLaws.{within-le, top-bit, select-mix, select-parted, select-top, select-none, select-all, select-every, select-some}
+use Rattle.cover.specs.Masks.{select, Within}
+use Rattle.cover.specs.MaskLaws.{within-le, select-mix, select-parted, select-top, select-none, select-every, select-some}
 
 module _ (K : ℕ) (two : 2 ≤ K) (ks : List Key) (wide : Wide ks) where
   -- the key at a bit
@@ -75,28 +75,3 @@ module _ (K : ℕ) (two : 2 ≤ K) (ks : List Key) (wide : Wide ks) where
             by-cases (decLt 0 u)
             (λ p. rw (least-one f′ (high-part u p (q .1)), least-one g′ (low-part u p (q .1))) (low u p (q .1)))
             (λ p. let z : u ≡ 0 = omega arith in absurd (no-reach (rw (z, select-none ks) at (g′ .reach))))
-
-  -- so every mask, and the whole list
-  module _ (best : ℕ → Key) (filled : Filled K ks best) where
-    masks-fuel : (n s : ℕ) → s ≤ n → 0 < s → s < 2 ^ length ks → LeastReach K (select s ks) (best s)
-    masks-fuel zero s f p q = absurd (omega arith)
-    masks-fuel (suc n) s f p q =
-        let t = top-bit (length ks) s p q in
-        let h = t .0 in
-        let r = t .1 in
-        let below : (x : ℕ) → 0 < x → x < 2 ^ h + r → LeastReach K (select x ks) (best x)
-        = λ x a b. masks-fuel n x (omega (arith, t .4)) a (omega (arith, t .4)) in
-        rw (t .4)
-        (by-cases (decLt 0 r)
-        (λ c.
-        mask-step h r (t .2) c (t .3) best below (best (2 ^ h + r)) (filled .made h r (t .2) c (t .3)) (λ u. filled .low h r u (t .2) c (t .3)))
-        (λ c.
-        let e : 2 ^ h + r ≡ 2 ^ h = omega arith in
-        rw (e, filled .single h (t .2)) (mask-one h (t .2))))
-
-    pub masks-least : (s : ℕ) → 0 < s → s < 2 ^ length ks → LeastReach K (select s ks) (best s)
-    masks-least s = masks-fuel s s (omega arith)
-
-    pub masks-whole : 1 ≤ length ks → LeastReach K ks (best (2 ^ length ks - 1))
-    masks-whole h =
-        rw (select-all ks (length ks) refl) at (masks-least (2 ^ length ks - 1) (omega (arith, pow-lt h)) (omega (arith, pow-pos (length ks))))

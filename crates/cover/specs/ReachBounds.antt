@@ -9,7 +9,6 @@ use Rattle.lists.specs.ListLaws.{every-head, every-tail}
 use Rattle.lists.specs.MixLaws.{mix-append, mix-every}
 use Rattle.lists.specs.NumberLaws.{sum-append, sum-permuted}
 use Rattle.cover.specs.declared.Key.{Key}
-use Rattle.cover.specs.Key.{join}
 use Rattle.cover.specs.KeyLaws.{join-width, join-below}
 use Rattle.cover.specs.Cover.{pick}
 use Rattle.cover.specs.Masks.{select}
@@ -17,6 +16,7 @@ use Rattle.cover.specs.MaskLaws.{select-every}
 use Rattle.cover.specs.Reach.{Reach, one, both, Wide}
 use Rattle.cover.specs.ReachLaws.{reach-wide}
 use Rattle.cover.specs.Entries.{Small, Fanin, Good}
+use Rattle.cover.specs.Limits.{mostFanins}
 
 -- the tables below a fanin, and two for it
 abbrev cost : Key → ℕ
@@ -49,13 +49,17 @@ select-length : {A : Type 0} (s : ℕ) (ks : List A) → length (select s ks) �
 select-length s [] = omega arith
 select-length s (k ∷ ks) = omega (arith, pick-length k (select (s / 2) ks) (s % 2), select-length (s / 2) ks)
 
--- what some of the fanins reach
-pub reach-small : (K : ℕ) (ks : List Key) → Good K ks → (s : ℕ) {r : Key} → Reach K (select s ks) r → Small K r
-reach-small K ks g s {r} p =
-    let f = select-every ks s (g .keys) in
-    let w : Wide (select s ks) = λ a m. f a m .some in
+-- at most ten fanins reach a small key
+pub reach-small : {K : ℕ} {ks : List Key} {r : Key} → 2 ≤ K → Every (Fanin K) ks → length ks ≤ mostFanins → Reach K ks r → Small K r
+reach-small {K} {ks} two f l p =
+    let w : Wide ks = λ a m. f a m .some in
     record {
-      some = reach-wide (g .table .0) p w;
-      most = reach-width K (g .table .0) p w (λ a m. f a m .most);
-      few = omega (arith, reach-below K p, sum-few K (select s ks) f, select-length s ks, g .count .1);
+      some = reach-wide two p w;
+      most = reach-width K two p w (λ a m. f a m .most);
+      few = omega (arith, reach-below K p, sum-few K ks f);
     }
+
+-- and so do some of them
+pub select-small : {K : ℕ} {ks : List Key} → Good K ks → (s : ℕ) {r : Key} → Reach K (select s ks) r → Small K r
+select-small {ks = ks} g s =
+    reach-small (g .table .0) (select-every ks s (g .keys)) (omega (arith, select-length s ks, g .count .1))

@@ -330,3 +330,20 @@ fn blank(ok: bool, key: Key) -> Plan
         steps,
     }
 }
+
+// The best key for a gate whose first count fanins have these keys, and the plan that gives it. Input that is not good is
+// answered by a plan that is not ok, of zeros.
+pub fn best_plan(k: u8, count: u8, keys: [Key; 10]) -> Plan
+    ensures { λ r. ⌜ PlanOf k count keys r ⌝ }
+{
+    if !is_good(k, count, keys) {
+        return blank(false, Key { below: 0, width: 0 });
+    }
+    let mut below = [0u16; 1024];
+    let mut width = [0u8; 1024];
+    let mut split = [0u16; 1024];
+    let end = fill(k, count as usize, keys, &mut below, &mut width, &mut split);
+    let all = end - 1;
+    let key = key_at(all, &below, &width);
+    with_steps(k, all, &below, &width, &split, blank(true, key))
+}
