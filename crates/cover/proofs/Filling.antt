@@ -10,6 +10,7 @@ use lib.ListN.{length, getD, take, set, length-take, length-set}
 use lib.Seq.{getD-take}
 use lib.Pow.{pow-pos, pow-lt, pow-mono}
 use Rattle.cover.specs.declared.Key.{Key}
+use Rattle.cover.specs.Limits.{masks, mostFanins}
 use Rattle.cover.specs.Key.{leaf-key}
 use Rattle.cover.specs.Entries.{BestJoin, Entered, Entries, Split, Good}
 use Rattle.cover.specs.EntryLaws.{entries-more, entries-small, entered-one, entered-join}
@@ -22,7 +23,7 @@ pub record Filling (K count : ℕ) (ks : List Key) (bs ws us : List ℕ) (h top 
   pub some : 1 ≤ s
   pub most : s ≤ next
   pub half : s < next → (g : ℕ) × (h ≡ g + 1) × (top ≡ 2 ^ g) × (top < s)
-  pub sizes : (length bs ≡ 1024) × (length ws ≡ 1024) × (length us ≡ 1024)
+  pub sizes : (length bs ≡ masks) × (length ws ≡ masks) × (length us ≡ masks)
   pub entries : Entries K ks bs ws us s
 
 -- an element that is there, whatever stands for one that is not
@@ -36,10 +37,10 @@ taken-at xs n i d e l s = at-any xs i d e (omega (arith, length-take n xs)) ∙ 
 
 -- a mask that has a place in the arrays, and is not past the last
 abbrev pub Place : ℕ → ℕ → Type 0
-Place count s = (s < 2 ^ count) × (s < 1024)
+Place count s = (s < 2 ^ count) × (s < masks)
 
 module _ {K count : ℕ} {ks : List Key} where
-  pub filling-first : {bs ws us : List ℕ} → (length bs ≡ 1024) × (length ws ≡ 1024) × (length us ≡ 1024) →
+  pub filling-first : {bs ws us : List ℕ} → (length bs ≡ masks) × (length ws ≡ masks) × (length us ≡ masks) →
       Filling K count ks bs ws us 0 0 1 1
   filling-first l = record {
     fanins = omega arith;
@@ -55,13 +56,13 @@ module _ {K count : ℕ} {ks : List Key} where
   module _ (good : Good K ks) (size : length ks ≡ count) {bs ws us : List ℕ} {h top next s : ℕ}
       (f : Filling K count ks bs ws us h top next s) where
     -- no mask is past the arrays
-    filling-room : 2 ^ count ≤ 1024
-    filling-room = let l : count ≤ 10 = omega (arith, good .count .1) in pow-mono l
+    filling-room : 2 ^ count ≤ masks
+    filling-room = let l : count ≤ mostFanins = omega (arith, good .count .1) in pow-mono l
 
-    sizes-set : (x y z : ℕ) → (length (set bs s x) ≡ 1024) × (length (set ws s y) ≡ 1024) × (length (set us s z) ≡ 1024)
+    sizes-set : (x y z : ℕ) → (length (set bs s x) ≡ masks) × (length (set ws s y) ≡ masks) × (length (set us s z) ≡ masks)
     sizes-set x y z = simp length-set (f .sizes)
 
-    pub place-one : s ≡ next → ((h ≡ count) → ⊥) → Place count s × (h < count) × (count ≤ 10)
+    pub place-one : s ≡ next → ((h ≡ count) → ⊥) → Place count s × (h < count) × (count ≤ mostFanins)
     place-one e n =
         let l : h < count = by-cases (decLt h count) (λ l. l) (λ l. absurd (n (omega arith))) in
         let p = pow-lt l in

@@ -11,6 +11,7 @@ use Rattle.lists.specs.Lists.{upto}
 use Rattle.lists.specs.NumberLaws.{upto-length}
 use Rattle.cover.specs.declared.Key.{Key}
 use Rattle.cover.specs.declared.Plan.{Plan}
+use Rattle.cover.specs.Limits.{masks, mostFanins}
 use Rattle.cover.specs.Key.{key}
 use Rattle.cover.specs.Masks.{select}
 use Rattle.cover.specs.MaskLaws.{select-all}
@@ -23,7 +24,7 @@ use Rattle.cover.specs.PlanOfLaws.{reflects-good, good-size}
 use Rattle.cover.specs.PlanOf.{goodInput, blank, Answer, PlanOf}
 
 module _ {K : ℕ} {ks : List Key} (good : Good K ks) {n : ℕ} (size : n ≡ 2 ^ length ks) where
-  pub whole-place : (0 < n - 1) × (n - 1 < 1024)
+  pub whole-place : (0 < n - 1) × (n - 1 < masks)
   whole-place =
       let c = good .count in
       let one = pow-lt (c .0) in
@@ -67,7 +68,7 @@ module _ {K : ℕ} {ks : List Key} (good : Good K ks) {n : ℕ} (size : n ≡ 2 
         }
 
 -- what the test tells of the keys
-pub plan-keys : (K count : ℕ) (keys : List Key) → length keys ≡ 10 → goodInput K count keys ≡ true →
+pub plan-keys : (K count : ℕ) (keys : List Key) → length keys ≡ mostFanins → goodInput K count keys ≡ true →
     (length (take count keys) ≡ count) × Good K (take count keys)
 plan-keys K count keys l e =
     let t = subst T (sym e) tt in

@@ -19,6 +19,7 @@ use Rattle.cover.specs.declared.Key.{Key}
 use Rattle.cover.specs.declared.Token.{Token}
 use Rattle.cover.specs.declared.Token.the-variants.{Push as push, Join as join}
 use Rattle.cover.specs.declared.Plan.{Plan}
+use Rattle.cover.specs.Limits.{mostSteps}
 use Rattle.cover.specs.Key.{leaf-key, cuts, Way}
 use Rattle.cover.specs.KeyLaws.{join-way}
 use Rattle.cover.specs.Masks.{select, Within}
@@ -49,7 +50,7 @@ stepped-tokens p t l = rw (add-one, take-suc-set) (map-append _ (take (p .len) (
 
 -- the steps of two parts, and a join
 written-join : {K : ℕ} {ks : List Key} {bs ws : List ℕ} {s : ℕ} {p q r : Plan} {a b : Bool} (u : ℕ) → Within u s →
-    Way K a b (entry bs ws (s - u)) (entry bs ws u) (entry bs ws s) → r .len < 19 →
+    Way K a b (entry bs ws (s - u)) (entry bs ws u) (entry bs ws s) → r .len < mostSteps →
     Written K ks bs ws (s - u) p q → Written K ks bs ws u q r → Written K ks bs ws s p (stepped r (join a b))
 written-join {s = s} {p = p} {r = r} {a = a} {b = b} u i way l x y =
     let t = join a b in record {
@@ -74,7 +75,7 @@ module _ {K : ℕ} {bs ws us : List ℕ} {s : ℕ} {p : Plan} (w : Writable K bs
 
   -- a single fanin's mask
   module _ (z : getD us s 0 ≡ 0) where
-    pub one-able : OneBit s × (p .len < 19)
+    pub one-able : OneBit s × (p .len < mostSteps)
     one-able =
         let a = own (w .entries) .alone z in
         let l = pow-lt (a .1) in
@@ -158,14 +159,14 @@ module _ {K : ℕ} {bs ws us : List ℕ} {s : ℕ} {p : Plan} (w : Writable K bs
         second : Written K (w .keys) bs ws u q r
         second = g (w .keys) (part-entries (w .entries))
 
-        join-room : r .len < 19
+        join-room : r .len < mostSteps
         unfolding bits
         join-room =
             let x = first in
             let y = second in
             omega (arith, shared, w .room, planned-length (x .planned), planned-length (y .planned))
 
-        pub join-able : JoinableAt K bs ws (s - u) u × (r .len < 19)
+        pub join-able : JoinableAt K bs ws (s - u) u × (r .len < mostSteps)
         join-able =
             let l = part .1 in
             let h = w .place in

@@ -7,7 +7,7 @@ use lib.ListN.{length, getD, take}
 use Rattle.lists.specs.Lists.{Every}
 use Rattle.cover.specs.declared.Key.{Key}
 use Rattle.cover.specs.Key.{key, leaf-key, _≼_, join}
-use Rattle.cover.specs.Limits.{leastInputs, mostInputs, leastFanins, mostFanins, mostBelow, mostReached}
+use Rattle.cover.specs.Limits.{leastInputs, mostInputs, leastFanins, mostFanins, mostBelow, mostReached, masks}
 use Rattle.cover.specs.Masks.{select, Within}
 use Rattle.cover.specs.Reach.{LeastReach}
 
@@ -29,7 +29,7 @@ pub record Joinable (K : ℕ) (a b : Key) : Type 0 where
 
 -- at two masks
 pub record JoinableAt (K : ℕ) (bs ws : List ℕ) (x y : ℕ) : Type 0 where
-  pub places : (x < 1024) × (y < 1024)
+  pub places : (x < masks) × (y < masks)
   pub keys : Joinable K (entry bs ws x) (entry bs ws y)
 
 -- at each mask below n
@@ -41,7 +41,7 @@ pub record Split (K top r : ℕ) (bs ws : List ℕ) : Type 0 where
   pub table : (leastInputs ≤ K) × (K ≤ mostInputs)
   pub some : 0 < r
   pub below : r < top
-  pub within : top + r < 1024
+  pub within : top + r < masks
   pub keys : Smalls K bs ws (top + r)
 
 -- `a` is the join of the keys at u, a submask of r, and at the rest of top + r
@@ -82,7 +82,7 @@ pub record Good (K : ℕ) (ks : List Key) : Type 0 where
 pub record Fillable (K count : ℕ) (keys : List Key) (bs ws us : List ℕ) : Type 0 where
   pub good : Good K (take count keys)
   pub size : length (take count keys) ≡ count
-  pub rooms : (length bs ≡ 1024) × (length ws ≡ 1024) × (length us ≡ 1024)
+  pub rooms : (length bs ≡ masks) × (length ws ≡ masks) × (length us ≡ masks)
 
 -- a mask of one bit of at most ten
 abbrev pub OneBit : ℕ → Type 0

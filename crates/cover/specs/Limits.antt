@@ -1,5 +1,5 @@
 -- The numbers that bound the search for one gate, each named once; the code's are in src/lib.rt. Definitions only.
-use Prim.Native.Nat.{ℕ}
+use Prim.Native.Nat.{ℕ, _+_, _-_, _*_}
 
 -- a table has from 2 to 6 inputs, and a gate from 2 to 10 fanins
 abbrev pub leastInputs : ℕ
@@ -20,4 +20,12 @@ mostBelow = 255
 
 -- and below the root of a gate of at most that many fanins: each fanin adds its own and two, the first its own alone
 abbrev pub mostReached : ℕ
-mostReached = 2568
+mostReached = mostFanins * (mostBelow + 2) - 2
+
+-- the sets of at most that many fanins
+abbrev pub masks : ℕ
+masks = 1024
+
+-- the most steps of a plan: two for each fanin, but the first
+abbrev pub mostSteps : ℕ
+mostSteps = 19

@@ -11,7 +11,7 @@ use Rattle.cover.specs.declared.Key.{Key}
 use Rattle.cover.specs.declared.Token.the-variants.{Push as push}
 use Rattle.cover.specs.declared.Plan.{Plan}
 use Rattle.cover.specs.Key.{key}
-use Rattle.cover.specs.Limits.{leastInputs, mostInputs, leastFanins, mostFanins, mostBelow}
+use Rattle.cover.specs.Limits.{leastInputs, mostInputs, leastFanins, mostFanins, mostBelow, mostSteps}
 use Rattle.cover.specs.Plans.{Planned}
 use Rattle.cover.specs.Reach.{LeastReach}
 use Rattle.cover.specs.Steps.{tokens}
@@ -27,7 +27,7 @@ goodInput K count keys =
 
 -- a plan of no steps
 abbrev pub blank : Bool → Key → Plan
-blank b a = record { ok = b; key = a; len = 0; steps = replicate 19 (record { token = push 0 }) }
+blank b a = record { ok = b; key = a; len = 0; steps = replicate mostSteps (record { token = push 0 }) }
 
 -- a plan for fanins with these keys: it joins each of them once, and no plan has a better key
 pub record Answer (K : ℕ) (ks : List Key) (r : Plan) : Type 0 where

@@ -13,7 +13,7 @@ use Rattle.lists.specs.Tests.{within}
 use Rattle.lists.specs.TestLaws.{Reflects, reflects-le, reflects-map, reflects-and, reflects-all, reflects-within, by-either}
 use Rattle.cover.specs.declared.Key.{Key}
 use Rattle.cover.specs.declared.Plan.{Plan}
-use Rattle.cover.specs.Limits.{leastInputs, mostInputs, leastFanins, mostFanins, mostBelow}
+use Rattle.cover.specs.Limits.{leastInputs, mostInputs, leastFanins, mostFanins, mostBelow, mostSteps}
 use Rattle.cover.specs.Entries.{Small, Fanin, Good}
 use Rattle.cover.specs.ReachBounds.{reach-below, reach-small}
 use Rattle.cover.specs.PlanBounds.{planned-length, Takes, planned-takes}
@@ -57,7 +57,7 @@ module _ {K : ℕ} {ks : List Key} {r : Plan} (a : Answer K ks r) where
   pub answer-takes : Every (Takes (length ks)) (tokens r)
   answer-takes = planned-takes (a .planned)
 
-  pub answer-most : Good K ks → r .len ≤ 19
+  pub answer-most : Good K ks → r .len ≤ mostSteps
   answer-most g = omega (arith, a .len, g .count .1)
 
   -- its key: from 1 to K inputs, and the tables below each fanin, and two for each but the first

@@ -16,7 +16,7 @@ use Rattle.cover.specs.MaskLaws.{select-every}
 use Rattle.cover.specs.Reach.{Reach, one, both, Wide}
 use Rattle.cover.specs.ReachLaws.{reach-wide}
 use Rattle.cover.specs.Entries.{Small, Fanin, Good}
-use Rattle.cover.specs.Limits.{mostFanins}
+use Rattle.cover.specs.Limits.{mostFanins, mostBelow}
 
 -- the tables below a fanin, and two for it
 abbrev cost : Key → ℕ
@@ -37,7 +37,7 @@ module _ (K : ℕ) (two : 2 ≤ K) where
       let v = mix-every m w in
       omega (arith, join-width K two a b (reach-wide two p (v .0)) (reach-wide two q (v .1)))
 
-sum-few : (K : ℕ) (ks : List Key) → Every (Fanin K) ks → sum cost ks ≤ 257 * length ks
+sum-few : (K : ℕ) (ks : List Key) → Every (Fanin K) ks → sum cost ks ≤ (mostBelow + 2) * length ks
 sum-few K [] h = omega arith
 sum-few K (k ∷ ks) h = let f = every-head h in omega (arith, sum-few K ks (every-tail h))
 

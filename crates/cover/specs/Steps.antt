@@ -9,6 +9,7 @@ use Rattle.cover.specs.declared.Token.{Token}
 use Rattle.cover.specs.declared.Token.the-variants.{Push as push, Join as join}
 use Rattle.cover.specs.declared.Step.{Step}
 use Rattle.cover.specs.declared.Plan.{Plan}
+use Rattle.cover.specs.Limits.{masks, mostSteps}
 use Rattle.cover.specs.Key.{cuts}
 use Rattle.cover.specs.Masks.{select}
 use Rattle.cover.specs.MaskPlans.{MaskPlanned}
@@ -40,9 +41,9 @@ pub record Writable (K : ℕ) (bs ws us : List ℕ) (s : ℕ) (p : Plan) : Type 
   pub good : Good K keys
   pub entries : Entries K keys bs ws us (s + 1)
   pub some : 0 < s
-  pub place : s < 1024
-  pub size : length (p .steps) ≡ 19
-  pub room : p .len + 2 * length (select s (upto (length keys))) ≤ 20
+  pub place : s < masks
+  pub size : length (p .steps) ≡ mostSteps
+  pub room : p .len + 2 * length (select s (upto (length keys))) ≤ mostSteps + 1
 
 -- q is p with a plan for the mask added
 pub record Written (K : ℕ) (ks : List Key) (bs ws : List ℕ) (s : ℕ) (p q : Plan) : Type 0 where
@@ -50,7 +51,7 @@ pub record Written (K : ℕ) (ks : List Key) (bs ws : List ℕ) (s : ℕ) (p q :
   pub planned : MaskPlanned K ks s added (entry bs ws s)
   pub is : tokens q ≡ tokens p ++ added
   pub len : q .len ≡ p .len + length added
-  pub size : length (q .steps) ≡ 19
+  pub size : length (q .steps) ≡ mostSteps
   pub kept : (q .ok ≡ p .ok) × (q .key ≡ p .key)
 
 -- whatever keys the entries are of

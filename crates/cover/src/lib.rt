@@ -5,9 +5,28 @@ ghost use Prim.Native.Nat.{min, _≤_, _<_, _^_};
 ghost use lib.ListN.{take};
 ghost use Rattle.cover.specs.Key.{join as joinOf, _≼_};
 ghost use Rattle.lists.specs.Tests.{all};
+ghost use Rattle.cover.specs.Limits.{mostFanins, masks, mostSteps};
 ghost use Rattle.cover.specs.PlanOf.{faninTest, goodInput, blank as blankOf, PlanOf};
 ghost use Rattle.cover.specs.Steps.{stepped, joinToken, Took, Writable, Writes};
 ghost use Rattle.cover.specs.Entries.{Joinable, JoinableAt, Split, BestJoin, Fillable, Entries, OneBit, entry};
+
+// The inputs of a table.
+pub const LEAST_INPUTS: u8 = 2;
+
+pub const MOST_INPUTS: u8 = 6;
+
+// The fanins of a gate.
+pub const LEAST_FANINS: usize = 2;
+
+pub const MOST_FANINS: usize = 10;
+
+// The most tables below the root of a fanin.
+pub const MOST_BELOW: u16 = 255;
+
+// The sets of fanins, and the most steps of a plan.
+const MASKS: usize = 1024;
+
+pub const MOST_STEPS: usize = 19;
 
 // What matters of a cover of a tree: the tables below the one that holds the root, and the inputs of that one.
 pub struct Key {
@@ -32,7 +51,7 @@ pub struct Plan {
     pub ok: bool,
     pub key: Key,
     pub len: u8,
-    pub steps: [Step; 19],
+    pub steps: [Step; MOST_STEPS],
 }
 
 // The lesser of two numbers.
@@ -95,8 +114,8 @@ fn precedes(a: Key, b: Key) -> bool
 }
 
 // The key at a mask.
-fn key_at<'a>(s: usize, below: &'a [u16; 1024], width: &'a [u8; 1024]) -> Key
-    requires { ⌜ s < 1024 ⌝ }
+fn key_at<'a>(s: usize, below: &'a [u16; MASKS], width: &'a [u8; MASKS]) -> Key
+    requires { ⌜ s < masks ⌝ }
     ensures { λ r. ⌜ r ≡ entry (now (below .entry)) (now (width .entry)) s ⌝ }
 {
     Key {
@@ -106,7 +125,7 @@ fn key_at<'a>(s: usize, below: &'a [u16; 1024], width: &'a [u8; 1024]) -> Key
 }
 
 // The join of the keys at two masks.
-fn join_at<'a>(k: u8, x: usize, y: usize, below: &'a [u16; 1024], width: &'a [u8; 1024]) -> Key
+fn join_at<'a>(k: u8, x: usize, y: usize, below: &'a [u16; MASKS], width: &'a [u8; MASKS]) -> Key
     requires { ⌜ JoinableAt k (now below) (now width) x y ⌝ }
     ensures { λ r. ⌜ r ≡ joinOf k (entry (now (below .entry)) (now (width .entry)) x) (entry (now (below .entry)) (now (width .entry)) y) ⌝ }
 {
@@ -126,8 +145,8 @@ fn best_join<'a>(
     k: u8,
     top: usize,
     r: usize,
-    below: &'a [u16; 1024],
-    width: &'a [u8; 1024],
+    below: &'a [u16; MASKS],
+    width: &'a [u8; MASKS],
 ) -> Choice
     requires { ⌜ Split k top r (now below) (now width) ⌝ }
     ensures { λ c. ⌜ BestJoin k (now (below .entry)) (now (width .entry)) top r (c .key) (c .sub) ⌝ }
@@ -154,10 +173,10 @@ fn best_join<'a>(
 fn fill(
     k: u8,
     count: usize,
-    keys: [Key; 10],
-    below: &mut [u16; 1024],
-    width: &mut [u8; 1024],
-    split: &mut [u16; 1024],
+    keys: [Key; MOST_FANINS],
+    below: &mut [u16; MASKS],
+    width: &mut [u8; MASKS],
+    split: &mut [u16; MASKS],
 ) -> usize
     requires { ⌜ Fillable k count keys (now below) (now width) (now split) ⌝ }
     ensures { λ r. ⌜ (r ≡ 2 ^ count) × Entries k (take count keys) (now (below .exit)) (now (width .exit)) (now (split .exit)) r ⌝ }
@@ -193,7 +212,7 @@ fn fill(
 // The number of a mask's only bit.
 fn bit_number(s: usize) -> u8
     requires { ⌜ OneBit s ⌝ }
-    ensures { λ r. ⌜ (2 ^ r ≡ s) × (r < 10) ⌝ }
+    ensures { λ r. ⌜ (2 ^ r ≡ s) × (r < mostFanins) ⌝ }
 {
     let mut h: u8 = 0;
     let mut b: usize = 1;
@@ -206,7 +225,7 @@ fn bit_number(s: usize) -> u8
 
 // The plan with one step more.
 fn with_step(plan: Plan, token: Token) -> Plan
-    requires { ⌜ plan .len < 19 ⌝ }
+    requires { ⌜ plan .len < mostSteps ⌝ }
     ensures { λ r. ⌜ r ≡ stepped plan token ⌝ }
 {
     let mut p = plan;
@@ -220,7 +239,7 @@ fn with_step(plan: Plan, token: Token) -> Plan
 
 // The plan with the step that takes the fanin of a mask of one bit.
 fn with_fanin(s: usize, plan: Plan) -> Plan
-    requires { ⌜ OneBit s × (plan .len < 19) ⌝ }
+    requires { ⌜ OneBit s × (plan .len < mostSteps) ⌝ }
     ensures { λ r. ⌜ Took s plan r ⌝ }
 {
     let h = bit_number(s);
@@ -232,11 +251,11 @@ fn with_join<'a>(
     k: u8,
     x: usize,
     y: usize,
-    below: &'a [u16; 1024],
-    width: &'a [u8; 1024],
+    below: &'a [u16; MASKS],
+    width: &'a [u8; MASKS],
     plan: Plan,
 ) -> Plan
-    requires { ⌜ JoinableAt k (now below) (now width) x y × (plan .len < 19) ⌝ }
+    requires { ⌜ JoinableAt k (now below) (now width) x y × (plan .len < mostSteps) ⌝ }
     ensures { λ r. ⌜ r ≡ stepped plan (joinToken k (entry (now (below .entry)) (now (width .entry)) x) (entry (now (below .entry)) (now (width .entry)) y)) ⌝ }
 {
     let a = key_at(x, below, width);
@@ -249,9 +268,9 @@ fn with_join<'a>(
 fn with_steps<'a>(
     k: u8,
     s: usize,
-    below: &'a [u16; 1024],
-    width: &'a [u8; 1024],
-    split: &'a [u16; 1024],
+    below: &'a [u16; MASKS],
+    width: &'a [u8; MASKS],
+    split: &'a [u16; MASKS],
     plan: Plan,
 ) -> Plan
     requires { ⌜ Writable k (now below) (now width) (now split) s plan ⌝ }
@@ -277,12 +296,12 @@ fn is_fanin(k: u8, a: Key) -> bool
     if k < a.width {
         return false;
     }
-    a.below <= 255
+    a.below <= MOST_BELOW
 }
 
 // Whether each of the first count keys is a fanin's.
-fn are_fanins(k: u8, count: usize, keys: [Key; 10]) -> bool
-    requires { ⌜ count ≤ 10 ⌝ }
+fn are_fanins(k: u8, count: usize, keys: [Key; MOST_FANINS]) -> bool
+    requires { ⌜ count ≤ mostFanins ⌝ }
     ensures { λ r. ⌜ r ≡ all (faninTest k) (take count keys) ⌝ }
 {
     let mut i: usize = 0;
@@ -296,23 +315,24 @@ fn are_fanins(k: u8, count: usize, keys: [Key; 10]) -> bool
     true
 }
 
-// Whether a plan can be sought: from 2 to 6 inputs a table, and from 2 to 10 fanins.
-fn is_good(k: u8, count: u8, keys: [Key; 10]) -> bool
+// Whether a plan can be sought: tables and gates within their limits, and keys of fanins.
+fn is_good(k: u8, count: u8, keys: [Key; MOST_FANINS]) -> bool
     ensures { λ r. ⌜ r ≡ goodInput k count keys ⌝ }
 {
-    if k < 2 {
+    if k < LEAST_INPUTS {
         return false;
     }
-    if 6 < k {
+    if MOST_INPUTS < k {
         return false;
     }
-    if count < 2 {
+    let n = count as usize;
+    if n < LEAST_FANINS {
         return false;
     }
-    if 10 < count {
+    if MOST_FANINS < n {
         return false;
     }
-    are_fanins(k, count as usize, keys)
+    are_fanins(k, n, keys)
 }
 
 // A plan of no steps.
@@ -322,7 +342,7 @@ fn blank(ok: bool, key: Key) -> Plan
     let step = Step {
         token: Token::Push(0),
     };
-    let steps = [step; 19];
+    let steps = [step; MOST_STEPS];
     Plan {
         ok,
         key,
@@ -333,15 +353,15 @@ fn blank(ok: bool, key: Key) -> Plan
 
 // The best key for a gate whose first count fanins have these keys, and the plan that gives it. Input that is not good is
 // answered by a plan that is not ok, of zeros.
-pub fn best_plan(k: u8, count: u8, keys: [Key; 10]) -> Plan
+pub fn best_plan(k: u8, count: u8, keys: [Key; MOST_FANINS]) -> Plan
     ensures { λ r. ⌜ PlanOf k count keys r ⌝ }
 {
     if !is_good(k, count, keys) {
         return blank(false, Key { below: 0, width: 0 });
     }
-    let mut below = [0u16; 1024];
-    let mut width = [0u8; 1024];
-    let mut split = [0u16; 1024];
+    let mut below = [0u16; MASKS];
+    let mut width = [0u8; MASKS];
+    let mut split = [0u16; MASKS];
     let end = fill(k, count as usize, keys, &mut below, &mut width, &mut split);
     let all = end - 1;
     let key = key_at(all, &below, &width);

@@ -7,6 +7,7 @@ use native.Mathlib.Decide.{decLt}
 use mathlib.Core.Path.{_≡_}
 use mathlib.Core.Logic.{by-cases}
 use lib.Pow.{pow-pos, pow-mono, pow-lt}
+use Rattle.cover.specs.Limits.{masks, mostFanins}
 use Rattle.cover.specs.Entries.{OneBit}
 use Rattle.cover.proofs.bit_number.Statement.{statement}
 use Rattle.cover.proofs.bit_number.Tie as tie
@@ -17,11 +18,11 @@ next h g l =
     let k : h < g = by-cases (decLt h g) (λ k. k) (λ k. let j : g ≤ h = omega arith in absurd (omega (arith, pow-mono j))) in
     (k, pow-mono k)
 
-small : {s : ℕ} → OneBit s → s < 1024
+small : {s : ℕ} → OneBit s → s < masks
 small o = omega (arith, pow-lt (o .1))
 
 abbrev Inv-loop : tie.InvT-loop
-Inv-loop s h₀ b₀ h b = (b ≡ 2 ^ h) × (b ≤ s) × (1 ≤ b) × (h < 10)
+Inv-loop s h₀ b₀ h b = (b ≡ 2 ^ h) × (b ≤ s) × (1 ≤ b) × (h < mostFanins)
 
 abbrev μ-loop : tie.MeasureT-loop
 μ-loop s h₀ b₀ h b = s - b

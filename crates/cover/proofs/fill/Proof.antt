@@ -7,6 +7,7 @@ use lib.ListN.{take}
 use Rattle.cover.proofs.Filling.{Place, Filling, taken-at, filling-first, filling-one, place-one, place-join, filling-split, filling-join}
 use Rattle.cover.proofs.fill.Statement.{statement}
 use Rattle.cover.proofs.fill.Tie as tie
+use Rattle.cover.specs.Limits.{mostFanins}
 
 abbrev Inv-loop : tie.InvT-loop
 Inv-loop k count below₀ width₀ split₀ keys h₀ top₀ next₀ s₀ below width split h top next s = Filling k count (take count keys) below width split h top next s
@@ -17,7 +18,7 @@ abbrev μ-loop : tie.MeasureT-loop
 -- where the mask stands, at the next fanin's bit and elsewhere
 one : (c : tie.Else2 Inv-loop μ-loop) →
     let d = c .before .before in
-    Place (d .before .args .count) (d .loop .s) × (d .loop .h < d .before .args .count) × (d .before .args .count ≤ 10)
+    Place (d .before .args .count) (d .loop .s) × (d .loop .h < d .before .args .count) × (d .before .args .count ≤ mostFanins)
 one c =
     let d = c .before .before in
     place-one (d .before .pre .good) (d .before .pre .size) (d .loop .inv) (c .before .if1 .taken) (c .if2 .left)
