@@ -1,11 +1,11 @@
 -- Laws of the fields of a line as the code holds them, and of what line 1 says.
-use Prim.Native.Nat.{ℕ, zero, suc, _≤_}
+use Prim.Native.Nat.{ℕ, zero, suc, _-_, _≤_}
 use native.Mathlib.Omega.{arith}
 use mathlib.Core.Path.{_≡_, refl, ap, _∙_}
 use mathlib.Core.Bool.{true, false, cond}
 use mathlib.Core.Option.{none, some}
 use mathlib.Core.List.{List, [], _∷_, map}
-use lib.ListN.{length, getD, take, drop, length-map}
+use lib.ListN.{length, getD, take, drop, length-drop, length-map}
 use lib.Seq.{length-take-le}
 use Rattle.tree.specs.Limits.{greatestNet}
 use Rattle.decimal.specs.Number.{Number}
@@ -34,6 +34,9 @@ fields-some f e = ap (λ b. cond b (some (valuesOf f)) none) e
 pub values-count : (f : Fields) → Room f → length (valuesOf f) ≡ f .count
 values-count f r =
     length-map (take (f .count) (f .numbers)) valueOf ∙ length-take-le (f .count) (f .numbers) (omega arith)
+
+pub more-count : (f : Fields) → Room f → length (drop 2 (valuesOf f)) ≡ f .count - 2
+more-count f r = length-drop 2 (valuesOf f) ∙ ap (λ n. n - 2) (values-count f r)
 
 first-two : (xs : List FieldValue) (n : ℕ) → 2 ≤ n → 2 ≤ length xs →
     map valueOf (take n xs) ≡ valueOf (getD xs 0 zeroValue) ∷ valueOf (getD xs 1 zeroValue) ∷ drop 2 (map valueOf (take n xs))

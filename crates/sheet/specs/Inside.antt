@@ -15,10 +15,14 @@ use Rattle.sheet.specs.declared.FieldValue.{FieldValue}
 use Rattle.sheet.specs.declared.Fields.{Fields}
 use Rattle.sheet.specs.declared.Head.{Head}
 use Rattle.sheet.specs.declared.Head.the-variants.{Good, Bad}
-use Rattle.sheet.specs.Limits.{mostFields}
+use Rattle.sheet.specs.declared.KindRead.{KindRead}
+use Rattle.sheet.specs.declared.KindRead.the-variants.{Is, Neither}
+use Rattle.sheet.specs.declared.GateHead.{GateHead}
+use Rattle.sheet.specs.declared.GateHead.the-variants.{Good as GoodGate, Bad as BadGate}
+use Rattle.sheet.specs.Limits.{mostFields, mostFanins}
 use Rattle.sheet.specs.Line.{line}
 use Rattle.sheet.specs.Step.{Step, good, bad}
-use Rattle.sheet.specs.Read.{Head as LineOne}
+use Rattle.sheet.specs.Read.{Head as LineOne, gateHeadOf}
 use Rattle.sheet.specs.Answers.{numberOf}
 
 -- ---- where a line ends
@@ -53,3 +57,18 @@ pub record Room (f : Fields) : Type 0 where
 abbrev pub headStep : Head → Step LineOne
 headStep (Good out inverted count) = good (record { out = out; inverted = inverted; count = count })
 headStep (Bad why) = bad (numberOf why) 1
+
+-- ---- the first two fields of a gate's line
+
+abbrev pub kindStep : KindRead → Option Kind
+kindStep (Is kind) = some kind
+kindStep Neither = none
+
+abbrev pub gateHeadStep : ℕ → Fields → GateHead → Step (Kind × List Number)
+gateHeadStep g f (GoodGate kind count) = good (kind, drop 2 (valuesOf f))
+gateHeadStep g f (BadGate why) = bad (numberOf why) (suc g)
+
+-- of gate g, whichever it is
+pub record GateHeadRead (f : Fields) (r : GateHead) : Type 0 where
+  pub step : (g : ℕ) → gateHeadOf g (fieldsOf f) ≡ gateHeadStep g f r
+  pub fanins : (kind : Kind) (count : ℕ) → r ≡ GoodGate kind count → (count + 2 ≡ f .count) × (count ≤ mostFanins)

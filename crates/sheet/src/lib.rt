@@ -1,17 +1,16 @@
 // Reading a sheet: one fanout-free tree of gates, with an output net.
 ghost use mathlib.Core.Path.{_≡_};
-ghost use Rattle.sheet.specs.Read.{within, counts, headOf};
-ghost use Rattle.sheet.specs.Inside.{LineEnds, valueOf, fieldsOf, Room, headStep};
+ghost use Rattle.sheet.specs.Read.{within, counts, headOf, kindOf};
+ghost use Rattle.sheet.specs.Inside.{LineEnds, valueOf, fieldsOf, Room, headStep, kindStep, GateHeadRead};
 use tree::Kind;
 
-// The most gates of a sheet, and the most fanins of a gate.
+// The most gates of a sheet, and the fewest and the most fanins of a gate.
 pub const MOST_GATES: usize = 255;
-
+pub const FEWEST_FANINS: usize = 2;
 pub const MOST_FANINS: usize = 10;
 
 // The most fields of a line, and the columns of a field.
 const MOST_FIELDS: usize = 12;
-
 const COLUMNS: usize = 6;
 
 // What a fanin reads: a net, or an earlier gate.
@@ -149,4 +148,54 @@ fn read_head(f: Fields) -> Head
     }
     let n = gates.magnitude;
     Head::Good(net as u16, out.negative, n as u8)
+}
+
+enum KindRead {
+    Is(Kind),
+    Neither,
+}
+
+fn read_kind(x: FieldValue) -> KindRead
+    ensures { λ r. ⌜ kindOf (valueOf x) ≡ kindStep r ⌝ }
+{
+    if counts(1, 1, x) {
+        return KindRead::Is(Kind::And);
+    }
+    if counts(2, 2, x) {
+        return KindRead::Is(Kind::Or);
+    }
+    KindRead::Neither
+}
+
+// What the first two fields of a gate's line say: its kind and its fanin count, which the line has fields for.
+enum GateHead {
+    Good(Kind, u8),
+    Bad(Refusal),
+}
+
+fn read_gate_head(f: Fields) -> GateHead
+    requires { ⌜ Room f ⌝ }
+    ensures { λ r. ⌜ GateHeadRead f r ⌝ }
+{
+    let laid = f.laid;
+    let count = f.count;
+    if !laid {
+        return GateHead::Bad(Refusal::Layout);
+    }
+    if count < 2 {
+        return GateHead::Bad(Refusal::Layout);
+    }
+    let first = f.numbers[0];
+    let second = f.numbers[1];
+    let KindRead::Is(kind) = read_kind(first) else {
+        return GateHead::Bad(Refusal::GateKind);
+    };
+    if !counts(FEWEST_FANINS as u32, MOST_FANINS as u32, second) {
+        return GateHead::Bad(Refusal::FaninCount);
+    }
+    let n = second.magnitude;
+    if n as usize != count - 2 {
+        return GateHead::Bad(Refusal::Layout);
+    }
+    GateHead::Good(kind, n as u8)
 }
