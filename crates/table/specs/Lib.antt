@@ -2,6 +2,9 @@ pub mod Limits
 pub mod Records
 pub mod Rules
 pub mod ResultLaws
+pub mod LoopLaws
 pub mod RecordTest
+pub mod SeenTest
 pub mod RuleLaws
 pub mod TestedLaws
+pub mod SeenLaws

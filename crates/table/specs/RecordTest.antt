@@ -23,8 +23,12 @@ isBlank r = eqb (r .net) 0 && (eqb (r .count) 0 && (allZero (r .inputs) && eqb (
 abbrev pub padded : Table → Bool
 padded r = allZero (drop (r .count) (r .inputs))
 
+-- a net, or the name of a table
+abbrev pub isCode : ℕ → Bool
+isCode x = within 1 greatestNet x || ltb tableBase x
+
 abbrev pub coded : Table → Bool
-coded r = leb (r .net) greatestNet && all (λ x. within 1 greatestNet x || ltb tableBase x) (reads r)
+coded r = leb (r .net) greatestNet && all isCode (reads r)
 
 abbrev pub sized : ℕ → Table → Bool
 sized k r = leb 2 (r .count) && (leb (r .count) k && (pairwise ltb (reads r) && ltb (r .truth) (2 ^ (2 ^ r .count))))

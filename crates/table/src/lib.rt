@@ -1,4 +1,7 @@
 // Lookup tables as records of a part.
+mod inputs;
+pub mod rules;
+
 ghost use mathlib.Core.Path.{_≡_};
 ghost use Rattle.lists.specs.Tests.{within as inRange};
 ghost use Rattle.table.specs.Records.{blank as blankRecord};

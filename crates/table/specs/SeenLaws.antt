@@ -1,0 +1,149 @@
+-- What is kept of the records seen stands for their list: after none, after one more, and in the rules' tests.
+use Prim.Native.Nat.{ℕ, suc, _+_, _-_, _≤_, _<_}
+use native.Mathlib.Omega.{arith}
+use mathlib.Core.Path.{_≡_, refl, sym, ap, ap₂, _∙_}
+use mathlib.Core.Logic.{_≢_}
+use mathlib.Core.Bool.{Bool, true, false, not, _&&_, _||_}
+use mathlib.Core.List.{List, [], _∷_, _++_}
+use lib.Dec.{leb, eqb}
+use lib.ListN.{length, getD, set, length-append, length-set, length-replicate, getD-replicate, List·getD-append, List·getD-eq-default}
+use lib.Seq.{getD-append-seam, getD-set-same, getD-set-other}
+use Rattle.lists.specs.Cases.{by-eqb, by-leb}
+use Rattle.lists.specs.Tests.{all, elem}
+use Rattle.lists.specs.TestLaws.{reflects-lt, reflects-eq, reflects-same, reflects-true}
+use Rattle.tree.specs.Limits.{greatestNet}
+use Rattle.table.specs.Limits.{tableBase, tableRoom}
+use Rattle.table.specs.Records.{reads, blank}
+use Rattle.table.specs.RecordTest.{isCode, padded, sized, sourced, clear, unclaimed, keeps}
+use Rattle.table.specs.SeenTest.{Stands, noneSeen, claimAll, seenAfter, sourcedIn, unclaimedIn, keepsIn}
+use Rattle.table.specs.declared.Table.{Table}
+use Rattle.table.specs.declared.rules.Seen.{Seen}
+
+pub stands-none : Stands noneSeen []
+unfolding noneSeen
+stands-none = record {
+  room = omega arith;
+  count = refl;
+  nets = length-replicate (suc greatestNet) false;
+  tables = length-replicate tableRoom false;
+  claimed = λ n l. ap not (getD-replicate (suc greatestNet) n false false (omega arith));
+  drives = λ t l. ap not (getD-replicate tableRoom t false true l);
+}
+
+-- ---- one more record
+
+claim-length : (c : List Bool) (xs : List ℕ) → length (claimAll c xs) ≡ length c
+claim-length c [] = refl
+claim-length c (x ∷ xs) = claim-length (set c x true) xs ∙ length-set c x true
+
+-- a net is claimed where it was or is one of these
+set-claims : (c : List Bool) (x n : ℕ) → n < length c → getD (set c x true) n false ≡ eqb n x || getD c n false
+set-claims c x n h =
+    by-eqb (λ b. getD (set c x true) n false ≡ b || getD c n false) n x
+    (λ e. rw e (getD-set-same c x true false (omega arith)))
+    (λ d. getD-set-other c x n true false d)
+
+or-swap : (a b c : Bool) → a || (b || c) ≡ (b || a) || c
+or-swap true true c = refl
+or-swap true false c = refl
+or-swap false true c = refl
+or-swap false false c = refl
+
+claim-claims : (c : List Bool) (xs : List ℕ) (n : ℕ) → n < length c → getD (claimAll c xs) n false ≡ elem n xs || getD c n false
+claim-claims c [] n h = refl
+claim-claims c (x ∷ xs) n h =
+    claim-claims (set c x true) xs n (rw length-set h) ∙ ap (λ b. elem n xs || b) (set-claims c x n h)
+    ∙ or-swap (elem n xs) (eqb n x) (getD c n false)
+
+eqb-swap : (m n : ℕ) → eqb m n ≡ eqb n m
+eqb-swap m n = reflects-same (reflects-eq m n) (reflects-eq n m) sym sym
+
+all-append : {A : Type 0} (f : A → Bool) (xs ys : List A) → all f (xs ++ ys) ≡ all f xs && all f ys
+all-append f [] ys = refl
+all-append f (x ∷ xs) ys = ap (λ b. f x && b) (all-append f xs ys) ∙ and-assoc (f x) (all f xs) (all f ys)
+  where
+    and-assoc : (a b c : Bool) → a && (b && c) ≡ (a && b) && c
+    and-assoc true b c = refl
+    and-assoc false b c = refl
+
+none-of : (a b c : Bool) → not ((a || b) || c) ≡ not c && ((not a && not b) && true)
+none-of true b true = refl
+none-of true b false = refl
+none-of false true true = refl
+none-of false true false = refl
+none-of false false true = refl
+none-of false false false = refl
+
+module _ (s : Seen) (before : List Table) (r : Table) (h : Stands s before) (l : length before < tableRoom) where
+  abbrev next : Seen
+  next = record { count = s .count + 1; claimed = claimAll (s .claimed) (r .net ∷ reads r); drives = set (s .drives) (s .count) (not (eqb (r .net) 0)) }
+
+  next-claimed : (n : ℕ) → n ≤ greatestNet → not (getD (next .claimed) n false) ≡ all (clear n) (before ++ r ∷ [])
+  next-claimed n m =
+      ap not (claim-claims (s .claimed) (r .net ∷ reads r) n (omega (arith, h .nets)))
+      ∙ none-of (eqb n (r .net)) (elem n (reads r)) (getD (s .claimed) n false)
+      ∙ ap₂ (λ a b. a && ((not b && not (elem n (reads r))) && true)) (h .claimed n m) (eqb-swap n (r .net))
+      ∙ sym (all-append (clear n) before (r ∷ []))
+
+  not-not : (b : Bool) → not (not b) ≡ b
+  not-not true = refl
+  not-not false = refl
+
+  -- the record at t, of those before and this one: this one, one of those, or none
+  same-at : (t : ℕ) → t ≢ length before → getD (before ++ r ∷ []) t blank ≡ getD before t blank
+  same-at t d =
+      by-leb (λ b. getD (before ++ r ∷ []) t blank ≡ getD before t blank) t (length before)
+      (λ m. List·getD-append before (r ∷ []) blank t (omega (arith, d)))
+      (λ m. let a : length (before ++ r ∷ []) ≤ t = simp length-append (omega arith) in
+      let b : length before ≤ t = omega arith in
+      List·getD-eq-default (before ++ r ∷ []) blank a ∙ sym (List·getD-eq-default before blank b))
+
+  next-drives : (t : ℕ) → t < tableRoom → not (getD (next .drives) t true) ≡ eqb ((getD (before ++ r ∷ []) t blank) .net) 0
+  next-drives t m =
+      by-eqb (λ b. not (getD (next .drives) t true) ≡ eqb ((getD (before ++ r ∷ []) t blank) .net) 0) t (length before)
+      (λ e. let f : t ≡ s .count = e ∙ sym (h .count) in
+      ap (λ i. not (getD (next .drives) i true)) f ∙ ap not (getD-set-same (s .drives) (s .count) (not (eqb (r .net) 0)) true (omega (arith, h .count, h .tables)))
+      ∙ not-not (eqb (r .net) 0) ∙ sym (rw (e, getD-append-seam before r [] blank)))
+      (λ d. ap not (getD-set-other (s .drives) (s .count) t (not (eqb (r .net) 0)) true (λ e. d (e ∙ h .count)))
+      ∙ h .drives t m ∙ sym (ap (λ q. eqb (q .net) 0) (same-at t d)))
+
+  stands-next : Stands next (before ++ r ∷ [])
+  stands-next = record {
+    room = simp length-append (omega arith);
+    count = simp length-append (omega (arith, h .count));
+    nets = claim-length (s .claimed) (r .net ∷ reads r) ∙ h .nets;
+    tables = length-set (s .drives) (s .count) (not (eqb (r .net) 0)) ∙ h .tables;
+    claimed = next-claimed;
+    drives = next-drives;
+  }
+
+  pub stands-after : Stands (seenAfter s r) (before ++ r ∷ [])
+  stands-after = let e = reflects-true (reflects-lt (s .count) tableRoom) (omega (arith, h .count)) in rw e stands-next
+
+-- ---- the rules
+
+module _ (s : Seen) (before : List Table) (h : Stands s before) where
+  -- an input that names a table is one of the records where its number is at most theirs
+  source-stands : (x : ℕ) → sourcedIn (s .drives) (s .count) x ≡ sourced before x
+  source-stands x =
+      rw (h .count)
+      (by-leb (λ b. b || (leb x (tableBase + length before) && not (getD (s .drives) (x - suc tableBase) true)) ≡ b || (leb x (tableBase + length before) && eqb ((getD before (x - suc tableBase) blank) .net) 0)) x tableBase
+      (λ l. refl)
+      (λ l. by-leb (λ b. b && not (getD (s .drives) (x - suc tableBase) true) ≡ b && eqb ((getD before (x - suc tableBase) blank) .net) 0) x (tableBase + length before)
+      (λ m. h .drives (x - suc tableBase) (omega (arith, h .room)))
+      (λ m. refl)))
+
+  all-stands : (xs : List ℕ) → all (sourcedIn (s .drives) (s .count)) xs ≡ all (sourced before) xs
+  all-stands [] = refl
+  all-stands (x ∷ xs) = ap₂ _&&_ (source-stands x) (all-stands xs)
+
+  claim-stands : (r : Table) → r .net ≤ greatestNet → unclaimedIn (s .claimed) r ≡ unclaimed before r
+  claim-stands r l = ap (λ b. eqb (r .net) 0 || (b && not (elem (r .net) (reads r)))) (h .claimed (r .net) l)
+
+  -- THE RULES OF A RECORD by what is kept are its rules after the records
+  pub keeps-stands : (k : ℕ) (r : Table) → keepsIn k s r ≡ keeps k before r
+  keeps-stands k r =
+      by-leb (λ b. padded r && ((b && all isCode (reads r)) && (sized k r && (all (sourcedIn (s .drives) (s .count)) (reads r) && unclaimedIn (s .claimed) r)))
+      ≡ padded r && ((b && all isCode (reads r)) && (sized k r && (all (sourced before) (reads r) && unclaimed before r)))) (r .net) greatestNet
+      (λ l. ap₂ (λ a b. padded r && (all isCode (reads r) && (sized k r && (a && b)))) (all-stands (reads r)) (claim-stands r l))
+      (λ l. refl)

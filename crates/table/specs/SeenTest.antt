@@ -1,0 +1,50 @@
+-- The rules of a record by what is kept of the records seen before it, in place of their list.
+-- Definitions only: SeenLaws has the proof that the two say the same.
+use Prim.Native.Nat.{ℕ, suc, _+_, _-_, _≤_, _<_}
+use mathlib.Core.Path.{_≡_}
+use mathlib.Core.Bool.{Bool, true, false, cond, not, _&&_, _||_}
+use mathlib.Core.List.{List, [], _∷_}
+use lib.Dec.{leb, ltb, eqb}
+use lib.ListN.{length, getD, set, replicate}
+use Rattle.lists.specs.Tests.{all, elem}
+use Rattle.tree.specs.Limits.{greatestNet}
+use Rattle.table.specs.Limits.{tableBase, tableRoom}
+use Rattle.table.specs.Records.{reads, blank}
+use Rattle.table.specs.RecordTest.{padded, coded, sized, clear}
+use Rattle.table.specs.declared.Table.{Table}
+use Rattle.table.specs.declared.rules.Seen.{Seen}
+
+-- what is kept stands for the records: their number, for each net whether none of them drives or reads it, and for each of them
+-- whether it drives no net
+pub record Stands (s : Seen) (before : List Table) : Type 0 where
+  pub room : length before ≤ tableRoom
+  pub count : s .count ≡ length before
+  pub nets : length (s .claimed) ≡ suc greatestNet
+  pub tables : length (s .drives) ≡ tableRoom
+  pub claimed : (n : ℕ) → n ≤ greatestNet → not (getD (s .claimed) n false) ≡ all (clear n) before
+  pub drives : (t : ℕ) → t < tableRoom → not (getD (s .drives) t true) ≡ eqb ((getD before t blank) .net) 0
+
+unfoldable pub noneSeen : Seen
+noneSeen = record { count = 0; claimed = replicate (suc greatestNet) false; drives = replicate tableRoom false }
+
+-- the nets claimed, with these; what is no net claims none
+abbrev pub claimAll : List Bool → List ℕ → List Bool
+claimAll c [] = c
+claimAll c (x ∷ xs) = claimAll (set c x true) xs
+
+-- one more record, where there is room for it
+abbrev pub seenAfter : Seen → Table → Seen
+seenAfter s r =
+    cond (ltb (s .count) tableRoom)
+    (record { count = s .count + 1; claimed = claimAll (s .claimed) (r .net ∷ reads r); drives = set (s .drives) (s .count) (not (eqb (r .net) 0)) })
+    s
+
+-- the tests of RecordTest by what is kept
+abbrev pub sourcedIn : List Bool → ℕ → ℕ → Bool
+sourcedIn drives count x = leb x tableBase || (leb x (tableBase + count) && not (getD drives (x - suc tableBase) true))
+
+abbrev pub unclaimedIn : List Bool → Table → Bool
+unclaimedIn claimed r = eqb (r .net) 0 || (not (getD claimed (r .net) false) && not (elem (r .net) (reads r)))
+
+abbrev pub keepsIn : ℕ → Seen → Table → Bool
+keepsIn k s r = padded r && (coded r && (sized k r && (all (sourcedIn (s .drives) (s .count)) (reads r) && unclaimedIn (s .claimed) r)))
