@@ -1,12 +1,23 @@
 // Parts of the row module: a device that holds lookup tables.
 ghost use mathlib.Core.Path.{_≡_};
+ghost use mathlib.Core.List.{[]};
+ghost use Prim.Native.Nat.{_≤_};
+ghost use lib.ListN.{drop};
+ghost use Rattle.lists.specs.Tests.{all};
+ghost use Rattle.table.specs.Limits.{tableRoom};
+ghost use Rattle.table.specs.RecordTest.{isBlank, isNone, walk};
 ghost use Rattle.part.specs.Adds.{empty as emptyPart, opened};
 ghost use Rattle.part.specs.Openings.{openedResult};
-ghost use Rattle.part.specs.Parts.{Shaped};
+ghost use Rattle.part.specs.Parts.{Shaped, inUse};
+ghost use Rattle.part.specs.SoundTest.{sound as isSound};
 use table::INPUT_ROOM;
 use table::TABLE_ROOM;
 use table::Table;
 use table::blank;
+use table::rules::after;
+use table::rules::is_blank;
+use table::rules::keeps;
+use table::rules::none_seen;
 use table::within;
 
 // A part of the row module: the most inputs of a table, how many tables it can hold, how many it holds, and the tables.
@@ -49,6 +60,42 @@ fn empty(k: u8, capacity: u16) -> Part
     }
 }
 
+// The records in use keep the rules.
+fn rules_kept(p: Part) -> bool
+    requires { ⌜ (p .used ≤ p .capacity) × (p .used ≤ tableRoom) ⌝ }
+    ensures { λ r. ⌜ r ≡ isNone (walk (p .k) (p .capacity) [] (inUse p)) ⌝ }
+{
+    let k = p.k;
+    let used = p.used as usize;
+    let mut seen = none_seen();
+    let mut i = 0;
+    while i < used {
+        let r = p.tables[i];
+        if !keeps(seen, k, r) {
+            return false;
+        }
+        seen = after(seen, r);
+        i += 1;
+    }
+    true
+}
+
+// The records past those in use are zero.
+fn rest_blank(p: Part) -> bool
+    requires { ⌜ p .used ≤ tableRoom ⌝ }
+    ensures { λ r. ⌜ r ≡ all isBlank (drop (p .used) (p .tables)) ⌝ }
+{
+    let mut i = p.used as usize;
+    while i < 800 {
+        let r = p.tables[i];
+        if !is_blank(r) {
+            return false;
+        }
+        i += 1;
+    }
+    true
+}
+
 impl Part {
     // A part of no tables. K is tested before the capacity.
     pub fn open(k: u32, capacity: u32) -> Opened
@@ -71,6 +118,26 @@ impl Part {
                 part: empty(0, 0),
                 answer: Opening::KOutOfRange,
             }
+        }
+    }
+
+    // The part keeps 01's five points of soundness, whatever its fields hold.
+    pub fn sound(self) -> bool
+        ensures { λ r. ⌜ r ≡ isSound self ⌝ }
+    {
+        if !within(2, INPUT_ROOM, self.k as u32) {
+            return false;
+        }
+        if !within(1, TABLE_ROOM, self.capacity as u32) {
+            return false;
+        }
+        if self.used > self.capacity {
+            return false;
+        }
+        if rules_kept(self) {
+            rest_blank(self)
+        } else {
+            false
         }
     }
 }

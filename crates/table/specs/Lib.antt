@@ -8,3 +8,4 @@ pub mod SeenTest
 pub mod RuleLaws
 pub mod TestedLaws
 pub mod SeenLaws
+pub mod WalkLaws

@@ -1,0 +1,77 @@
+use Prim.Native.Nat.{_-_}
+use native.Mathlib.Omega.{arith}
+use mathlib.Core.Path.{_≡_, refl, sym, _∙_}
+use borrow.Author.Needs.{needs}
+use borrow.Author.Tests.{not-true, not-false}
+use lib.ListN.{length, drop}
+use Rattle.lists.specs.Tests.{all}
+use Rattle.table.specs.Limits.{tableRoom}
+use Rattle.table.specs.LoopLaws.{all-stops, all-goes, all-ends}
+use Rattle.table.specs.RecordTest.{isBlank}
+use Rattle.part.proofs.Shape.{shaped, past}
+use Rattle.part.proofs.rest_blank.Statement.{statement}
+use Rattle.part.proofs.rest_blank.Tie as tie
+
+abbrev Inv-loop : tie.InvT-loop
+Inv-loop p i₀ i = (length (p .tables) ≡ tableRoom) × (all isBlank (drop (p .used) (p .tables)) ≡ all isBlank (drop i (p .tables)))
+
+abbrev μ-loop : tie.MeasureT-loop
+μ-loop p i₀ i = tableRoom - i
+
+cast-i : tie.Need-cast-i Inv-loop μ-loop
+cast-i c = search needs
+
+loop-holds : tie.Need-loop-holds Inv-loop μ-loop
+loop-holds c =
+    let t = c .good .0 .1 .1 .1 .1 .1 .0 in
+    (shaped (c .args .t1) (t .0) (t .1 .0 .1) (t .1 .1) .records, refl)
+
+mul-r : tie.Need-mul-r Inv-loop μ-loop
+mul-r c = omega arith
+
+element-copy-out-r : tie.Need-element-copy-out-r Inv-loop μ-loop
+element-copy-out-r c = omega arith
+
+is-blank-requires : tie.Need-is-blank-requires Inv-loop μ-loop
+is-blank-requires c κs = search needs
+
+returns : tie.Need-returns Inv-loop μ-loop
+returns c =
+    let p = c .before .before .before .before .before .args .t1 in
+    let l = c .before .before .before .before .loop in
+    sym (l .inv .1 ∙ all-stops isBlank (p .tables) (l .i) past (omega arith) (sym (c .before .is-blank .ensures) ∙ not-true _ (c .if1 .taken)))
+
+add-i : tie.Need-add-i Inv-loop μ-loop
+add-i c = omega arith
+
+loop-less : tie.Need-loop-less Inv-loop μ-loop
+loop-less c = omega arith
+
+loop-again : tie.Need-loop-again Inv-loop μ-loop
+loop-again c =
+    let p = c .before .before .before .before .before .args .t1 in
+    let l = c .before .before .before .before .loop in
+    (l .inv .0, l .inv .1 ∙ all-goes isBlank (p .tables) (l .i) past (omega arith) (sym (c .before .is-blank .ensures) ∙ not-false _ (c .if1 .left)))
+
+returns-2 : tie.Need-returns-2 Inv-loop μ-loop
+returns-2 c =
+    let p = c .before .before .args .t1 in
+    let l = c .before .loop in
+    sym (l .inv .1 ∙ all-ends isBlank (p .tables) (l .i) past (omega arith))
+
+pub rest-blank-spec : {M : Type 1} → statement M
+rest-blank-spec =
+    tie.close
+    (tie.spec
+    Inv-loop
+    μ-loop
+    cast-i
+    loop-holds
+    mul-r
+    element-copy-out-r
+    is-blank-requires
+    returns
+    add-i
+    loop-less
+    loop-again
+    returns-2)

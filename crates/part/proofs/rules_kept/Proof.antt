@@ -1,0 +1,104 @@
+use Prim.Native.Nat.{_+_, _-_, _≤_, _<_}
+use native.Mathlib.Omega.{arith}
+use mathlib.Core.Path.{_≡_, refl, sym, ap, _∙_, subst}
+use mathlib.Core.Bool.{true, false}
+use mathlib.Core.List.{[]}
+use borrow.Author.Needs.{needs}
+use borrow.Author.Tests.{not-true, not-false, lt-ltb}
+use lib.ListN.{length, getD, take, drop}
+use lib.Seq.{length-take-le}
+use Rattle.table.specs.Limits.{tableRoom}
+use Rattle.table.specs.RecordTest.{keeps, walk, isNone}
+use Rattle.table.specs.SeenTest.{Stands}
+use Rattle.table.specs.SeenLaws.{stands-none, stands-after, keeps-stands}
+use Rattle.table.specs.WalkLaws.{walk-ends, walk-stops, walk-goes, before-next}
+use Rattle.part.specs.Parts.{inUse}
+use Rattle.part.proofs.Shape.{shaped, past}
+use Rattle.part.proofs.rules_kept.Statement.{statement}
+use Rattle.part.proofs.rules_kept.Tie as tie
+
+abbrev Inv-loop : tie.InvT-loop
+Inv-loop p k used seen₀ i₀ seen i =
+    (i ≤ p .used) × (length (p .tables) ≡ tableRoom) × Stands seen (take i (p .tables))
+    × (walk (p .k) (p .capacity) [] (inUse p) ≡ walk (p .k) (p .capacity) (take i (p .tables)) (drop i (inUse p)))
+
+abbrev μ-loop : tie.MeasureT-loop
+μ-loop p k used seen₀ i₀ seen i = p .used - i
+
+cast-used : tie.Need-cast-used Inv-loop μ-loop
+cast-used c = search needs
+
+none-seen-requires : tie.Need-none-seen-requires Inv-loop μ-loop
+none-seen-requires c κs = search needs
+
+loop-holds : tie.Need-loop-holds Inv-loop μ-loop
+loop-holds c =
+    let t = c .before .good .0 .1 .1 .1 .1 .1 .0 in
+    (omega arith, shaped (c .before .args .t1) (t .0) (t .1 .0 .1) (t .1 .1) .records, subst (λ s. Stands s []) (sym (c .none-seen .ensures)) stands-none, refl)
+
+mul-r : tie.Need-mul-r Inv-loop μ-loop
+mul-r c = omega arith
+
+element-copy-out-r : tie.Need-element-copy-out-r Inv-loop μ-loop
+element-copy-out-r c = omega arith
+
+keeps-requires : tie.Need-keeps-requires Inv-loop μ-loop
+keeps-requires c κs = search needs
+
+returns : tie.Need-returns Inv-loop μ-loop
+returns c =
+    let p = c .before .before .before .before .before .before .args .t1 in
+    let l = c .before .before .before .before .loop in
+    let r = getD (p .tables) (l .i) past in
+    let e : keeps (p .k) (take (l .i) (p .tables)) r ≡ false =
+    sym (keeps-stands (l .seen) (take (l .i) (p .tables)) (l .inv .2) (p .k) r) ∙ sym (c .before .keeps .ensures) ∙ not-true _ (c .if1 .taken) in
+    sym (ap isNone (l .inv .3 ∙ walk-stops (p .k) (p .capacity) (p .tables) (p .used) (l .i) (omega arith) past (omega arith) (lt-ltb (l .i) (p .capacity) (omega arith)) e))
+
+after-requires : tie.Need-after-requires Inv-loop μ-loop
+after-requires c κs = search needs
+
+add-i : tie.Need-add-i Inv-loop μ-loop
+add-i c = omega arith
+
+loop-less : tie.Need-loop-less Inv-loop μ-loop
+loop-less c = omega arith
+
+loop-again : tie.Need-loop-again Inv-loop μ-loop
+loop-again c =
+    let p = c .before .before .before .before .before .before .before .args .t1 in
+    let l = c .before .before .before .before .before .loop in
+    let r = getD (p .tables) (l .i) past in
+    let b = take (l .i) (p .tables) in
+    let e : keeps (p .k) b r ≡ true = sym (keeps-stands (l .seen) b (l .inv .2) (p .k) r) ∙ sym (c .before .before .keeps .ensures) ∙ not-false _ (c .before .if1 .left) in
+    let n : length b < tableRoom = rw (length-take-le (l .i) (p .tables) (omega arith)) (omega arith) in (
+      omega arith,
+      l .inv .1,
+      subst (λ s. Stands s (take (l .i + 1) (p .tables))) (sym (c .after .ensures))
+          (rw (before-next (p .k) (p .capacity) (p .tables) (p .used) (l .i) (omega arith) past (omega arith)) (stands-after (l .seen) b r (l .inv .2) n)),
+      l .inv .3 ∙ walk-goes (p .k) (p .capacity) (p .tables) (p .used) (l .i) (omega arith) past (omega arith) (lt-ltb (l .i) (p .capacity) (omega arith)) e,
+    )
+
+returns-2 : tie.Need-returns-2 Inv-loop μ-loop
+returns-2 c =
+    let p = c .before .before .before .args .t1 in
+    let l = c .before .loop in
+    sym (ap isNone (l .inv .3 ∙ walk-ends (p .k) (p .capacity) (p .tables) (p .used) (l .i) (omega arith) (omega arith)))
+
+pub rules-kept-spec : {M : Type 1} → statement M
+rules-kept-spec =
+    tie.close
+    (tie.spec
+    Inv-loop
+    μ-loop
+    cast-used
+    none-seen-requires
+    loop-holds
+    mul-r
+    element-copy-out-r
+    keeps-requires
+    returns
+    after-requires
+    add-i
+    loop-less
+    loop-again
+    returns-2)
