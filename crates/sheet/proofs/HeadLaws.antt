@@ -18,7 +18,7 @@ use Rattle.sheet.specs.Inside.{valueOf, valuesOf, fieldsOf, Room}
 
 -- ---- the fields as a list
 
-abbrev zeroValue : FieldValue
+abbrev pub zeroValue : FieldValue
 zeroValue = record { negative = false; magnitude = 0 }
 
 -- the number in field i

@@ -1,3 +1,4 @@
 pub mod LineLaws
 pub mod HeadLaws
 pub mod GateLaws
+pub mod FieldLaws

@@ -20,7 +20,7 @@ use Rattle.sheet.specs.declared.KindRead.the-variants.{Is, Neither}
 use Rattle.sheet.specs.declared.GateHead.{GateHead}
 use Rattle.sheet.specs.declared.GateHead.the-variants.{Good as GoodGate, Bad as BadGate}
 use Rattle.sheet.specs.Limits.{mostFields, mostFanins}
-use Rattle.sheet.specs.Line.{line}
+use Rattle.sheet.specs.Line.{line, fields}
 use Rattle.sheet.specs.Step.{Step, good, bad}
 use Rattle.sheet.specs.Read.{Head as LineOne, gateHeadOf}
 use Rattle.sheet.specs.Answers.{numberOf}
@@ -51,6 +51,10 @@ fieldsOf f = cond (f .laid) (some (valuesOf f)) none
 pub record Room (f : Fields) : Type 0 where
   pub whole : length (f .numbers) ≡ mostFields
   pub within : f .count ≤ mostFields
+
+pub record FieldsRead (bytes : List ℕ) (f : Fields) : Type 0 where
+  pub same : fields bytes ≡ fieldsOf f
+  pub room : Room f
 
 -- ---- line 1
 

@@ -1,16 +1,20 @@
 // Reading a sheet: one fanout-free tree of gates, with an output net.
 ghost use mathlib.Core.Path.{_≡_};
+ghost use mathlib.Core.Bool.{false};
 ghost use Rattle.sheet.specs.Read.{within, counts, headOf, kindOf};
-ghost use Rattle.sheet.specs.Inside.{LineEnds, valueOf, fieldsOf, Room, headStep, kindStep, GateHeadRead};
+ghost use Rattle.sheet.specs.Inside.{LineEnds, valueOf, fieldsOf, Room, FieldsRead, headStep, kindStep, GateHeadRead};
 use tree::Kind;
 
 // The most gates of a sheet, and the fewest and the most fanins of a gate.
 pub const MOST_GATES: usize = 255;
+
 pub const FEWEST_FANINS: usize = 2;
+
 pub const MOST_FANINS: usize = 10;
 
 // The most fields of a line, and the columns of a field.
 const MOST_FIELDS: usize = 12;
+
 const COLUMNS: usize = 6;
 
 // What a fanin reads: a net, or an earlier gate.
@@ -98,6 +102,61 @@ struct Fields {
     laid: bool,
     count: usize,
     numbers: [FieldValue; MOST_FIELDS],
+}
+
+// No fields: of a line that is not laid out.
+fn no_fields() -> Fields
+    ensures { λ r. ⌜ (r .laid ≡ false) × Room r ⌝ }
+{
+    let zero = FieldValue {
+        negative: false,
+        magnitude: 0,
+    };
+    let numbers = [zero; MOST_FIELDS];
+    Fields {
+        laid: false,
+        count: 0,
+        numbers,
+    }
+}
+
+// The fields of the bytes before a line feed: one to twelve, each a number in six columns.
+fn read_fields(line: &[u8]) -> Fields
+    ensures { λ r. ⌜ FieldsRead (now (line .entry)) r ⌝ }
+{
+    if line.len() == 0 {
+        return no_fields();
+    }
+    let zero = FieldValue {
+        negative: false,
+        magnitude: 0,
+    };
+    let mut numbers = [zero; MOST_FIELDS];
+    let mut count: usize = 0;
+    let mut at: usize = 0;
+    while at < line.len() {
+        if MOST_FIELDS <= count {
+            return no_fields();
+        }
+        if line.len() - at < COLUMNS {
+            return no_fields();
+        }
+        let end = at + COLUMNS;
+        let decimal::Field::Value(v) = decimal::read(&line[at..end]) else {
+            return no_fields();
+        };
+        numbers[count] = FieldValue {
+            negative: decimal::negative(v),
+            magnitude: decimal::magnitude(v),
+        };
+        count += 1;
+        at = end;
+    }
+    Fields {
+        laid: true,
+        count,
+        numbers,
+    }
 }
 
 fn within(low: u32, high: u32, n: u32) -> bool
