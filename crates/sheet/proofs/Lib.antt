@@ -2,3 +2,4 @@ pub mod LineLaws
 pub mod HeadLaws
 pub mod GateLaws
 pub mod FieldLaws
+pub mod FaninLaws

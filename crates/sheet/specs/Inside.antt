@@ -3,7 +3,7 @@ use Prim.Native.Nat.{ℕ, suc, _+_, _-_, _≤_, _<_}
 use mathlib.Core.Path.{_≡_}
 use mathlib.Core.Bool.{Bool, true, false, cond}
 use mathlib.Core.Option.{Option, none, some}
-use mathlib.Core.List.{List, _++_, map}
+use mathlib.Core.List.{List, [], _∷_, _++_, map}
 use lib.ListN.{length, getD, take, drop}
 use Rattle.tree.specs.declared.Kind.{Kind}
 use Rattle.tree.specs.Limits.{greatestNet}
@@ -19,10 +19,13 @@ use Rattle.sheet.specs.declared.KindRead.{KindRead}
 use Rattle.sheet.specs.declared.KindRead.the-variants.{Is, Neither}
 use Rattle.sheet.specs.declared.GateHead.{GateHead}
 use Rattle.sheet.specs.declared.GateHead.the-variants.{Good as GoodGate, Bad as BadGate}
-use Rattle.sheet.specs.Limits.{mostFields, mostFanins}
+use Rattle.sheet.specs.declared.Source.the-variants.{Net as net, Gate as gate}
+use Rattle.sheet.specs.declared.Fanin.{Fanin}
+use Rattle.sheet.specs.declared.Fanin.the-variants.{Reads, Bad as BadFanin}
+use Rattle.sheet.specs.Limits.{gateBase, mostFields, mostGates, mostFanins}
 use Rattle.sheet.specs.Line.{line, fields}
 use Rattle.sheet.specs.Step.{Step, good, bad}
-use Rattle.sheet.specs.Read.{Head as LineOne, gateHeadOf}
+use Rattle.sheet.specs.Read.{Head as LineOne, gateHeadOf, member, Seen, sourceOf, readFanin}
 use Rattle.sheet.specs.Answers.{numberOf}
 
 -- ---- where a line ends
@@ -76,3 +79,38 @@ gateHeadStep g f (BadGate why) = bad (numberOf why) (suc g)
 pub record GateHeadRead (f : Fields) (r : GateHead) : Type 0 where
   pub step : (g : ℕ) → gateHeadOf g (fieldsOf f) ≡ gateHeadStep g f r
   pub fanins : (kind : Kind) (count : ℕ) → r ≡ GoodGate kind count → (count + 2 ≡ f .count) × (count ≤ mostFanins)
+
+-- ---- fanins
+
+-- the flags from `base` on say which numbers below `size` are in the list
+abbrev pub Flagged : (base size : ℕ) → List Bool → List ℕ → Type 0
+Flagged base size flags xs = (n : ℕ) → n < size → getD flags (base + n) false ≡ member n xs
+
+-- how many numbers have a flag: all that a fanin may be written as, and those below
+abbrev pub codes : ℕ
+codes = gateBase + mostGates + 1
+
+-- the flags and the number of leaves stand for what was read so far: a net has its flag at its number, gate g at the base and g
+pub record Marked (flags : List Bool) (leaves : ℕ) (seen : Seen) : Type 0 where
+  pub whole : length flags ≡ codes
+  pub nets : Flagged 0 gateBase flags (seen .nets)
+  pub gates : Flagged gateBase (mostGates + 1) flags (seen .gates)
+  pub count : length (seen .nets) ≡ leaves
+
+-- one net or gate more
+abbrev pub saw : Seen → Source → Seen
+saw seen (net n) = record { nets = seen .nets ++ (n ∷ []); gates = seen .gates }
+saw seen (gate g) = record { nets = seen .nets; gates = seen .gates ++ (g ∷ []) }
+
+abbrev pub sourceStep : Fanin → Option Source
+sourceStep (Reads source) = some source
+sourceStep (BadFanin why) = none
+
+abbrev pub faninStep : ℕ → Seen → Fanin → Step (Source × Seen)
+faninStep g seen (Reads source) = good (source, saw seen source)
+faninStep g seen (BadFanin why) = bad (numberOf why) (suc g)
+
+-- a fanin of gate g that is written as n
+pub record FaninRead (flags : List Bool) (leaves out g n : ℕ) (r : Fanin) : Type 0 where
+  pub source : (s : Source) → r ≡ Reads s → sourceOf g n ≡ some s
+  pub step : (seen : Seen) → Marked flags leaves seen → readFanin out g seen n ≡ faninStep g seen r

@@ -17,7 +17,7 @@ use Rattle.sheet.specs.Line.{fields}
 use Rattle.sheet.specs.declared.Source.{Source}
 use Rattle.sheet.specs.declared.Source.the-variants.{Net as net, Gate as gate}
 use Rattle.sheet.specs.declared.Edge.{Edge as Fanin}
-use Rattle.sheet.specs.Sheet.{DrawnGate, DrawnSheet, sheet, netOf, gateOf, faninNets, faninGates, leafNets, gatesRead, from}
+use Rattle.sheet.specs.Sheet.{DrawnGate, DrawnSheet, sheet, netOf, gateOf, codeOf, faninNets, faninGates, leafNets, gatesRead, from}
 use Rattle.sheet.specs.Step.{Step}
 use Rattle.sheet.specs.StepLaws.{Meets, on, off, meets-map, meets-bind, meets-require, meets-given}
 use Rattle.sheet.specs.Read.{within, Seen, nothing, readHead, sourceOf, readSource, readFanin, readFanins, gateHeadOf, readGate, readLeft, readUnread, readAll, reading, readSheet}
@@ -58,21 +58,26 @@ head-meets bytes =
 
 -- ---- fanins
 
-abbrev Named : (g : ℕ) → Source → Type 0
-Named g s = Every Net (netOf s) × Every (Before g) (gateOf s)
+-- it is written as n, and is a net or a gate before gate g
+pub record Named (g n : ℕ) (s : Source) : Type 0 where
+  pub is-net : Every Net (netOf s)
+  pub is-before : Every (Before g) (gateOf s)
+  pub code : codeOf s ≡ n
 
-source-named : (g n : ℕ) (s : Source) → sourceOf g n ≡ some s → Named g s
+pub source-named : (g n : ℕ) (s : Source) → sourceOf g n ≡ some s → Named g n s
 source-named g n =
-    by-test (λ b. (s : Source) → cond b (some (net n)) (cond (ltb gateBase n && ltb n (gateBase + g)) (some (gate (n - gateBase))) none) ≡ some s → Named g s)
+    by-test (λ b. (s : Source) → cond b (some (net n)) (cond (ltb gateBase n && ltb n (gateBase + g)) (some (gate (n - gateBase))) none) ≡ some s → Named g n s)
     (within 1 greatestNet n)
-    (λ t s e. let q : net n ≡ s = cc in subst (Named g) q (every-cons (within-holds 1 greatestNet n t) (every-none _), every-none _))
-    (λ f. by-test (λ b. (s : Source) → cond b (some (gate (n - gateBase))) none ≡ some s → Named g s) (ltb gateBase n && ltb n (gateBase + g))
+    (λ t s e.
+    let q : net n ≡ s = cc in
+    subst (Named g n) q (record { is-net = every-cons (within-holds 1 greatestNet n t) (every-none _); is-before = every-none _; code = refl }))
+    (λ f. by-test (λ b. (s : Source) → cond b (some (gate (n - gateBase))) none ≡ some s → Named g n s) (ltb gateBase n && ltb n (gateBase + g))
     (λ t s e.
     let q : gate (n - gateBase) ≡ s = cc in
     let a = and-split (ltb gateBase n) (ltb n (gateBase + g)) t in
     let l = ltb→lt gateBase n (a .0) in
     let u = ltb→lt n (gateBase + g) (a .1) in
-    subst (Named g) q (every-none _, every-cons (omega arith) (every-none _)))
+    subst (Named g n) q (record { is-net = every-none _; is-before = every-cons (omega arith) (every-none _); code = omega arith }))
     (λ t s e. let z : _≡_ {A = ℕ} 0 1 = cc in absurd (omega arith)))
 
 source-meets : (out place : ℕ) (seen : Seen) (s : Source) → Sound out seen → Every Net (netOf s) →
@@ -107,7 +112,7 @@ fanin-meets : (out g : ℕ) (seen : Seen) (n : ℕ) → Sound out seen →
 fanin-meets out g seen n h =
     meets-given _ _ _ _ (λ s e.
     let d = source-named g n s e in
-    meets-bind _ _ (source-meets out (suc g) seen s h (d .0)) (λ seen₁ p. on (p, d .1)))
+    meets-bind _ _ (source-meets out (suc g) seen s h (d .is-net)) (λ seen₁ p. on (p, d .is-before)))
 
 pub record FaninsRead (out g : ℕ) (seen : Seen) (count : ℕ) (r : List Fanin × Seen) : Type 0 where
   pub also : Also out seen (r .1) (faninNets (r .0)) (faninGates (r .0))

@@ -1,9 +1,10 @@
 -- A sheet as it is drawn: its gates in order, numbered from 1, the last of which is the root. Definitions only.
-use Prim.Native.Nat.{ℕ, zero, suc}
+use Prim.Native.Nat.{ℕ, zero, suc, _+_}
 use mathlib.Core.Bool.{Bool}
 use mathlib.Core.List.{List, [], _∷_}
 use Rattle.lists.specs.Lists.{gather}
 use Rattle.tree.specs.declared.Kind.{Kind}
+use Rattle.sheet.specs.Limits.{gateBase}
 -- a fanin, and what it reads, are those of the code
 use Rattle.sheet.specs.declared.Source.{Source}
 use Rattle.sheet.specs.declared.Source.the-variants.{Net as net, Gate as gate}
@@ -32,6 +33,11 @@ netOf (gate g) = []
 abbrev pub gateOf : Source → List ℕ
 gateOf (net n) = []
 gateOf (gate g) = g ∷ []
+
+-- the number that it is written as
+abbrev pub codeOf : Source → ℕ
+codeOf (net n) = n
+codeOf (gate g) = gateBase + g
 
 -- the nets and the gates that some fanins read, from left to right
 abbrev pub faninNets : List Fanin → List ℕ

@@ -1,8 +1,12 @@
 // Reading a sheet: one fanout-free tree of gates, with an output net.
 ghost use mathlib.Core.Path.{_≡_};
 ghost use mathlib.Core.Bool.{false};
-ghost use Rattle.sheet.specs.Read.{within, counts, headOf, kindOf};
-ghost use Rattle.sheet.specs.Inside.{LineEnds, valueOf, fieldsOf, Room, FieldsRead, headStep, kindStep, GateHeadRead};
+ghost use Prim.Native.Nat.{_+_, _≤_};
+ghost use lib.ListN.{length};
+ghost use Rattle.sheet.specs.Read.{within, counts, headOf, kindOf, sourceOf};
+ghost use Rattle.sheet.specs.Limits.{mostGates, mostLeaves};
+ghost use Rattle.sheet.specs.Sheet.{netOf};
+ghost use Rattle.sheet.specs.Inside.{LineEnds, valueOf, fieldsOf, Room, FieldsRead, headStep, kindStep, GateHeadRead, sourceStep, FaninRead};
 use tree::Kind;
 
 // The most gates of a sheet, and the fewest and the most fanins of a gate.
@@ -11,6 +15,12 @@ pub const MOST_GATES: usize = 255;
 pub const FEWEST_FANINS: usize = 2;
 
 pub const MOST_FANINS: usize = 10;
+
+// The most leaves of a sheet.
+pub const MOST_LEAVES: u16 = 256;
+
+// How many numbers have a flag: all that a fanin may be written as, and those below.
+const CODES: usize = tree::CODE_BASE as usize + MOST_GATES + 1;
 
 // The most fields of a line, and the columns of a field.
 const MOST_FIELDS: usize = 12;
@@ -257,4 +267,69 @@ fn read_gate_head(f: Fields) -> GateHead
         return GateHead::Bad(Refusal::Layout);
     }
     GateHead::Good(kind, n as u8)
+}
+
+// A fanin: what it reads, or why it is refused.
+enum Fanin {
+    Reads(Source),
+    Bad(Refusal),
+}
+
+// What a fanin of a gate is written as: a net, or an earlier gate.
+fn source_of(gate: u16, code: u32) -> Fanin
+    requires { ⌜ gate ≤ mostGates ⌝ }
+    ensures { λ r. ⌜ sourceOf gate code ≡ sourceStep r ⌝ }
+{
+    if within(1, tree::GREATEST_NET as u32, code) {
+        return Fanin::Reads(Source::Net(code as u16));
+    }
+    let base = tree::CODE_BASE as u32;
+    if code <= base {
+        return Fanin::Bad(Refusal::NoSource);
+    }
+    if base + gate as u32 <= code {
+        return Fanin::Bad(Refusal::NoSource);
+    }
+    Fanin::Reads(Source::Gate((code - base) as u16))
+}
+
+// A fanin of a gate, where `seen` has a flag at each number that was a fanin before.
+fn read_fanin(seen: &[bool; CODES], leaves: u16, out: u16, gate: u16, code: u32) -> Fanin
+    requires { ⌜ gate ≤ mostGates ⌝ }
+    ensures { λ r. ⌜ FaninRead (now (seen .entry)) leaves out gate code r ⌝ }
+{
+    let Fanin::Reads(source) = source_of(gate, code) else {
+        return Fanin::Bad(Refusal::NoSource);
+    };
+    let twice = seen[code as usize];
+    match source {
+        Source::Gate(_) => {
+            if twice {
+                return Fanin::Bad(Refusal::GateTwice);
+            }
+        }
+        Source::Net(n) => {
+            if twice {
+                return Fanin::Bad(Refusal::NetTwice);
+            }
+            if n == out {
+                return Fanin::Bad(Refusal::OutputLeaf);
+            }
+            if MOST_LEAVES <= leaves {
+                return Fanin::Bad(Refusal::LeafCount);
+            }
+        }
+    }
+    Fanin::Reads(source)
+}
+
+// The number of leaves with what one more fanin reads.
+fn with_leaf(leaves: u16, source: Source) -> u16
+    requires { ⌜ leaves ≤ mostLeaves ⌝ }
+    ensures { λ r. ⌜ r ≡ leaves + length (netOf source) ⌝ }
+{
+    match source {
+        Source::Net(_) => leaves + 1,
+        Source::Gate(_) => leaves,
+    }
 }
