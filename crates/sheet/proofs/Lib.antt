@@ -3,3 +3,4 @@ pub mod HeadLaws
 pub mod GateLaws
 pub mod FieldLaws
 pub mod FaninLaws
+pub mod LinesLaws

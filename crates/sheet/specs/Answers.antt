@@ -13,6 +13,7 @@ use Rattle.sheet.specs.declared.Refusal.the-variants.{Layout, OutputNet,
 use Rattle.sheet.specs.declared.Answer.{Answer}
 use Rattle.sheet.specs.declared.Answer.the-variants.{Accepted, Refused}
 use Rattle.sheet.specs.declared.Reading.{Reading}
+use Rattle.sheet.specs.Limits.{mostGates, mostFanins}
 use Rattle.sheet.specs.Sheet.{DrawnGate, DrawnSheet, Outcome, sheet, refused}
 
 -- 01, "Turned down because of the input"
@@ -47,14 +48,11 @@ abbrev pub outcome : Reading → Outcome
 outcome r = answered (r .answer) (drawnSheet (r .sheet))
 
 -- all zero: what stands past the counts, and for the sheet of a text that is refused
-abbrev pub noEdge : Edge
-noEdge = record { inverted = false; source = net 0 }
-
-abbrev pub noGate : Gate
-noGate = record { kind = and; count = 0; fanins = replicate 10 noEdge }
+abbrev pub noFanins : List Edge
+noFanins = replicate mostFanins (record { inverted = false; source = net 0 })
 
 unfoldable pub noGates : List Gate
-noGates = replicate 255 noGate
+noGates = replicate mostGates (record { kind = and; count = 0; fanins = noFanins })
 
 abbrev pub noSheet : Sheet
 noSheet = record { out = 0; inverted = false; count = 0; gates = noGates }

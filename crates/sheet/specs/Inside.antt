@@ -22,11 +22,18 @@ use Rattle.sheet.specs.declared.GateHead.the-variants.{Good as GoodGate,
 use Rattle.sheet.specs.declared.Source.the-variants.{Net as net, Gate as gate}
 use Rattle.sheet.specs.declared.Fanin.{Fanin}
 use Rattle.sheet.specs.declared.Fanin.the-variants.{Reads, Bad as BadFanin}
-use Rattle.sheet.specs.Limits.{gateBase, mostFields, mostGates, mostFanins}
+use Rattle.sheet.specs.declared.Answer.{Answer}
+use Rattle.sheet.specs.declared.Answer.the-variants.{Accepted, Refused}
+use Rattle.sheet.specs.declared.Fault.{Fault}
+use Rattle.sheet.specs.declared.Fault.the-variants.{Nothing, Is as IsFault}
+use Rattle.sheet.specs.declared.GateLine.{GateLine}
+use Rattle.sheet.specs.declared.Lines.{Lines}
+use Rattle.sheet.specs.Sheet.{DrawnGate, DrawnSheet, netOf}
+use Rattle.sheet.specs.Limits.{gateBase, mostFields, mostGates, mostFanins, mostLeaves}
 use Rattle.sheet.specs.Line.{line, fields}
-use Rattle.sheet.specs.Step.{Step, good, bad}
-use Rattle.sheet.specs.Read.{Head as LineOne, gateHeadOf, member, Seen, sourceOf, readFanin}
-use Rattle.sheet.specs.Answers.{numberOf}
+use Rattle.sheet.specs.Step.{Step, good, bad, _>>=_, given}
+use Rattle.sheet.specs.Read.{Head as LineOne, gateHeadOf, member, Seen, nothing, sourceOf, readFanin, readLeft}
+use Rattle.sheet.specs.Answers.{numberOf, drawnSheet}
 
 -- ---- where a line ends
 
@@ -80,6 +87,28 @@ pub record GateHeadRead (f : Fields) (r : GateHead) : Type 0 where
   pub step : (g : ℕ) → gateHeadOf g (fieldsOf f) ≡ gateHeadStep g f r
   pub fanins : (kind : Kind) (count : ℕ) → r ≡ GoodGate kind count → (count + 2 ≡ f .count) × (count ≤ mostFanins)
 
+-- ---- a gate's line
+
+-- the line of gate g at the front of a text: its kind, the numbers of its fanins, and the rest of the text
+abbrev pub gateLine : (g : ℕ) → List ℕ → Step (Kind × List Number × List ℕ)
+gateLine g text = do
+  (bytes, rest) ← given (line text) 1 (suc g)
+  (kind, more) ← gateHeadOf g (fields bytes)
+  good (kind, more, rest)
+
+abbrev pub faninNumbers : GateLine → List Number
+faninNumbers l = map valueOf (take (l .count) (drop 2 (l .numbers)))
+
+abbrev pub faultStep : {A : Type 0} → ℕ → Fault → A → Step A
+faultStep g Nothing a = good a
+faultStep g (IsFault why) a = bad (numberOf why) (suc g)
+
+-- of gate g, whichever it is
+pub record GateLineRead (text : List ℕ) (start : ℕ) (l : GateLine) : Type 0 where
+  pub step : (g : ℕ) → gateLine g (drop start text) ≡ faultStep g (l .fault) (l .kind, faninNumbers l, drop (l .end) text)
+  pub whole : length (l .numbers) ≡ mostFields
+  pub within : l .count ≤ mostFanins
+
 -- ---- fanins
 
 -- the flags from `base` on say which numbers below `size` are in the list
@@ -113,4 +142,22 @@ faninStep g seen (BadFanin why) = bad (numberOf why) (suc g)
 -- a fanin of gate g that is written as n
 pub record FaninRead (flags : List Bool) (leaves out g n : ℕ) (r : Fanin) : Type 0 where
   pub source : (s : Source) → r ≡ Reads s → sourceOf g n ≡ some s
+  pub few : (s : Source) → r ≡ Reads s → leaves ≤ mostLeaves → leaves + length (netOf s) ≤ mostLeaves
   pub step : (seen : Seen) → Marked flags leaves seen → readFanin out g seen n ≡ faninStep g seen r
+
+-- ---- the lines of a sheet
+
+-- the answer is the step's: it went on to something of which `P` holds, or was refused
+abbrev pub Comes : {A : Type 0} → Answer → (A → Type 0) → Step A → Type 0
+Comes {A} Accepted P m = (a : A) × (P a × (m ≡ good a))
+Comes (Refused why line) P m = m ≡ bad (numberOf why) line
+
+-- what was read of the gates: their list, the nets and gates seen, and the rest of the text
+pub record GatesHeld (text : List ℕ) (head : LineOne) (r : Lines) (a : List DrawnGate × Seen × List ℕ) : Type 0 where
+  pub held : drawnSheet (r .sheet) ≡ record { out = head .out; inverted = head .inverted; gates = a .0 }
+  pub count : r .sheet .count ≡ head .count
+  pub marked : Marked (r .seen) (length (a .1 .nets)) (a .1)
+  pub rest : a .2 ≡ drop (r .end) text
+
+abbrev pub GatesRead : List ℕ → ℕ → LineOne → Lines → Type 0
+GatesRead text start head r = Comes (r .answer) (GatesHeld text head r) (readLeft (head .out) (head .count) 1 nothing (drop start text))

@@ -4,9 +4,10 @@ ghost use mathlib.Core.Bool.{false};
 ghost use Prim.Native.Nat.{_+_, _≤_};
 ghost use lib.ListN.{length};
 ghost use Rattle.sheet.specs.Read.{within, counts, headOf, kindOf, sourceOf};
-ghost use Rattle.sheet.specs.Limits.{mostGates, mostLeaves};
+ghost use Rattle.sheet.specs.Answers.{noFanins, noGates};
+ghost use Rattle.sheet.specs.Limits.{mostFields, mostGates, mostLeaves};
 ghost use Rattle.sheet.specs.Sheet.{netOf};
-ghost use Rattle.sheet.specs.Inside.{LineEnds, valueOf, fieldsOf, Room, FieldsRead, headStep, kindStep, GateHeadRead, sourceStep, FaninRead};
+ghost use Rattle.sheet.specs.Inside.{LineEnds, valueOf, fieldsOf, Room, FieldsRead, headStep, kindStep, GateHeadRead, GateLineRead, sourceStep, FaninRead, GatesRead};
 use tree::Kind;
 
 // The most gates of a sheet, and the fewest and the most fanins of a gate.
@@ -269,6 +270,59 @@ fn read_gate_head(f: Fields) -> GateHead
     GateHead::Good(kind, n as u8)
 }
 
+// Whether something is refused, and why.
+enum Fault {
+    Nothing,
+    Is(Refusal),
+}
+
+// A gate's line: its kind, its fanin count, the place after the line, and the line's numbers.
+struct GateLine {
+    fault: Fault,
+    kind: Kind,
+    count: u8,
+    end: usize,
+    numbers: [FieldValue; MOST_FIELDS],
+}
+
+fn bad_line(why: Refusal) -> GateLine
+    ensures { λ r. ⌜ (r .fault ≡ Fault.Is why) × (r .count ≡ 0) × (length (r .numbers) ≡ mostFields) ⌝ }
+{
+    let zero = FieldValue {
+        negative: false,
+        magnitude: 0,
+    };
+    let numbers = [zero; MOST_FIELDS];
+    GateLine {
+        fault: Fault::Is(why),
+        kind: Kind::And,
+        count: 0,
+        end: 0,
+        numbers,
+    }
+}
+
+// The gate's line from a place on, up to its fanins.
+fn read_gate_line(text: &[u8], start: usize) -> GateLine
+    ensures { λ r. ⌜ GateLineRead (now (text .entry)) start r ⌝ }
+{
+    let Ending::At(end) = line_end(text, start) else {
+        return bad_line(Refusal::Layout);
+    };
+    let f = read_fields(&text[start..end]);
+    let numbers = f.numbers;
+    match read_gate_head(f) {
+        GateHead::Bad(why) => bad_line(why),
+        GateHead::Good(kind, count) => GateLine {
+            fault: Fault::Nothing,
+            kind,
+            count,
+            end: end + 1,
+            numbers,
+        },
+    }
+}
+
 // A fanin: what it reads, or why it is refused.
 enum Fanin {
     Reads(Source),
@@ -331,5 +385,95 @@ fn with_leaf(leaves: u16, source: Source) -> u16
     match source {
         Source::Net(_) => leaves + 1,
         Source::Gate(_) => leaves,
+    }
+}
+
+// The lines of a sheet that were read: the sheet where they are accepted, the place after them, and a flag at each number that
+// was a fanin.
+struct Lines {
+    answer: Answer,
+    end: usize,
+    sheet: Sheet,
+    seen: [bool; CODES],
+}
+
+// No fanins and no gates: all zero.
+fn no_fanins() -> [Edge; MOST_FANINS]
+    ensures { λ r. ⌜ r ≡ noFanins ⌝ }
+{
+    let none = Edge {
+        inverted: false,
+        source: Source::Net(0),
+    };
+    [none; MOST_FANINS]
+}
+
+fn no_gates() -> [Gate; MOST_GATES]
+    ensures { λ r. ⌜ r ≡ noGates ⌝ }
+{
+    let fanins = no_fanins();
+    let none = Gate {
+        kind: Kind::And,
+        count: 0,
+        fanins,
+    };
+    [none; MOST_GATES]
+}
+
+// The gates' lines from a place on.
+fn gate_lines(text: &[u8], start: usize, out: u16, inverted: bool, count: u8) -> Lines
+    ensures { λ r. ⌜ GatesRead (now (text .entry)) start (record { out = out; inverted = inverted; count = count }) r ⌝ }
+{
+    let mut gates = no_gates();
+    let mut seen = [false; CODES];
+    let mut leaves: u16 = 0;
+    let mut answer = Answer::Accepted;
+    let mut at = start;
+    'lines: for g in 0..count as usize {
+        let gate = g as u16 + 1;
+        let line = read_gate_line(text, at);
+        let fault = line.fault;
+        if let Fault::Is(why) = fault {
+            answer = Answer::Refused(why, gate + 1);
+            break 'lines;
+        }
+        let mut fanins = no_fanins();
+        for i in 0..line.count as usize {
+            let x = line.numbers[i + 2];
+            let code = x.magnitude;
+            match read_fanin(&seen, leaves, out, gate, code) {
+                Fanin::Bad(why) => {
+                    answer = Answer::Refused(why, gate + 1);
+                    break 'lines;
+                }
+                Fanin::Reads(source) => {
+                    fanins[i] = Edge {
+                        inverted: x.negative,
+                        source,
+                    };
+                    leaves = with_leaf(leaves, source);
+                    seen[code as usize] = true;
+                }
+            }
+        }
+        let kind = line.kind;
+        gates[g] = Gate {
+            kind,
+            count: line.count,
+            fanins,
+        };
+        at = line.end;
+    }
+    let sheet = Sheet {
+        out,
+        inverted,
+        count,
+        gates,
+    };
+    Lines {
+        answer,
+        end: at,
+        sheet,
+        seen,
     }
 }

@@ -9,6 +9,7 @@ use Rattle.sheet.specs.declared.Source.the-variants.{Net as net, Gate as
 use Rattle.sheet.specs.declared.Refusal.{Refusal}
 use Rattle.sheet.specs.declared.Fanin.the-variants.{Reads, Bad}
 use Rattle.sheet.specs.Limits.{mostLeaves}
+use Rattle.sheet.specs.Sheet.{netOf}
 use Rattle.sheet.specs.Step.{good}
 use Rattle.sheet.specs.Read.{sourceOf}
 use Rattle.sheet.specs.Inside.{saw, sourceStep}
@@ -53,7 +54,11 @@ returns : tie.Need-returns
 returns c =
     let a = c .before .before .before .args in
     let e = c .before .before .source-of .ensures ∙ ap sourceStep (c .enum-told .given .1) in
-    record { source = λ s q. absurd (none-reads _ s q); step = λ seen h. fanin-none (a .out) (a .gate) seen (a .code) e }
+    record {
+      source = λ s q. absurd (none-reads _ s q);
+      few = λ s q l. absurd (none-reads _ s q);
+      step = λ seen h. fanin-none (a .out) (a .gate) seen (a .code) e;
+    }
 
 -- src/lib.rt:304:17
 element-copy-out-twice : tie.Need-element-copy-out-twice
@@ -72,6 +77,7 @@ returns-2 c =
     let a = s .args in
     record {
       source = λ s q. absurd (none-reads _ s q);
+      few = λ s q l. absurd (none-reads _ s q);
       step = λ seen h. gate-twice (a .out) (a .gate) seen (a .code) _ (gate-is (c .before)) (sym (gate-flag (a .gate) (a .code) (s .pre) h _ (gate-is (c .before))) ∙ c .if1 .taken);
     }
 
@@ -86,6 +92,7 @@ returns-3 c =
     let a = s .args in
     record {
       source = λ s q. absurd (none-reads _ s q);
+      few = λ s q l. absurd (none-reads _ s q);
       step = λ seen h. net-twice (a .out) (a .gate) seen (a .code) _ (net-is (c .before)) (sym (net-flag (a .gate) (a .code) (s .pre) h _ (net-is (c .before))) ∙ c .if2 .taken);
     }
 
@@ -97,6 +104,7 @@ returns-4 c =
     let e = net-is (c .before .before) in
     record {
       source = λ s q. absurd (none-reads _ s q);
+      few = λ s q l. absurd (none-reads _ s q);
       step = λ seen h. net-out (a .out) (a .gate) seen (a .code) _ e (sym (net-flag (a .gate) (a .code) (s .pre) h _ e) ∙ c .before .if2 .left) (eq-eqb _ _ (c .if3 .taken));
     }
 
@@ -108,6 +116,7 @@ returns-5 c =
     let e = net-is (c .before .before .before) in
     record {
       source = λ s q. absurd (none-reads _ s q);
+      few = λ s q l. absurd (none-reads _ s q);
       step = λ seen h.
           net-many (a .out) (a .gate) seen (a .code) _ e (sym (net-flag (a .gate) (a .code) (s .pre) h _ e) ∙ c .before .before .if2 .left) (ne-eqb _ _ (c .before .if3 .left))
           (le-ltb (length (seen .nets)) mostLeaves (omega (arith, h .count)));
@@ -121,6 +130,9 @@ returns-6 c =
     let e = gate-is (c .before) in
     record {
       source = λ s q. source-is (c .before .before .before .before .before) ∙ ap some (cc);
+      few = λ s q l.
+          let z : s ≡ gate (c .before .enum-told2 .given .0 .0) = cc (c .before .enum-told2 .given .1) in
+          omega (arith, ap (λ s. length (netOf s)) z);
       step = λ seen h.
           gate-once (a .out) (a .gate) seen (a .code) _ e (sym (gate-flag (a .gate) (a .code) (s .pre) h _ e) ∙ c .if1 .left)
           ∙ ap (λ s. good (s, saw seen s)) (sym (c .before .enum-told2 .given .1));
@@ -134,6 +146,9 @@ returns-7 c =
     let e = net-is (c .before .before .before) in
     record {
       source = λ s q. e ∙ ap some (cc);
+      few = λ s q l.
+          let z : net (c .before .before .before .before .source2 .given .0 .0) ≡ s = cc in
+          omega (arith, ap (λ s. length (netOf s)) z);
       step = λ seen h.
           net-once (a .out) (a .gate) seen (a .code) _ e (sym (net-flag (a .gate) (a .code) (s .pre) h _ e) ∙ c .before .before .if2 .left) (ne-eqb _ _ (c .before .if3 .left))
           (lt-ltb (length (seen .nets)) mostLeaves (omega (arith, h .count)));

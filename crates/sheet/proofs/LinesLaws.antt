@@ -1,0 +1,314 @@
+-- The gates' lines read one after the other, and on a line the fanins: what is left to read at each moment, and how a step changes it.
+use Prim.Native.Nat.{ℕ, zero, suc, _+_, _-_, _≤_, _<_}
+use native.Mathlib.Omega.{arith}
+use native.Mathlib.Numerals.{add-one}
+use mathlib.Core.Path.{_≡_, refl, sym, ap, _∙_, subst}
+use mathlib.Core.Bool.{Bool, true, false}
+use mathlib.Core.Option.{Option, none, some}
+use mathlib.Core.List.{List, [], _∷_, _++_, map, map-append, append-assoc, append-nil}
+use lib.ListN.{length, getD, take, drop, set, replicate, length-set, length-take, length-drop, length-map, List·getD-map, drop-of-length-le}
+use lib.Seq.{drop-cons, take-suc-set, getD-drop, getD-take, length-take-le}
+use Rattle.tree.specs.declared.Kind.{Kind}
+use Rattle.decimal.specs.Number.{Number}
+use Rattle.sheet.specs.declared.Source.{Source}
+use Rattle.sheet.specs.declared.Edge.{Edge}
+use Rattle.sheet.specs.declared.Gate.{Gate}
+use Rattle.sheet.specs.declared.Answer.{Answer}
+use Rattle.sheet.specs.declared.Answer.the-variants.{Accepted}
+use Rattle.sheet.specs.declared.Refusal.{Refusal}
+use Rattle.sheet.specs.declared.Fault.the-variants.{Nothing, Is}
+use Rattle.sheet.specs.declared.Fanin.{Fanin}
+use Rattle.sheet.specs.declared.Fanin.the-variants.{Reads, Bad}
+use Rattle.sheet.specs.declared.FieldValue.{FieldValue}
+use Rattle.sheet.specs.declared.GateLine.{GateLine}
+use Rattle.sheet.specs.Limits.{mostFields, mostGates, mostFanins, mostLeaves}
+use Rattle.sheet.specs.Line.{line, fields}
+use Rattle.sheet.specs.Sheet.{DrawnGate, netOf}
+use Rattle.sheet.specs.Step.{Step, good, bad, _>>=_, given}
+use Rattle.sheet.specs.Read.{Seen, nothing, sourceOf, readFanin, readFanins, gateHeadOf, readGate, readLeft}
+use Rattle.sheet.specs.Answers.{numberOf, drawnGate, drawnGates}
+use Rattle.sheet.specs.Inside.{valueOf, gateLine, faninNumbers, faultStep, GateLineRead, codes, Marked, saw, faninStep, FaninRead}
+use Rattle.sheet.proofs.HeadLaws.{zeroValue}
+use Rattle.sheet.proofs.FaninLaws.{marked-start, marked-more}
+
+abbrev Gates : Type 0
+Gates = List DrawnGate × Seen × List ℕ
+
+-- ---- what is left to read
+
+-- the gates `gs`, and one more, before those that are read after them
+abbrev ahead : List DrawnGate → Gates → Step Gates
+ahead gs r = good (gs ++ r .0, r .1, r .2)
+
+abbrev gateAhead : List DrawnGate → DrawnGate → Gates → Step Gates
+gateAhead gs x r = good (gs ++ (x ∷ r .0), r .1, r .2)
+
+-- the gates `gs` were read, and so many are left, from gate g on
+abbrev pub lines : (out left g : ℕ) → List DrawnGate → Seen → List ℕ → Step Gates
+lines out left g gs seen text = readLeft out left g seen text >>= ahead gs
+
+-- the lines after gate g, when its fanins are read
+abbrev linesAfter : (out left g : ℕ) → List DrawnGate → Kind → List Edge → List ℕ → List Edge × Seen → Step Gates
+linesAfter out left g gs kind fs rest r = readLeft out left (suc g) (r .1) rest >>= gateAhead gs (record { kind = kind; fanins = fs ++ r .0 })
+
+-- of gate g the fanins `fs` were read too, and the numbers `xs` are left
+abbrev pub fanins : (out left g : ℕ) → List DrawnGate → Kind → List Edge → Seen → List Number → List ℕ → Step Gates
+fanins out left g gs kind fs seen xs rest = readFanins out g seen xs >>= linesAfter out left g gs kind fs rest
+
+module _ (out left g : ℕ) (gs : List DrawnGate) (seen : Seen) where
+  pub lines-start : (text : List ℕ) → readLeft out left g seen text ≡ lines out left g [] seen text
+  unfolding _>>=_
+  lines-start text = of (readLeft out left g seen text)
+    where
+      of : (m : Step Gates) → m ≡ (m >>= ahead [])
+      of (good r) = refl
+      of (bad number place) = refl
+
+  abbrev faninsOf : Kind × List Number × List ℕ → Step Gates
+  faninsOf l = fanins out left g gs (l .0) [] seen (l .1) (l .2)
+
+  -- as the definition has it: the gate, and then the lines left
+  abbrev gateIs : Kind → List Edge × Seen → Step (DrawnGate × Seen)
+  gateIs kind r = good (record { kind = kind; fanins = r .0 }, r .1)
+
+  abbrev leftIs : List ℕ → DrawnGate × Seen → Step Gates
+  leftIs rest u = readLeft out left (suc g) (u .1) rest >>= gateAhead [] (u .0)
+
+  abbrev headIs : Kind × List Number → Step (DrawnGate × Seen)
+  headIs q = readFanins out g seen (q .1) >>= gateIs (q .0)
+
+  abbrev lineIs : List ℕ × List ℕ → Step Gates
+  lineIs p = (gateHeadOf g (fields (p .0)) >>= headIs) >>= leftIs (p .1)
+
+  abbrev withRest : List ℕ → Kind × List Number → Step (Kind × List Number × List ℕ)
+  withRest rest q = good (q .0, q .1, rest)
+
+  abbrev gateLineIs : List ℕ × List ℕ → Step (Kind × List Number × List ℕ)
+  gateLineIs p = gateHeadOf g (fields (p .0)) >>= withRest (p .1)
+
+  -- a line, and then its fanins
+  lines-line : (text : List ℕ) → lines out (suc left) g gs seen text ≡ (gateLine g text >>= faninsOf)
+  unfolding _>>=_ given
+  lines-line text = of-line (line text)
+    where
+      of-left : (x : DrawnGate) (m : Step Gates) → ((m >>= gateAhead [] x) >>= ahead gs) ≡ (m >>= gateAhead gs x)
+      of-left x (good t) = refl
+      of-left x (bad number place) = refl
+
+      of-fanins : (kind : Kind) (rest : List ℕ) (m : Step (List Edge × Seen)) →
+          (((m >>= gateIs kind) >>= leftIs rest) >>= ahead gs) ≡ (m >>= linesAfter out left g gs kind [] rest)
+      of-fanins kind rest (good r) = of-left (record { kind = kind; fanins = r .0 }) (readLeft out left (suc g) (r .1) rest)
+      of-fanins kind rest (bad number place) = refl
+
+      of-head : (rest : List ℕ) (m : Step (Kind × List Number)) →
+          (((m >>= headIs) >>= leftIs rest) >>= ahead gs) ≡ ((m >>= withRest rest) >>= faninsOf)
+      of-head rest (good q) = of-fanins (q .0) rest (readFanins out g seen (q .1))
+      of-head rest (bad number place) = refl
+
+      of-line : (o : Option (List ℕ × List ℕ)) → ((given o 1 (suc g) >>= lineIs) >>= ahead gs) ≡ ((given o 1 (suc g) >>= gateLineIs) >>= faninsOf)
+      of-line none = refl
+      of-line (some p) = of-head (p .1) (gateHeadOf g (fields (p .0)))
+
+  pub line-bad : (text : List ℕ) {number place : ℕ} → gateLine g text ≡ bad number place → lines out (suc left) g gs seen text ≡ bad number place
+  unfolding _>>=_
+  line-bad text e = lines-line text ∙ ap (λ m. m >>= faninsOf) e
+
+  pub line-good : (text : List ℕ) {kind : Kind} {xs : List Number} {rest : List ℕ} → gateLine g text ≡ good (kind, xs, rest) →
+      lines out (suc left) g gs seen text ≡ fanins out left g gs kind [] seen xs rest
+  unfolding _>>=_
+  line-good text e = lines-line text ∙ ap (λ m. m >>= faninsOf) e
+
+  module _ (kind : Kind) (fs : List Edge) (rest : List ℕ) where
+    pub fanin-bad : (x : Number) (xs : List Number) {number place : ℕ} → readFanin out g seen (x .magnitude) ≡ bad number place →
+        fanins out left g gs kind fs seen (x ∷ xs) rest ≡ bad number place
+    unfolding _>>=_
+    fanin-bad x xs e = rw e
+
+    abbrev faninAhead : Edge → List Edge × Seen → Step (List Edge × Seen)
+    faninAhead f r = good (f ∷ r .0, r .1)
+
+    pub fanin-good : (x : Number) (xs : List Number) {s : Source} {seen₁ : Seen} → readFanin out g seen (x .magnitude) ≡ good (s, seen₁) →
+        fanins out left g gs kind fs seen (x ∷ xs) rest ≡ fanins out left g gs kind (fs ++ (record { inverted = x .negative; source = s } ∷ [])) seen₁ xs rest
+    unfolding _>>=_
+    fanin-good x xs {s} {seen₁} e = rw e (of (record { inverted = x .negative; source = s }) (readFanins out g seen₁ xs))
+      where
+        of : (f : Edge) (m : Step (List Edge × Seen)) →
+            ((m >>= faninAhead f) >>= linesAfter out left g gs kind fs rest) ≡ (m >>= linesAfter out left g gs kind (fs ++ (f ∷ [])) rest)
+        of f (good r) =
+            ap (λ l. readLeft out left (suc g) (r .1) rest >>= gateAhead gs (record { kind = kind; fanins = l })) (sym (append-assoc fs (f ∷ []) (r .0)))
+        of f (bad number place) = refl
+
+    pub fanins-done : fanins out left g gs kind fs seen [] rest ≡ lines out left (suc g) (gs ++ (record { kind = kind; fanins = fs } ∷ [])) seen rest
+    unfolding _>>=_
+    fanins-done = of (readLeft out left (suc g) seen rest)
+      where
+        of : (m : Step Gates) →
+            (m >>= gateAhead gs (record { kind = kind; fanins = fs ++ [] })) ≡ (m >>= ahead (gs ++ (record { kind = kind; fanins = fs } ∷ [])))
+        of (good t) =
+            ap (λ l. gateAhead gs (record { kind = kind; fanins = l }) t) (append-nil fs)
+            ∙ ap (λ l. good (l, t .1, t .2)) (sym (append-assoc gs (record { kind = kind; fanins = fs } ∷ []) (t .0)))
+        of (bad number place) = refl
+
+pub lines-done : (out g : ℕ) (gs : List DrawnGate) (seen : Seen) (text : List ℕ) → lines out zero g gs seen text ≡ good (gs, seen, text)
+unfolding _>>=_
+lines-done out g gs seen text = ap (λ l. good (l, seen, text)) (append-nil gs)
+
+-- ---- the numbers of a gate's fanins
+
+fanin-at : (l : GateLine) (i : ℕ) → length (l .numbers) ≡ mostFields → l .count ≤ mostFanins → i < l .count →
+    drop i (faninNumbers l) ≡ valueOf (getD (l .numbers) (i + 2) zeroValue) ∷ drop (i + 1) (faninNumbers l)
+fanin-at l i w n h =
+    let xs = drop 2 (l .numbers) in
+    let many : length (take (l .count) xs) ≡ l .count = length-take-le (l .count) xs (simp length-drop (omega arith)) in
+    drop-cons (faninNumbers l) i (valueOf zeroValue) (simp length-map (omega arith))
+    ∙ (ap (λ x. x ∷ drop (suc i) (faninNumbers l))
+    (List·getD-map valueOf (take (l .count) xs) i zeroValue
+    ∙ ap valueOf (getD-take (l .count) xs i zeroValue h
+    ∙ (getD-drop 2 (l .numbers) i zeroValue ∙ ap (λ k. getD (l .numbers) k zeroValue) (let q : 2 + i ≡ i + 2 = omega arith in q))))
+    ∙ ap (λ k. valueOf (getD (l .numbers) (i + 2) zeroValue) ∷ drop k (faninNumbers l)) (sym (add-one i)))
+
+fanins-over : (l : GateLine) (i : ℕ) → l .count ≤ i → drop i (faninNumbers l) ≡ []
+fanins-over l i h = drop-of-length-le (faninNumbers l) {i = i} (simp (length-map, length-take) (omega arith))
+
+-- one more at its place, after the first ones
+drawn-more : (gates : List Gate) (g : ℕ) (x : Gate) → g < length gates → drawnGates (g + 1) (set gates g x) ≡ drawnGates g gates ++ (drawnGate x ∷ [])
+drawn-more gates g x l =
+    ap (λ n. drawnGates n (set gates g x)) (add-one g) ∙ (ap (map drawnGate) (take-suc-set gates g x l) ∙ map-append drawnGate (take g gates) (x ∷ []))
+
+taken-more : (fs : List Edge) (i : ℕ) (f : Edge) → i < length fs → take (i + 1) (set fs i f) ≡ take i fs ++ (f ∷ [])
+taken-more fs i f l = ap (λ n. take n (set fs i f)) (add-one i) ∙ take-suc-set fs i f l
+
+-- ---- what holds while the lines are read
+
+module _ (text : List ℕ) (start out count : ℕ) where
+  abbrev pub all : Step Gates
+  all = readLeft out count 1 nothing (drop start text)
+
+  -- at a gate's line
+  pub record AtLine (gates : List Gate) (flags : List Bool) (leaves : ℕ) (answer : Answer) (at g : ℕ) : Type 0 where
+    pub accepted : answer ≡ Accepted
+    pub far : g ≤ count
+    pub room : length gates ≡ mostGates
+    pub seen : Seen
+    pub marked : Marked flags leaves seen
+    pub few : leaves ≤ mostLeaves
+    pub same : all ≡ lines out (count - g) (g + 1) (drawnGates g gates) seen (drop at text)
+
+  -- at a fanin of gate g + 1
+  pub record AtFanin (gates : List Gate) (g : ℕ) (l : GateLine) (flags : List Bool) (leaves : ℕ) (answer : Answer) (fs : List Edge) (i : ℕ) : Type 0 where
+    pub accepted : answer ≡ Accepted
+    pub far : g < count
+    pub room : length gates ≡ mostGates
+    pub wide : length fs ≡ mostFanins
+    pub whole : length (l .numbers) ≡ mostFields
+    pub within : l .count ≤ mostFanins
+    pub some-left : i ≤ l .count
+    pub seen : Seen
+    pub marked : Marked flags leaves seen
+    pub few : leaves ≤ mostLeaves
+    pub same : all ≡ fanins out (count - (g + 1)) (g + 1) (drawnGates g gates) (l .kind) (take i fs) seen (drop i (faninNumbers l)) (drop (l .end) text)
+
+  pub at-start : (gates : List Gate) → length gates ≡ mostGates → AtLine gates (replicate codes false) 0 Accepted start 0
+  at-start gates r = record {
+    accepted = refl;
+    far = omega arith;
+    room = r;
+    seen = nothing;
+    marked = marked-start;
+    few = omega arith;
+    same = lines-start out count 1 [] nothing (drop start text)
+        ∙ ap (λ n. lines out n 1 [] nothing (drop start text)) (let q : count ≡ count - 0 = omega arith in q);
+  }
+
+  module _ {gates : List Gate} {flags : List Bool} {leaves : ℕ} {answer : Answer} {at g : ℕ} (h : AtLine gates flags leaves answer at g) where
+    one-left : g < count → all ≡ lines out (suc (count - (g + 1))) (g + 1) (drawnGates g gates) (h .seen) (drop at text)
+    one-left l = h .same ∙ ap (λ n. lines out n (g + 1) (drawnGates g gates) (h .seen) (drop at text)) (let q : count - g ≡ suc (count - (g + 1)) = omega arith in q)
+
+    pub line-refused : g < count → (l : GateLine) → GateLineRead text at l → (why : Refusal) → l .fault ≡ Is why → all ≡ bad (numberOf why) (g + 1 + 1)
+    line-refused k l r why e =
+        one-left k
+        ∙ (line-bad out (count - (g + 1)) (g + 1) (drawnGates g gates) (h .seen) (drop at text)
+        (r .step (g + 1) ∙ ap (λ w. faultStep (g + 1) w (l .kind, faninNumbers l, drop (l .end) text)) e)
+        ∙ ap (bad (numberOf why)) (sym (add-one (g + 1))))
+
+    pub line-taken : g < count → (l : GateLine) → GateLineRead text at l → l .fault ≡ Nothing → (fs : List Edge) → length fs ≡ mostFanins →
+        AtFanin gates g l flags leaves answer fs 0
+    line-taken k l r e fs w = record {
+      accepted = h .accepted;
+      far = k;
+      room = h .room;
+      wide = w;
+      whole = r .whole;
+      within = r .within;
+      some-left = omega arith;
+      seen = h .seen;
+      marked = h .marked;
+      few = h .few;
+      same = one-left k ∙ line-good out (count - (g + 1)) (g + 1) (drawnGates g gates) (h .seen) (drop at text)
+          (r .step (g + 1) ∙ ap (λ w. faultStep (g + 1) w (l .kind, faninNumbers l, drop (l .end) text)) e);
+    }
+
+    pub lines-over : count ≤ g → all ≡ good (drawnGates count gates, h .seen, drop at text)
+    lines-over l =
+        h .same
+        ∙ (ap (λ n. lines out n (g + 1) (drawnGates g gates) (h .seen) (drop at text)) (let q : count - g ≡ 0 = omega arith in q)
+        ∙ (lines-done out (g + 1) (drawnGates g gates) (h .seen) (drop at text) ∙ ap (λ n. good (drawnGates n gates, h .seen, drop at text)) (let q : g ≡ count = omega arith in q)))
+
+  module _ {gates : List Gate} {g : ℕ} {l : GateLine} {flags : List Bool} {leaves : ℕ} {answer : Answer} {fs : List Edge} {i : ℕ}
+      (h : AtFanin gates g l flags leaves answer fs i) where
+    abbrev pub number : FieldValue
+    number = getD (l .numbers) (i + 2) zeroValue
+
+    one-number : i < l .count →
+        all ≡ fanins out (count - (g + 1)) (g + 1) (drawnGates g gates) (l .kind) (take i fs) (h .seen) (valueOf number ∷ drop (i + 1) (faninNumbers l)) (drop (l .end) text)
+    one-number k =
+        h .same
+        ∙ ap (λ xs. fanins out (count - (g + 1)) (g + 1) (drawnGates g gates) (l .kind) (take i fs) (h .seen) xs (drop (l .end) text)) (fanin-at l i (h .whole) (h .within) k)
+
+    pub fanin-refused : i < l .count → (r : Fanin) → FaninRead flags leaves out (g + 1) (number .magnitude) r → (why : Refusal) → r ≡ Bad why →
+        all ≡ bad (numberOf why) (g + 1 + 1)
+    fanin-refused k r f why e =
+        one-number k
+        ∙ (fanin-bad out (count - (g + 1)) (g + 1) (drawnGates g gates) (h .seen) (l .kind) (take i fs) (drop (l .end) text) (valueOf number) (drop (i + 1) (faninNumbers l))
+        (f .step (h .seen) (h .marked) ∙ ap (faninStep (g + 1) (h .seen)) e)
+        ∙ ap (bad (numberOf why)) (sym (add-one (g + 1))))
+
+    pub fanin-taken : i < l .count → g + 1 ≤ mostGates → (r : Fanin) → FaninRead flags leaves out (g + 1) (number .magnitude) r → (s : Source) → r ≡ Reads s →
+        AtFanin gates g l (set flags (number .magnitude) true) (leaves + length (netOf s)) answer (set fs i (record { inverted = number .negative; source = s })) (i + 1)
+    fanin-taken k n r f s e = record {
+      accepted = h .accepted;
+      far = h .far;
+      room = h .room;
+      wide = simp length-set (h .wide);
+      whole = h .whole;
+      within = h .within;
+      some-left = omega arith;
+      seen = saw (h .seen) s;
+      marked = marked-more (g + 1) (number .magnitude) n (h .marked) s (f .source s e);
+      few = f .few s e (h .few);
+      same =
+          one-number k
+          ∙ (fanin-good out (count - (g + 1)) (g + 1) (drawnGates g gates) (h .seen) (l .kind) (take i fs) (drop (l .end) text) (valueOf number) (drop (i + 1) (faninNumbers l))
+          (f .step (h .seen) (h .marked) ∙ ap (faninStep (g + 1) (h .seen)) e)
+          ∙ ap (λ es. fanins out (count - (g + 1)) (g + 1) (drawnGates g gates) (l .kind) es (saw (h .seen) s) (drop (i + 1) (faninNumbers l)) (drop (l .end) text))
+          (sym (taken-more fs i (record { inverted = number .negative; source = s }) (omega (arith, h .wide)))));
+    }
+
+    pub gate-taken : l .count ≤ i → count ≤ mostGates → AtLine (set gates g (record { kind = l .kind; count = l .count; fanins = fs })) flags leaves answer (l .end) (g + 1)
+    gate-taken k m = record {
+      accepted = h .accepted;
+      far = omega arith;
+      room = simp length-set (h .room);
+      seen = h .seen;
+      marked = h .marked;
+      few = h .few;
+      same =
+          h .same
+          ∙ (ap (λ xs. fanins out (count - (g + 1)) (g + 1) (drawnGates g gates) (l .kind) (take i fs) (h .seen) xs (drop (l .end) text)) (fanins-over l i k)
+          ∙ (fanins-done out (count - (g + 1)) (g + 1) (drawnGates g gates) (h .seen) (l .kind) (take i fs) (drop (l .end) text)
+          ∙ (ap (λ n. lines out (count - (g + 1)) n (drawnGates g gates ++ (record { kind = l .kind; fanins = take i fs } ∷ [])) (h .seen) (drop (l .end) text)) (sym (add-one (g + 1)))
+          ∙ (ap (λ n. lines out (count - (g + 1)) (g + 1 + 1) (drawnGates g gates ++ (record { kind = l .kind; fanins = take n fs } ∷ [])) (h .seen) (drop (l .end) text))
+          (let q : i ≡ l .count = omega (arith, h .some-left) in q)
+          ∙ ap (λ gs. lines out (count - (g + 1)) (g + 1 + 1) gs (h .seen) (drop (l .end) text))
+          (sym (drawn-more gates g (record { kind = l .kind; count = l .count; fanins = fs }) (omega (arith, h .far, h .room))))))));
+    }
