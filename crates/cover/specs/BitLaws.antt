@@ -1,11 +1,15 @@
 -- Laws of rows of bits: a truth table has the bits that it was made of, and is the only number that has them;
 -- and the index made of some values gives each value back.
 use Prim.Native.Nat.{ℕ, zero, suc, _+_, _*_, _/_, _%_, _^_, _<_}
+use native.Mathlib.Nat.{div-one}
+use native.Mathlib.Numerals.{one-add}
 use native.Mathlib.Omega.{arith}
 use mathlib.Core.Path.{_≡_, sym, ap, ap₂, _∙_}
 use mathlib.Core.Bool.{Bool, true, false, cond}
 use mathlib.Core.List.{List, [], _∷_, map}
+use lib.Dec.{eqb}
 use lib.ListN.{length}
+use lib.Pow.{shr-shr}
 use Rattle.lists.specs.Cases.{by-eqb}
 use Rattle.lists.specs.Lists.{_∈_}
 use Rattle.lists.specs.ListLaws.{not-first}
@@ -25,6 +29,11 @@ high false n = omega arith
 
 high-bit : (b : Bool) (n i : ℕ) → bit (digit b n) (suc i) ≡ bit n i
 high-bit b n i = ap (λ m. bit m i) (high b n)
+
+-- by a shift
+pub bit-shift : (n i : ℕ) → bit n i ≡ eqb (n / 2 ^ i % 2) 1
+bit-shift n zero = ap (λ m. eqb (m % 2) 1) (sym (div-one n))
+bit-shift n (suc i) = bit-shift (n / 2) i ∙ ap (λ m. eqb (m % 2) 1) (shr-shr n 1 i ∙ ap (λ k. n / 2 ^ k) (one-add i))
 
 double : (b : Bool) (n k : ℕ) → n < 2 ^ k → digit b n < 2 ^ suc k
 double true n k h = omega arith

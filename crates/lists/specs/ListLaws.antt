@@ -1,11 +1,11 @@
 -- Laws of lists: of what holds of every element, of an element put in, and of other orders.
 -- Those of mixes are in MixLaws, and those of lists of numbers in NumberLaws.
-use Prim.Native.Nat.{suc}
+use Prim.Native.Nat.{ℕ, zero, suc, _<_}
 use native.Mathlib.Omega.{arith}
 use mathlib.Core.Path.{_≡_, refl, sym, ap, ap₂, _∙_, subst}
 use mathlib.Core.Logic.{_≢_, ⊎-elim}
 use mathlib.Core.List.{List, [], _∷_, _++_, append-assoc, map, List·Memᴰ·not-nil, List·Memᴰ·append-cases, Memᴰ·append-left, Memᴰ·append-right}
-use lib.ListN.{length}
+use lib.ListN.{length, getD}
 use Rattle.lists.specs.Lists.{_∈_, first, later, Every, Inserted, here, there, Permuted, empty, more, gather}
 
 module _ {A : Type 0} where
@@ -27,6 +27,11 @@ module _ {A : Type 0} where
 
   pub every-tail : {P : A → Type 0} {x : A} {xs : List A} → Every P (x ∷ xs) → Every P xs
   every-tail h a m = h a (later m)
+
+  pub every-at : {P : A → Type 0} (xs : List A) (i : ℕ) (z : A) → Every P xs → i < length xs → P (getD xs i z)
+  every-at [] i z h l = absurd (omega arith)
+  every-at (x ∷ xs) zero z h l = every-head h
+  every-at {P} (x ∷ xs) (suc i) z h l = every-at {P = P} xs i z (every-tail h) (omega arith)
 
   pub every-append : {P : A → Type 0} (xs ys : List A) → Every P xs → Every P ys → Every P (xs ++ ys)
   every-append xs ys f g a m = ⊎-elim (f a) (g a) (List·Memᴰ·append-cases xs m)

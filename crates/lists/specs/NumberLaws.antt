@@ -45,7 +45,7 @@ upto-at (suc n) (suc i) z h = up-at (upto n) i z (omega (arith, upto-length n)) 
 
 -- ---- numbers put in order
 
-insert-inserted : (x : ℕ) (ys : List ℕ) → Inserted x (insert x ys) ys
+pub insert-inserted : (x : ℕ) (ys : List ℕ) → Inserted x (insert x ys) ys
 insert-inserted x [] = here
 insert-inserted x (y ∷ ys) = if-leb (λ zs. Inserted x zs (y ∷ ys)) x y (λ l. here) (λ l. there (insert-inserted x ys))
 
@@ -64,7 +64,7 @@ pub sorted-sorted : (xs : List ℕ) → Sorted (sorted xs)
 sorted-sorted [] = tt
 sorted-sorted (x ∷ xs) = insert-sorted x (sorted xs) (sorted-sorted xs)
 
-insert-first : (x : ℕ) (ys : List ℕ) → Every (λ y. x ≤ y) ys → insert x ys ≡ x ∷ ys
+pub insert-first : (x : ℕ) (ys : List ℕ) → Every (λ y. x ≤ y) ys → insert x ys ≡ x ∷ ys
 insert-first x [] h = refl
 insert-first x (y ∷ ys) h =
     if-leb (λ zs. zs ≡ x ∷ y ∷ ys) x y (λ l. refl) (λ l. absurd (omega (arith, every-head h)))

@@ -7,7 +7,7 @@ use mathlib.Core.List.{List, [], _∷_, _++_, append-assoc, append-nil, map}
 use lib.ListN.{length, getD, length-append, length-map, List·getD-append}
 use lib.Seq.{getD-append-add}
 use Rattle.lists.specs.Lists.{_∈_, Every, Permuted, Paired, no-pair, pair, gather, upto}
-use Rattle.lists.specs.ListLaws.{every-none, every-cons, every-head, every-tail, every-append, every-left, every-right, permuted-refl, permuted-sym, permuted-trans, permuted-append, permuted-swap, permuted-length, gather-append, gather-permuted, gather-same, interchange}
+use Rattle.lists.specs.ListLaws.{every-none, every-cons, every-head, every-tail, every-at, every-append, every-left, every-right, permuted-refl, permuted-sym, permuted-trans, permuted-append, permuted-swap, permuted-length, gather-append, gather-permuted, gather-same, interchange}
 use Rattle.lists.specs.MixLaws.{paired-append}
 use Rattle.tree.specs.declared.Kind.{Kind}
 use Rattle.tree.specs.Tree.{Node, leaf, gate, Edges, none, edge}
@@ -41,11 +41,6 @@ paired-at : {A B : Type 0} {R : A → B → Type 0} {xs : List A} {ys : List B} 
 paired-at a b no-pair i l = absurd (omega arith)
 paired-at a b (pair r p) zero l = r
 paired-at a b (pair r p) (suc i) l = paired-at a b p i (omega arith)
-
-every-at : {A : Type 0} {P : A → Type 0} (xs : List A) (i : ℕ) (z : A) → Every P xs → i < length xs → P (getD xs i z)
-every-at [] i z h l = absurd (omega arith)
-every-at (x ∷ xs) zero z h l = every-head h
-every-at {P = P} (x ∷ xs) (suc i) z h l = every-at {P = P} xs i z (every-tail h) (omega arith)
 
 paired-length : {A B : Type 0} {R : A → B → Type 0} {xs : List A} {ys : List B} → Paired R xs ys → length xs ≡ length ys
 paired-length no-pair = refl

@@ -1,6 +1,8 @@
 // Mapping one sheet to lookup tables.
 use table::Table;
 
+mod merge;
+
 // A table that is not placed yet, and whether what reads it reads it inverted.
 pub struct Pending {
     pub inverted: bool,
