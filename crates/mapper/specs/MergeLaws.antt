@@ -1,26 +1,32 @@
 -- Laws of the steps of a merge: what each loop adds in a turn, and what the whole makes.
-use Prim.Native.Nat.{ℕ, zero, suc, _+_, _-_, _*_, _^_, _≤_, _<_}
+use Prim.Native.Nat.{ℕ, zero, suc, _+_, _-_, _*_, _%_, _^_, _≤_, _<_}
 use native.Mathlib.Nat.{add-zero}
 use native.Mathlib.Numerals.{add-one}
 use native.Mathlib.Omega.{arith}
 use mathlib.Core.Path.{_≡_, refl, sym, ap, ap₂, _∙_, subst}
 use mathlib.Core.Logic.{_≢_}
 use mathlib.Core.Bool.{Bool, true, false, not, cond}
-use mathlib.Core.List.{List, [], _∷_, _++_, map, append-assoc, map-append}
+use mathlib.Core.List.{List, [], _∷_, _++_, map, map-append, map-map}
 use lib.Dec.{eqb}
 use lib.ListN.{length, getD, take, drop, set, replicate, length-append, length-map, length-set, length-take, length-replicate}
-use lib.Pow.{pow-mono}
+use lib.Pow.{pow-mono, shl-exact}
 use lib.Seq.{slice-cons, slice-empty, length-slice, take-all, length-take-le, getD-take, getD-drop, take-suc, take-suc-set, drop-drop, drop-at, drop-set-lt, append-snoc, set-split, take-at, slice}
 use Rattle.lists.specs.Cases.{by-eqb, if-leb}
 use Rattle.lists.specs.Lists.{_∈_, Every, Sorted, insert, sorted}
-use Rattle.lists.specs.ListLaws.{every-at, inserted-length, permuted-refl, permuted-length}
+use Rattle.lists.specs.ListLaws.{every-none, every-cons, every-at, inserted-length, permuted-refl, permuted-length}
 use Rattle.lists.specs.NumberLaws.{insert-inserted, insert-first, sorted-permuted, sorted-sorted, sorted-only}
-use Rattle.tree.specs.Tree.{turned}
+use Rattle.tree.specs.declared.Kind.{Kind}
+use Rattle.tree.specs.Tree.{turned, meet}
 use Rattle.cover.specs.Bits.{bit, digit, truthOf, index, place}
+use Rattle.cover.specs.Tables.{output}
 use Rattle.cover.specs.BitLaws.{index-lt, truthOf-lt}
 use Rattle.table.specs.Limits.{inputRoom}
+use Rattle.table.specs.declared.Table.{Table}
+use Rattle.table.specs.Records.{reads, tableOf, recordOf}
 use Rattle.mapper.specs.declared.Pending.{Pending}
-use Rattle.mapper.specs.Merging.{padded, placesOf, indexAt, valueAt, truthFrom, Room, Ordered, Places}
+use Rattle.mapper.specs.Run.{merged}
+use Rattle.mapper.specs.Pendings.{operandOf, Mergeable}
+use Rattle.mapper.specs.Merging.{padded, placesOf, indexAt, valueAt, gateAt, truthFrom, Room, Ordered, Places}
 
 -- ---- a part of a list
 
@@ -256,3 +262,63 @@ module _ (cs : List ℕ) (n : ℕ) (r : Room n cs) (xs : List ℕ) (m : ℕ) (o 
 
     pub gathered-all : i ≡ 0 → out ≡ padded (sorted (take n cs ++ take m xs))
     gathered-all z = g .made ∙ ap (λ k. padded (sorted (slice k n cs ++ take m xs))) z
+
+-- ---- the whole
+
+pub ordered-right : {x y : Pending} → Mergeable x y → Ordered (y .table .count) (y .table .inputs)
+ordered-right m = record { fits = m .kept .fits; zeros = ap (λ r. r .inputs) (m .kept .padded); sorted = m .sorted }
+
+pub rows-are : (n : ℕ) → n ≤ inputRoom → 1 * 2 ^ n % 2 ^ 64 ≡ 2 ^ n
+rows-are n l = shl-exact {a = 1} 1 n 64 (omega arith) (omega arith) ∙ omega arith
+
+pub rows-low : (n : ℕ) → n ≤ inputRoom → 1 * 2 ^ n % 2 ^ 64 ≤ 64
+rows-low n l = rw (rows-are n l) (pow-mono {i = n} {j = 6} l)
+
+pub places-are : {n m : ℕ} {ps xs : List ℕ} (cs : List ℕ) → Room n ps → Room m xs → take n ps ≡ placesOf cs (take m xs) → Places n ps
+places-are {m = m} {xs = xs} cs r q e = record { room = r; low = rw e (each cs) }
+  where
+    each : (ds : List ℕ) → Every (λ p. p ≤ inputRoom) (placesOf ds (take m xs))
+    each [] = every-none _
+    each (d ∷ ds) = every-cons (omega (arith, place-le d (take m xs), length-take m xs, q .fits)) (each ds)
+
+-- the value of a pending table in a row is its output
+output-is : (x : Pending) (ps zs : List ℕ) → take (x .table .count) ps ≡ placesOf (reads (x .table)) zs → (row : ℕ) →
+    valueAt x ps row ≡ turned (x .inverted) (output (tableOf (x .table)) (λ c. bit row (place c zs)))
+output-is x ps zs e row =
+    ap (λ qs. turned (x .inverted) (bit (x .table .truth) (index qs))) (ap (map (bit row)) e ∙ map-map (bit row) (λ c. place c zs) (reads (x .table)))
+
+abbrev codes : Pending → Pending → List ℕ
+codes x y = reads (x .table) ++ reads (y .table)
+
+abbrev count : Pending → Pending → ℕ
+count x y = x .table .count + y .table .count
+
+module _ (x y : Pending) (m : Mergeable x y) (shape : length (x .table .inputs) ≡ inputRoom) (inputs : List ℕ) (i : inputs ≡ padded (sorted (codes x y))) where
+  codes-count : length (sorted (codes x y)) ≡ count x y
+  codes-count =
+      sorted-length (codes x y) ∙ length-append (reads (x .table)) (reads (y .table))
+      ∙ ap₂ _+_ (length-take-le (x .table .count) (x .table .inputs) (omega (arith, m .fits)))
+      (length-take-le (y .table .count) (y .table .inputs) (omega (arith, m .fits, ordered-shape (ordered-right m))))
+
+  codes-are : take (count x y) inputs ≡ sorted (codes x y)
+  codes-are = ap (take (count x y)) i ∙ take-at (sorted (codes x y)) _ (count x y) codes-count
+
+  pub inputs-room : Room (count x y) inputs
+  inputs-room = record { fits = m .fits; shape = ap length i ∙ padded-length (sorted (codes x y)) (omega (arith, codes-count, m .fits)) }
+
+  pub merged-is : (k : Kind) (ps qs : List ℕ) {t : ℕ} → take (x .table .count) ps ≡ placesOf (reads (x .table)) (take (count x y) inputs) →
+      take (y .table .count) qs ≡ placesOf (reads (y .table)) (take (count x y) inputs) → t ≡ truthOf (gateAt k x ps y qs) (1 * 2 ^ count x y % 2 ^ 64) →
+      _≡_ {A = Table} (record { net = 0; count = count x y; inputs = inputs; truth = t }) (recordOf (merged k (operandOf x) (operandOf y)))
+  unfolding merged
+  merged-is k ps qs {t} p q e = λ j. record { net = 0; count = sym codes-count j; inputs = i j; truth = truth-is j }
+    where
+      left : (row : ℕ) → valueAt x ps row ≡ turned (x .inverted) (output (tableOf (x .table)) (λ c. bit row (place c (sorted (codes x y)))))
+      left = output-is x ps (sorted (codes x y)) (rw codes-are at p)
+
+      right : (row : ℕ) → valueAt y qs row ≡ turned (y .inverted) (output (tableOf (y .table)) (λ c. bit row (place c (sorted (codes x y)))))
+      right = output-is y qs (sorted (codes x y)) (rw codes-are at q)
+
+      truth-is : t ≡ merged k (operandOf x) (operandOf y) .truth
+      truth-is =
+          e ∙ ap (truthOf (gateAt k x ps y qs)) (rows-are (count x y) (m .fits))
+          ∙ (λ j. truthOf (λ row. meet k (left row j) (right row j)) (2 ^ sym codes-count j))

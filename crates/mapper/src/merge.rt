@@ -1,13 +1,14 @@
 // The tables of a plan's run: that of one code, and that of a gate of two fanins.
 ghost use mathlib.Core.Path.{_≡_};
 ghost use Prim.Native.Nat.{_+_, _^_, _<_, _≤_};
-ghost use lib.ListN.{take};
+ghost use lib.ListN.{take, drop};
 ghost use mathlib.Core.List.{_++_};
 ghost use Rattle.lists.specs.Lists.{insert as insertOf, sorted};
 ghost use Rattle.tree.specs.Tree.{meet as meetOf};
 ghost use Rattle.cover.specs.Bits.{bit as bitOf, digit as digitOf, place as placeOf, truthOf};
 ghost use Rattle.table.specs.Records.{recordOf};
-ghost use Rattle.mapper.specs.Run.{single as singleOf};
+ghost use Rattle.mapper.specs.Run.{single as singleOf, merged};
+ghost use Rattle.mapper.specs.Pendings.{operandOf, Mergeable};
 ghost use Rattle.mapper.specs.Merging.{padded, placesOf, indexAt, valueAt, gateAt, Room, Ordered, Places};
 use crate::Pending;
 use table::Table;
@@ -159,4 +160,27 @@ fn union(codes: &[u16; 6], n: usize, inputs: [u16; 6], count: usize) -> [u16; 6]
         size += 1;
     }
     out
+}
+
+// The table of a gate of two fanins.
+pub fn merge(kind: Kind, x: Pending, y: Pending) -> Table
+    requires { ⌜ Mergeable x y ⌝ }
+    ensures { λ r. ⌜ r ≡ recordOf (merged kind (operandOf x) (operandOf y)) ⌝ }
+{
+    let a = x.table;
+    let b = y.table;
+    let n = a.count as usize;
+    let m = b.count as usize;
+    let codes = a.inputs;
+    let others = b.inputs;
+    let inputs = union(&codes, n, others, m);
+    let count = n + m;
+    let x_places = places(&codes, n, &inputs, count);
+    let y_places = places(&others, m, &inputs, count);
+    Table {
+        net: 0,
+        count: count as u8,
+        inputs,
+        truth: truth(kind, 1u64 << count, x, &x_places, y, &y_places),
+    }
 }
