@@ -1,11 +1,12 @@
 -- Laws of lists: of what holds of every element, of an element put in, and of other orders.
 -- Those of mixes are in MixLaws, and those of lists of numbers in NumberLaws.
-use Prim.Native.Nat.{ℕ, zero, suc, _<_}
+use Prim.Native.Nat.{ℕ, zero, suc, _≤_, _<_}
 use native.Mathlib.Omega.{arith}
 use mathlib.Core.Path.{_≡_, refl, sym, ap, ap₂, _∙_, subst}
 use mathlib.Core.Logic.{_≢_, ⊎-elim}
 use mathlib.Core.List.{List, [], _∷_, _++_, append-assoc, map, List·Memᴰ·not-nil, List·Memᴰ·append-cases, Memᴰ·append-left, Memᴰ·append-right}
-use lib.ListN.{length, getD}
+use lib.ListN.{length, getD, drop}
+use lib.Seq.{drop-nil}
 use Rattle.lists.specs.Lists.{_∈_, first, later, Every, Inserted, here, there, Permuted, empty, more, gather}
 
 module _ {A : Type 0} where
@@ -146,3 +147,8 @@ gather-same f g (x ∷ xs) h = ap₂ _++_ (every-head h) (gather-same f g xs (ev
 
 pub interchange : {A : Type 0} (ws xs ys zs : List A) → Permuted ((ws ++ xs) ++ (ys ++ zs)) ((ws ++ ys) ++ (xs ++ zs))
 interchange ws xs ys zs = simp append-assoc (permuted-append (permuted-refl ws) (permuted-swap xs ys zs))
+
+pub drop-past : {A : Type 0} (n : ℕ) (xs : List A) → length xs ≤ n → drop n xs ≡ []
+drop-past n [] l = drop-nil n
+drop-past zero (x ∷ xs) l = absurd (omega arith)
+drop-past (suc n) (x ∷ xs) l = drop-past n xs (omega arith)

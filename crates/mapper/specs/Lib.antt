@@ -1,7 +1,10 @@
 pub mod Run
 pub mod Pendings
 pub mod Merging
-pub mod MergeLaws
+pub mod Runs
 pub mod Mapping
+pub mod MergeLaws
 pub mod RunLaws
+pub mod SafeLaws
+pub mod RunsLaws
 pub mod MappingLaws

@@ -16,6 +16,11 @@ pub record Kept (r : Table) : Type 0 where
   pub fits : r .count ≤ inputRoom
   pub padded : r ≡ recordOf (tableOf r)
 
+-- and its inputs are in order
+pub record Neat (r : Table) : Type 0 where
+  pub kept : Kept r
+  pub sorted : Sorted (reads r)
+
 -- two pending tables that fit into one
 pub record Mergeable (x y : Pending) : Type 0 where
   pub fits : x .table .count + y .table .count ≤ inputRoom

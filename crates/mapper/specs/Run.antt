@@ -1,6 +1,6 @@
 -- The run of a gate's plan on tables: operands are tables that are not placed yet, a join merges two of them into one, and placing
 -- one puts its table after those that are there and leaves the table's code in its stead. Definitions only: the laws are in RunLaws.
-use Prim.Native.Nat.{ℕ, suc, _+_}
+use Prim.Native.Nat.{ℕ, suc, _+_, _≤_, _<_}
 use mathlib.Core.Bool.{Bool, true, false}
 use mathlib.Core.List.{List, [], _∷_, _++_}
 use lib.ListN.{length, getD}
@@ -67,3 +67,19 @@ module _ (base n : ℕ) where
       abbrev pub run : List Token → State → State
       run [] s = s
       run (t ∷ ts) s = run ts (step t s)
+
+      -- ---- what a run has room for: ten operands, tables of six inputs, and eighteen tables placed
+
+      abbrev pub SafeJoin : Bool → Bool → List Operand → List Table → Type 0
+      SafeJoin l r [] ts = ⊥
+      SafeJoin l r (y ∷ []) ts = ⊥
+      SafeJoin l r (y ∷ x ∷ st) ts =
+          (length (operand l ts x .table .inputs) + length (operand r (tables l ts x) y .table .inputs) ≤ 6) × (length ts + 2 ≤ 18)
+
+      abbrev pub SafeStep : Token → State → Type 0
+      SafeStep (push i) s = (i < length fanins) × (length (s .stack) < 10)
+      SafeStep (join l r) s = SafeJoin l r (s .stack) (s .placed)
+
+      abbrev pub SafeRun : List Token → State → Type 0
+      SafeRun [] s = Unit {0}
+      SafeRun (t ∷ ts) s = SafeStep t s × SafeRun ts (step t s)

@@ -2,6 +2,7 @@
 use table::Table;
 
 mod merge;
+mod run;
 
 // A table that is not placed yet, and whether what reads it reads it inverted.
 pub struct Pending {

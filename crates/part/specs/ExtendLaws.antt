@@ -15,6 +15,7 @@ use Rattle.cover.specs.Added.{Sheet, Added, Fresh}
 use Rattle.cover.specs.AddedTables.{added-sized, added-rising, added-tidy, added-inputs, added-drives}
 use Rattle.table.specs.Limits.{tableBase, inputRoom}
 use Rattle.table.specs.Records.{tableOf, recordOf}
+use Rattle.table.specs.RecordLaws.{read-back, all-back}
 use Rattle.table.specs.Rules.{Padded, Coded, Sized, Sourced, DrivenOnce, ReadAfter, EveryTwo, places}
 use Rattle.table.specs.RuleLaws.{map-append, placesAfter, Follows, rules-append}
 use Rattle.part.specs.Parts.{inUse, tablesOf, Shaped}
@@ -58,14 +59,6 @@ numbered-at n (t ∷ ts) (suc i) h =
     (r .0, later (r .1), omega (arith, r .2))
 
 -- ---- records and tables
-
--- a table's record reads as the table
-pub read-back : (t : LookupTable) → tableOf (recordOf t) ≡ t
-read-back t = ap (λ xs. record { drives = t .drives; inputs = xs; truth = t .truth }) (take-append-seam (t .inputs) (replicate (inputRoom - length (t .inputs)) 0))
-
-pub all-back : (ts : List LookupTable) → map tableOf (map recordOf ts) ≡ ts
-all-back [] = refl
-all-back (t ∷ ts) = ap₂ _∷_ (read-back t) (all-back ts)
 
 record-padded : (t : LookupTable) → Padded (recordOf t)
 record-padded t = rw drop-append-seam (every-replicate (λ x. x ≡ 0) (inputRoom - length (t .inputs)) 0 refl)

@@ -5,6 +5,7 @@ pub mod ResultLaws
 pub mod LoopLaws
 pub mod RecordTest
 pub mod SeenTest
+pub mod RecordLaws
 pub mod RuleLaws
 pub mod TestedLaws
 pub mod SeenLaws
