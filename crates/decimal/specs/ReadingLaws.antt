@@ -1,10 +1,13 @@
 -- A field's answer and the number in its columns: each gives the other, so that a value with its sign stands for the number.
 use Prim.Native.Nat.{ℕ, zero, suc, _^_, _<_}
 use native.Mathlib.Omega.{arith}
-use mathlib.Core.Path.{_≡_, refl, sym, ap, _∙_}
+use mathlib.Core.Path.{_≡_, refl, sym, ap, ap₂, _∙_}
 use mathlib.Core.Bool.{Bool, true, false, cond}
 use mathlib.Core.Option.{Option, none, some}
 use mathlib.Core.List.{List}
+use mir.Syntax.{w32}
+use mir.Val.{SFits, toZ, ofZ}
+use mir.Facts.{toZ-ofZ}
 use lib.IntN.{ℤ, pos, negsuc, negℤ}
 use Rattle.decimal.specs.Number.{Number, columns, fieldNumber, Within}
 use Rattle.decimal.specs.NumberLaws.{Given, field-given, field-within}
@@ -43,6 +46,19 @@ read-within bs e = field-within bs (read-value bs e)
 
 pub read-none : (bs : List ℕ) → fieldRead bs ≡ NoNumber → fieldNumber bs ≡ none
 read-none bs = answer-none (fieldNumber bs)
+
+-- a local of 32 bits holds the value whole: the number from the answers of `negative` and `magnitude` of the value that was read
+value-fits : (v : ℤ) → Within columns (numberOf v) → SFits w32 v
+value-fits (pos n) h = record { sfits = omega (arith, h .size) }
+value-fits (negsuc n) h = record { sfits = omega (arith, h .size) }
+
+pub read-held : (bs : List ℕ) {v : ℤ} → fieldRead bs ≡ Value v → fieldNumber bs ≡ some (numberOf (toZ w32 (ofZ w32 v)))
+read-held bs {v} e = rw (toZ-ofZ (value-fits v (read-within bs e))) (read-value bs e)
+
+pub read-number : (bs : List ℕ) {v : ℤ} {b : Bool} {m : ℕ} → fieldRead bs ≡ Value v →
+    b ≡ numberOf (toZ w32 (ofZ w32 v)) .negative → m ≡ numberOf (toZ w32 (ofZ w32 v)) .magnitude →
+    fieldNumber bs ≡ some (record { negative = b; magnitude = m })
+read-number bs e f g = read-held bs e ∙ sym (ap₂ (λ b m. some (record { negative = b; magnitude = m })) f g)
 
 -- reading what was written gives the value back
 pub read-field : (n : ℕ) → n < 10 ^ columns → fieldRead (fieldOf columns n) ≡ Value (pos n)

@@ -1,11 +1,12 @@
 -- What a caller learns from the answer of a write, and when a number has room.
 use Prim.Native.Nat.{ℕ, zero, suc, _+_, _-_, _^_, _≤_, _<_}
 use native.Mathlib.Omega.{arith}
-use mathlib.Core.Path.{_≡_, refl, ap, ap₂}
+use mathlib.Core.Path.{_≡_, refl, sym, ap, ap₂, _∙_}
 use mathlib.Core.Bool.{Bool, true, false, cond, _&&_}
-use mathlib.Core.List.{List}
+use mathlib.Core.List.{List, _++_, append-assoc}
 use lib.Dec.{leb}
-use lib.ListN.{length}
+use lib.ListN.{length, take, drop, length-append, length-drop}
+use lib.Seq.{length-take-le, take-at, drop-at}
 use borrow.Author.Tests.{le-leb}
 use Rattle.lists.specs.TestLaws.{Reflects, reflects-le, reflects-and, reflects-true, by-reflects}
 use Rattle.decimal.specs.Number.{Number, Within}
@@ -66,3 +67,27 @@ pub signed-written-at : (old : List ℕ) (at width : ℕ) (n : Number) → at + 
     signedWrittenAt old at width n ≡ record { answer = Done; bytes = placed old at width (signedFieldOf width n) }
 signed-written-at old at width n l p h =
     ap₂ (λ a b. outcome (a && b) (placed old at width (signedFieldOf width n)) old) (le-leb (at + width) (length old) l) (signed-room width n p h)
+
+-- ---- a line after a field was written into it
+
+module _ (old : List ℕ) (at width : ℕ) (field : List ℕ) (within : at + width ≤ length old) (whole : length field ≡ width) where
+  up-to : length (take at old ++ field) ≡ at + width
+  up-to = length-append (take at old) field ∙ ap₂ _+_ (length-take-le at old (omega arith)) whole
+
+  -- the bytes before the field and the field, and those after it
+  pub placed-take : take (at + width) (placed old at width field) ≡ take at old ++ field
+  placed-take =
+      ap (take (at + width)) (sym (append-assoc (take at old) field (drop (at + width) old)))
+      ∙ take-at (take at old ++ field) (drop (at + width) old) (at + width) up-to
+
+  pub placed-drop : drop (at + width) (placed old at width field) ≡ drop (at + width) old
+  placed-drop =
+      ap (drop (at + width)) (sym (append-assoc (take at old) field (drop (at + width) old)))
+      ∙ drop-at (take at old ++ field) (drop (at + width) old) (at + width) up-to
+
+  pub placed-length : length (placed old at width field) ≡ length old
+  placed-length =
+      ap length (sym (append-assoc (take at old) field (drop (at + width) old)))
+      ∙ length-append (take at old ++ field) (drop (at + width) old)
+      ∙ ap₂ _+_ up-to (length-drop (at + width) old)
+      ∙ omega arith

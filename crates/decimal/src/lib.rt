@@ -4,9 +4,12 @@ ghost use mathlib.Core.Path.{_≡_};
 ghost use Prim.Native.Nat.{_+_, _≤_};
 ghost use lib.ListN.{length, drop};
 ghost use Rattle.decimal.specs.Columns.{fieldOf};
-ghost use Rattle.decimal.specs.Number.{digits, natural, signed};
+ghost use Rattle.decimal.specs.Number.{columns, digits, natural, signed};
 ghost use Rattle.decimal.specs.Reading.{numberOf, answerOf, fieldRead, parsed, Skipped};
 ghost use Rattle.decimal.specs.Writing.{fieldWritten, signedWritten, fieldWrittenAt, signedWrittenAt, digitOf, DigitCount};
+
+// The columns of a field.
+pub const COLUMNS: usize = 6;
 
 // What the columns of a field hold.
 pub enum Field {
@@ -30,7 +33,7 @@ enum Parsed {
 pub fn read(s: &[u8]) -> Field
     ensures { λ r. ⌜ r ≡ fieldRead (now (s .entry)) ⌝ }
 {
-    if s.len() != 6 {
+    if s.len() != COLUMNS {
         return Field::NoNumber;
     }
     signed(s, blanks(s))
@@ -48,6 +51,7 @@ pub fn magnitude(v: i32) -> u32
     }
 }
 
+// Whether it is below zero.
 pub fn negative(v: i32) -> bool
     ensures { λ r. ⌜ r ≡ numberOf v .negative ⌝ }
 {
@@ -70,7 +74,7 @@ fn blanks(s: &[u8]) -> usize
 
 // The number that the bytes from an index on make, with its sign. "-0" is no number.
 fn signed(s: &[u8], at: usize) -> Field
-    requires { ⌜ length (now s) ≤ 6 ⌝ }
+    requires { ⌜ length (now s) ≤ columns ⌝ }
     ensures { λ r. ⌜ r ≡ answerOf (signed (drop at (now (s .entry)))) ⌝ }
 {
     if s.len() <= at {
@@ -97,7 +101,7 @@ fn signed(s: &[u8], at: usize) -> Field
 
 // The number that the bytes from an index on make: one digit or more, with no leading zero.
 fn natural(s: &[u8], at: usize) -> Parsed
-    requires { ⌜ (at ≤ length (now s)) × (length (now s) ≤ at + 6) ⌝ }
+    requires { ⌜ (at ≤ length (now s)) × (length (now s) ≤ at + columns) ⌝ }
     ensures { λ r. ⌜ r ≡ parsed (natural (drop at (now (s .entry)))) ⌝ }
 {
     if s.len() <= at {
@@ -113,7 +117,7 @@ fn natural(s: &[u8], at: usize) -> Parsed
 
 // The number that the bytes from an index on make, if each is a digit.
 fn digits(s: &[u8], at: usize) -> Parsed
-    requires { ⌜ (at ≤ length (now s)) × (length (now s) ≤ at + 6) ⌝ }
+    requires { ⌜ (at ≤ length (now s)) × (length (now s) ≤ at + columns) ⌝ }
     ensures { λ r. ⌜ r ≡ parsed (digits 0 (drop at (now (s .entry)))) ⌝ }
 {
     let mut n: u32 = 0;
