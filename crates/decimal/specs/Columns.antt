@@ -1,11 +1,11 @@
 -- A number written right-justified after blanks, in decimal, into the columns of a field (01, "List").
--- Definitions only: the laws are in ColumnLaws.
+-- Definitions only: the laws are in ColumnLaws and FieldLaws.
 use Prim.Native.Nat.{ℕ, zero, suc, _+_, _-_, _/_, _%_, _^_}
 use mathlib.Core.Bool.{Bool, not, cond, _&&_}
 use mathlib.Core.List.{List, [], _∷_}
 use lib.Dec.{ltb}
 use Rattle.lists.specs.Lists.{gather}
-use Rattle.decimal.specs.Number.{Number}
+use Rattle.decimal.specs.Number.{Number, columns}
 
 -- so many columns have room for n; a number takes one or more
 abbrev pub room : ℕ → ℕ → Bool
@@ -21,7 +21,7 @@ fieldOf zero n = []
 fieldOf (suc width) n = column n width ∷ fieldOf width n
 
 abbrev pub fieldsOf : List ℕ → List ℕ
-fieldsOf = gather (fieldOf 6)
+fieldsOf = gather (fieldOf columns)
 
 -- ---- with a sign, for which a number below zero takes one column more
 
