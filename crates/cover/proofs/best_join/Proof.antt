@@ -44,7 +44,9 @@ sub-u-2 : tie.Need-sub-u-2 Inv-loop μ-loop
 sub-u-2 c = omega arith
 
 loop-less : tie.Need-loop-less Inv-loop μ-loop
-loop-less c = next-less _ _ (c .before .before .before .loop-test .taken)
+loop-less c =
+    let d = c .before .before .before .before in
+    next-less (d .loop .u) (d .before .before .args .r) (omega arith)
 
 loop-again : tie.Need-loop-again Inv-loop μ-loop
 loop-again c =
