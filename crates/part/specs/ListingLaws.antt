@@ -1,18 +1,14 @@
 -- A number can be read off its field, and so a part off its lines: two sound parts with the same lines are the same part.
-use Prim.Native.Nat.{ℕ, zero, suc, _+_, _*_, _-_, _/_, _%_, _^_, _≤_, _<_}
-use native.Mathlib.Nat.{mod-lt, mod-eq-of-lt, mod-add-div, div-eq-of-lt, add-mul-mod-self-left, pow-suc, one-le-pow, pow-le-pow-right, mul-le-mul-left}
+use Prim.Native.Nat.{ℕ, zero, suc, _+_, _-_, _^_, _≤_, _<_}
+use native.Mathlib.Nat.{pow-le-pow-right}
 use native.Mathlib.Omega.{arith}
 use mathlib.Core.Path.{_≡_, refl, sym, ap, ap₂, _∙_, subst}
 use mathlib.Core.Logic.{⊎-elim}
-use mathlib.Core.Bool.{cond}
 use mathlib.Core.List.{List, [], _∷_, _++_, append-assoc, map, Memᴰ·map, Memᴰ·of-map}
-use lib.Dec.{eqb}
-use lib.ListN.{length, take, drop, getD, length-take, length-drop, take-append-drop}
-use lib.Seq.{getD-take, ext-getD, length-take-le, take-append-seam, drop-append-seam}
-use Rattle.lists.specs.Cases.{by-eqb}
+use lib.ListN.{length, drop, getD, length-take, length-drop, take-append-drop}
+use lib.Seq.{getD-take, ext-getD, length-take-le}
 use Rattle.lists.specs.Lists.{_∈_, first, later, Every, gather, upto}
 use Rattle.lists.specs.ListLaws.{every-none, every-cons, every-head, every-tail}
-use Rattle.lists.specs.TestLaws.{reflects-lt, reflects-and, by-reflects}
 use Rattle.tree.specs.Limits.{greatestNet}
 use Rattle.decimal.specs.Columns.{fieldOf, fieldsOf}
 use Rattle.decimal.specs.ColumnLaws.{field-only, fields-only}
@@ -133,6 +129,18 @@ small-at p shape h t l =
     let i : t < length (inUse p) = omega (arith, l, used-count p shape h) in
     rw (getD-take (p .used) (p .tables) t blank l) at (small p shape h (getD (inUse p) t blank) (getD-in (inUse p) t blank i))
 
+-- EVERY LINE OF A SOUND PART FITS ITS COLUMNS: line 0, and the line of table t + 1
+pub top-fits : (p : Part) → Sound p → Every (λ n. n < 10 ^ 6) (p .k ∷ p .capacity ∷ p .used ∷ [])
+top-fits p h =
+    every-cons (omega (arith, h .k-range .1)) (every-cons (omega (arith, h .capacity-range .1))
+    (every-cons (omega (arith, h .used-fits, h .capacity-range .1)) (every-none _)))
+
+pub table-fits : (p : Part) → Shaped p → Sound p → (t : ℕ) → t < p .used → (r : Table) → r ≡ getD (p .tables) t blank →
+    Every (λ n. n < 10 ^ 6) (suc t ∷ r .net ∷ r .count ∷ reads r) × (r .truth < 10 ^ 21)
+table-fits p shape h t l r e =
+    let s = subst Small (sym e) (small-at p shape h t l) in
+    (every-cons (omega (arith, l, h .used-fits, h .capacity-range .1)) (every-cons (omega (arith, s .net)) (every-cons (omega (arith, s .count)) (s .inputs))), truth-small r s)
+
 -- the numbers below n
 upto-below : (n : ℕ) → Every (λ t. t < n) (upto n)
 upto-below zero = every-none _
@@ -172,15 +180,10 @@ module _ (p q : Part) (fp : Shaped p) (fq : Shaped q) (hp : Sound p) (hq : Sound
   top-only : (xs ys : List ℕ) → lineOf p 0 ++ xs ≡ lineOf q 0 ++ ys → (p .k ≡ q .k) × (p .capacity ≡ q .capacity) × (p .used ≡ q .used) × (xs ≡ ys)
   top-only xs ys e =
       let a : fieldsOf (p .k ∷ p .capacity ∷ p .used ∷ []) ++ (10 ∷ xs) ≡ fieldsOf (q .k ∷ q .capacity ∷ q .used ∷ []) ++ (10 ∷ ys) = e in
-      let b = fields-only (p .k ∷ p .capacity ∷ p .used ∷ []) (q .k ∷ q .capacity ∷ q .used ∷ []) (10 ∷ xs) (10 ∷ ys) refl (low p hp) (low q hq) a in
+      let b = fields-only (p .k ∷ p .capacity ∷ p .used ∷ []) (q .k ∷ q .capacity ∷ q .used ∷ []) (10 ∷ xs) (10 ∷ ys) refl (top-fits p hp) (top-fits q hq) a in
       let f = b .0 in
       let g = b .1 in
       (cc, cc, cc, cc)
-    where
-      low : (r : Part) → Sound r → Every (λ n. n < 10 ^ 6) (r .k ∷ r .capacity ∷ r .used ∷ [])
-      low r h =
-          every-cons (omega (arith, h .k-range .1)) (every-cons (omega (arith, h .capacity-range .1))
-          (every-cons (omega (arith, h .used-fits, h .capacity-range .1)) (every-none _)))
 
   -- line t, and what follows it
   line-only : (t : ℕ) (xs ys : List ℕ) → t < p .used → t < q .used → lineOf p (suc t) ++ xs ≡ lineOf q (suc t) ++ ys →

@@ -2,16 +2,20 @@
 -- A function's proof has it of its first parameter r: room r (c .good .0 .1 .1 .1 .1 .0 .1 .0 .1)
 use Prim.Native.Nat.{ℕ, min}
 use native.Mathlib.Omega.{arith}
-use mathlib.Core.Path.{_≡_, sym, _∙_}
+use mathlib.Core.Path.{_≡_, sym, ap, _∙_}
 use mathlib.Core.List.{List, map}
-use lib.ListN.{length, take, drop, length-map, drop-of-length-le}
+use lib.ListN.{length, take, drop, length-take, length-map, drop-of-length-le}
 use lib.Seq.{take-all}
 use Rattle.lists.specs.Cases.{by-leb}
 use Rattle.table.specs.Limits.{inputRoom}
+use Rattle.table.specs.Records.{reads}
 use Rattle.table.specs.declared.Table.{Table}
 
 pub room : (r : Table) → length (map (λ n. n) (r .inputs)) ≡ inputRoom → length (r .inputs) ≡ inputRoom
 room r h = sym (length-map (r .inputs) (λ n. n)) ∙ h
+
+pub reads-count : (r : Table) → length (r .inputs) ≡ inputRoom → length (reads r) ≡ min (r .count) 6
+reads-count r l = length-take (r .count) (r .inputs) ∙ ap (min (r .count)) l
 
 -- of a list of six, no more than six are taken or dropped
 module _ (xs : List ℕ) (n : ℕ) (l : length xs ≡ inputRoom) where

@@ -1,6 +1,6 @@
 // Tests of the inputs of one record: of the first `n`, those in use, and of the rest.
 ghost use mathlib.Core.Path.{_≡_};
-ghost use Prim.Native.Nat.{_≤_, min};
+ghost use Prim.Native.Nat.{_≤_};
 ghost use lib.Dec.{ltb};
 ghost use lib.ListN.{take, drop};
 ghost use Rattle.lists.specs.Tests.{all, elem, pairwise};
@@ -11,13 +11,6 @@ use crate::within;
 pub const GREATEST_NET: u16 = 999;
 
 pub const TABLE_BASE: u16 = 1000;
-
-// How many inputs are in use: no more than a record has room for.
-pub fn in_use(count: u8) -> usize
-    ensures { λ r. ⌜ r ≡ min count 6 ⌝ }
-{
-    if count < 6 { count as usize } else { 6 }
-}
 
 // The input is a net or names a table.
 fn is_code(x: u16) -> bool

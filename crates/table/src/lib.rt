@@ -3,6 +3,7 @@ mod inputs;
 pub mod rules;
 
 ghost use mathlib.Core.Path.{_≡_};
+ghost use Prim.Native.Nat.{min};
 ghost use Rattle.lists.specs.Tests.{within as inRange};
 ghost use Rattle.table.specs.Records.{blank as blankRecord};
 
@@ -29,6 +30,13 @@ pub fn blank() -> Table
         inputs: [0u16; 6],
         truth: 0,
     }
+}
+
+// How many inputs are in use: no more than a record has room for.
+pub fn in_use(count: u8) -> usize
+    ensures { λ r. ⌜ r ≡ min count 6 ⌝ }
+{
+    if count < 6 { count as usize } else { 6 }
 }
 
 // The number is neither below the least nor above the greatest.
