@@ -4,3 +4,4 @@ pub mod GateLaws
 pub mod FieldLaws
 pub mod FaninLaws
 pub mod LinesLaws
+pub mod UnreadLaws

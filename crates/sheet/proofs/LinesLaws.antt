@@ -188,6 +188,7 @@ module _ (text : List ℕ) (start out count : ℕ) where
   pub record AtLine (gates : List Gate) (flags : List Bool) (leaves : ℕ) (answer : Answer) (at g : ℕ) : Type 0 where
     pub accepted : answer ≡ Accepted
     pub far : g ≤ count
+    pub inside : at ≤ length text
     pub room : length gates ≡ mostGates
     pub seen : Seen
     pub marked : Marked flags leaves seen
@@ -203,15 +204,17 @@ module _ (text : List ℕ) (start out count : ℕ) where
     pub whole : length (l .numbers) ≡ mostFields
     pub within : l .count ≤ mostFanins
     pub some-left : i ≤ l .count
+    pub ends : l .end ≤ length text
     pub seen : Seen
     pub marked : Marked flags leaves seen
     pub few : leaves ≤ mostLeaves
     pub same : all ≡ fanins out (count - (g + 1)) (g + 1) (drawnGates g gates) (l .kind) (take i fs) seen (drop i (faninNumbers l)) (drop (l .end) text)
 
-  pub at-start : (gates : List Gate) → length gates ≡ mostGates → AtLine gates (replicate codes false) 0 Accepted start 0
-  at-start gates r = record {
+  pub at-start : (gates : List Gate) → length gates ≡ mostGates → start ≤ length text → AtLine gates (replicate codes false) 0 Accepted start 0
+  at-start gates r l = record {
     accepted = refl;
     far = omega arith;
+    inside = l;
     room = r;
     seen = nothing;
     marked = marked-start;
@@ -241,6 +244,7 @@ module _ (text : List ℕ) (start out count : ℕ) where
       whole = r .whole;
       within = r .within;
       some-left = omega arith;
+      ends = r .ends;
       seen = h .seen;
       marked = h .marked;
       few = h .few;
@@ -274,8 +278,9 @@ module _ (text : List ℕ) (start out count : ℕ) where
         ∙ ap (bad (numberOf why)) (sym (add-one (g + 1))))
 
     pub fanin-taken : i < l .count → g + 1 ≤ mostGates → (r : Fanin) → FaninRead flags leaves out (g + 1) (number .magnitude) r → (s : Source) → r ≡ Reads s →
-        AtFanin gates g l (set flags (number .magnitude) true) (leaves + length (netOf s)) answer (set fs i (record { inverted = number .negative; source = s })) (i + 1)
-    fanin-taken k n r f s e = record {
+        (f : Edge) → f ≡ record { inverted = number .negative; source = s } → (n : ℕ) → n ≡ leaves + length (netOf s) →
+        AtFanin gates g l (set flags (number .magnitude) true) n answer (set fs i f) (i + 1)
+    fanin-taken k b r d s e f p n q = record {
       accepted = h .accepted;
       far = h .far;
       room = h .room;
@@ -283,21 +288,24 @@ module _ (text : List ℕ) (start out count : ℕ) where
       whole = h .whole;
       within = h .within;
       some-left = omega arith;
+      ends = h .ends;
       seen = saw (h .seen) s;
-      marked = marked-more (g + 1) (number .magnitude) n (h .marked) s (f .source s e);
-      few = f .few s e (h .few);
+      marked = subst (λ m. Marked (set flags (number .magnitude) true) m (saw (h .seen) s)) (sym q) (marked-more (g + 1) (number .magnitude) b (h .marked) s (d .source s e));
+      few = omega (arith, d .few s e (h .few));
       same =
           one-number k
           ∙ (fanin-good out (count - (g + 1)) (g + 1) (drawnGates g gates) (h .seen) (l .kind) (take i fs) (drop (l .end) text) (valueOf number) (drop (i + 1) (faninNumbers l))
-          (f .step (h .seen) (h .marked) ∙ ap (faninStep (g + 1) (h .seen)) e)
+          (d .step (h .seen) (h .marked) ∙ ap (faninStep (g + 1) (h .seen)) e)
           ∙ ap (λ es. fanins out (count - (g + 1)) (g + 1) (drawnGates g gates) (l .kind) es (saw (h .seen) s) (drop (i + 1) (faninNumbers l)) (drop (l .end) text))
-          (sym (taken-more fs i (record { inverted = number .negative; source = s }) (omega (arith, h .wide)))));
+          (sym (taken-more fs i f (omega (arith, h .wide)) ∙ ap (λ x. take i fs ++ (x ∷ [])) p)));
     }
 
-    pub gate-taken : l .count ≤ i → count ≤ mostGates → AtLine (set gates g (record { kind = l .kind; count = l .count; fanins = fs })) flags leaves answer (l .end) (g + 1)
-    gate-taken k m = record {
+    pub gate-taken : l .count ≤ i → count ≤ mostGates → (x : Gate) → x ≡ record { kind = l .kind; count = l .count; fanins = fs } →
+        AtLine (set gates g x) flags leaves answer (l .end) (g + 1)
+    gate-taken k m x e = record {
       accepted = h .accepted;
       far = omega arith;
+      inside = h .ends;
       room = simp length-set (h .room);
       seen = h .seen;
       marked = h .marked;
@@ -310,5 +318,5 @@ module _ (text : List ℕ) (start out count : ℕ) where
           ∙ (ap (λ n. lines out (count - (g + 1)) (g + 1 + 1) (drawnGates g gates ++ (record { kind = l .kind; fanins = take n fs } ∷ [])) (h .seen) (drop (l .end) text))
           (let q : i ≡ l .count = omega (arith, h .some-left) in q)
           ∙ ap (λ gs. lines out (count - (g + 1)) (g + 1 + 1) gs (h .seen) (drop (l .end) text))
-          (sym (drawn-more gates g (record { kind = l .kind; count = l .count; fanins = fs }) (omega (arith, h .far, h .room))))))));
+          (sym (drawn-more gates g x (omega (arith, h .far, h .room)) ∙ ap (λ y. drawnGates g gates ++ (drawnGate y ∷ [])) e))))));
     }

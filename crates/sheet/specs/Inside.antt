@@ -1,7 +1,7 @@
 -- What the functions inside answer. Definitions only.
 use Prim.Native.Nat.{ℕ, suc, _+_, _-_, _≤_, _<_}
 use mathlib.Core.Path.{_≡_}
-use mathlib.Core.Bool.{Bool, true, false, cond}
+use mathlib.Core.Bool.{Bool, true, false, not, cond, _||_}
 use mathlib.Core.Option.{Option, none, some}
 use mathlib.Core.List.{List, [], _∷_, _++_, map}
 use lib.ListN.{length, getD, take, drop}
@@ -22,18 +22,21 @@ use Rattle.sheet.specs.declared.GateHead.the-variants.{Good as GoodGate,
 use Rattle.sheet.specs.declared.Source.the-variants.{Net as net, Gate as gate}
 use Rattle.sheet.specs.declared.Fanin.{Fanin}
 use Rattle.sheet.specs.declared.Fanin.the-variants.{Reads, Bad as BadFanin}
+use Rattle.sheet.specs.declared.Refusal.{Refusal}
 use Rattle.sheet.specs.declared.Answer.{Answer}
 use Rattle.sheet.specs.declared.Answer.the-variants.{Accepted, Refused}
 use Rattle.sheet.specs.declared.Fault.{Fault}
 use Rattle.sheet.specs.declared.Fault.the-variants.{Nothing, Is as IsFault}
 use Rattle.sheet.specs.declared.GateLine.{GateLine}
 use Rattle.sheet.specs.declared.Lines.{Lines}
-use Rattle.sheet.specs.Sheet.{DrawnGate, DrawnSheet, netOf}
+use Rattle.sheet.specs.declared.Unread.{Unread}
+use Rattle.sheet.specs.declared.Unread.the-variants.{First, Nowhere}
+use Rattle.sheet.specs.Sheet.{DrawnGate, DrawnSheet, netOf, from}
 use Rattle.sheet.specs.Limits.{gateBase, mostFields, mostGates, mostFanins, mostLeaves}
 use Rattle.sheet.specs.Line.{line, fields}
-use Rattle.sheet.specs.Step.{Step, good, bad, _>>=_, given}
-use Rattle.sheet.specs.Read.{Head as LineOne, gateHeadOf, member, Seen, nothing, sourceOf, readFanin, readLeft}
-use Rattle.sheet.specs.Answers.{numberOf, drawnSheet}
+use Rattle.sheet.specs.Step.{Step, good, bad, _>>=_, require, given}
+use Rattle.sheet.specs.Read.{empty, Head as LineOne, readHead, gateHeadOf, member, Seen, nothing, sourceOf, readFanin, readLeft, readUnread}
+use Rattle.sheet.specs.Answers.{numberOf, drawnGates}
 
 -- ---- where a line ends
 
@@ -103,11 +106,18 @@ abbrev pub faultStep : {A : Type 0} → ℕ → Fault → A → Step A
 faultStep g Nothing a = good a
 faultStep g (IsFault why) a = bad (numberOf why) (suc g)
 
+pub record LineRefused (why : Refusal) (l : GateLine) : Type 0 where
+  pub fault : l .fault ≡ IsFault why
+  pub whole : length (l .numbers) ≡ mostFields
+  pub count : l .count ≡ 0
+  pub ends : l .end ≡ 0
+
 -- of gate g, whichever it is
 pub record GateLineRead (text : List ℕ) (start : ℕ) (l : GateLine) : Type 0 where
   pub step : (g : ℕ) → gateLine g (drop start text) ≡ faultStep g (l .fault) (l .kind, faninNumbers l, drop (l .end) text)
   pub whole : length (l .numbers) ≡ mostFields
   pub within : l .count ≤ mostFanins
+  pub ends : l .end ≤ length text
 
 -- ---- fanins
 
@@ -145,19 +155,40 @@ pub record FaninRead (flags : List Bool) (leaves out g n : ℕ) (r : Fanin) : Ty
   pub few : (s : Source) → r ≡ Reads s → leaves ≤ mostLeaves → leaves + length (netOf s) ≤ mostLeaves
   pub step : (seen : Seen) → Marked flags leaves seen → readFanin out g seen n ≡ faninStep g seen r
 
--- ---- the lines of a sheet
+-- ---- the lines of the gates
 
 -- the answer is the step's: it went on to something of which `P` holds, or was refused
 abbrev pub Comes : {A : Type 0} → Answer → (A → Type 0) → Step A → Type 0
 Comes {A} Accepted P m = (a : A) × (P a × (m ≡ good a))
 Comes (Refused why line) P m = m ≡ bad (numberOf why) line
 
--- what was read of the gates: their list, the nets and gates seen, and the rest of the text
-pub record GatesHeld (text : List ℕ) (head : LineOne) (r : Lines) (a : List DrawnGate × Seen × List ℕ) : Type 0 where
-  pub held : drawnSheet (r .sheet) ≡ record { out = head .out; inverted = head .inverted; gates = a .0 }
-  pub count : r .sheet .count ≡ head .count
-  pub marked : Marked (r .seen) (length (a .1 .nets)) (a .1)
-  pub rest : a .2 ≡ drop (r .end) text
+-- what was read: the gates, the nets and gates seen, and the rest of the text
+pub record GatesHeld (text : List ℕ) (count : ℕ) (l : Lines) (a : List DrawnGate × Seen × List ℕ) : Type 0 where
+  pub gates : a .0 ≡ drawnGates count (l .gates)
+  pub marked : Flagged gateBase (mostGates + 1) (l .seen) (a .1 .gates)
+  pub rest : a .2 ≡ drop (l .end) text
+  pub within : l .end ≤ length text
 
-abbrev pub GatesRead : List ℕ → ℕ → LineOne → Lines → Type 0
-GatesRead text start head r = Comes (r .answer) (GatesHeld text head r) (readLeft (head .out) (head .count) 1 nothing (drop start text))
+abbrev pub GatesRead : (text : List ℕ) (start out count : ℕ) → Lines → Type 0
+GatesRead text start out count l = Comes (l .answer) (GatesHeld text count l) (readLeft out count 1 nothing (drop start text))
+
+-- ---- the first gate that is never read
+
+abbrev pub unreadStep : Unread → Step (Unit {0})
+unreadStep Nowhere = good tt
+unreadStep (First g) = bad 13 (suc g)
+
+abbrev pub UnreadFound : List Bool → ℕ → Unread → Type 0
+UnreadFound flags count r = (read : List ℕ) → Flagged gateBase (mostGates + 1) flags read → readUnread (from 1 (count - 1)) read ≡ unreadStep r
+
+-- ---- a sheet
+
+-- a sheet off the front of a text, after which bytes may follow unless it is the last
+abbrev pub readFront : (last : Bool) → List ℕ → Step (DrawnSheet × List ℕ)
+readFront last text = do
+  (bytes, rest) ← given (line text) 1 1
+  head ← readHead bytes
+  (gates, seen, rest₁) ← readLeft (head .out) (head .count) 1 nothing rest
+  _ ← require (not last || empty rest₁) 1 (head .count + 2)
+  _ ← readUnread (from 1 (head .count - 1)) (seen .gates)
+  good (record { out = head .out; inverted = head .inverted; gates = gates }, rest₁)

@@ -5,9 +5,9 @@ ghost use Prim.Native.Nat.{_+_, _≤_};
 ghost use lib.ListN.{length};
 ghost use Rattle.sheet.specs.Read.{within, counts, headOf, kindOf, sourceOf};
 ghost use Rattle.sheet.specs.Answers.{noFanins, noGates};
-ghost use Rattle.sheet.specs.Limits.{mostFields, mostGates, mostLeaves};
+ghost use Rattle.sheet.specs.Limits.{mostGates, mostLeaves};
 ghost use Rattle.sheet.specs.Sheet.{netOf};
-ghost use Rattle.sheet.specs.Inside.{LineEnds, valueOf, fieldsOf, Room, FieldsRead, headStep, kindStep, GateHeadRead, GateLineRead, sourceStep, FaninRead, GatesRead};
+ghost use Rattle.sheet.specs.Inside.{LineEnds, valueOf, fieldsOf, Room, FieldsRead, headStep, kindStep, GateHeadRead, LineRefused, GateLineRead, sourceStep, FaninRead, GatesRead, UnreadFound};
 use tree::Kind;
 
 // The most gates of a sheet, and the fewest and the most fanins of a gate.
@@ -286,7 +286,7 @@ struct GateLine {
 }
 
 fn bad_line(why: Refusal) -> GateLine
-    ensures { λ r. ⌜ (r .fault ≡ Fault.Is why) × (r .count ≡ 0) × (length (r .numbers) ≡ mostFields) ⌝ }
+    ensures { λ r. ⌜ LineRefused why r ⌝ }
 {
     let zero = FieldValue {
         negative: false,
@@ -388,12 +388,12 @@ fn with_leaf(leaves: u16, source: Source) -> u16
     }
 }
 
-// The lines of a sheet that were read: the sheet where they are accepted, the place after them, and a flag at each number that
-// was a fanin.
+// The lines of gates that were read: where they are accepted the gates, the place after them, and a flag at each number that was
+// a fanin.
 struct Lines {
     answer: Answer,
     end: usize,
-    sheet: Sheet,
+    gates: [Gate; MOST_GATES],
     seen: [bool; CODES],
 }
 
@@ -420,18 +420,36 @@ fn no_gates() -> [Gate; MOST_GATES]
     [none; MOST_GATES]
 }
 
-// The gates' lines from a place on.
-fn gate_lines(text: &[u8], start: usize, out: u16, inverted: bool, count: u8) -> Lines
-    ensures { λ r. ⌜ GatesRead (now (text .entry)) start (record { out = out; inverted = inverted; count = count }) r ⌝ }
+fn edge_of(inverted: bool, source: Source) -> Edge
+    ensures { λ r. ⌜ r ≡ record { inverted = inverted; source = source } ⌝ }
+{
+    Edge { inverted, source }
+}
+
+fn gate_of(line: GateLine, fanins: [Edge; MOST_FANINS]) -> Gate
+    ensures { λ r. ⌜ r ≡ record { kind = line .kind; count = line .count; fanins = fanins } ⌝ }
+{
+    let kind = line.kind;
+    Gate {
+        kind,
+        count: line.count,
+        fanins,
+    }
+}
+
+// The lines of so many gates, from a place on.
+fn gate_lines(text: &[u8], start: usize, out: u16, count: u8) -> Lines
+    requires { ⌜ start ≤ length (now text) ⌝ }
+    ensures { λ r. ⌜ GatesRead (now (text .entry)) start out count r ⌝ }
 {
     let mut gates = no_gates();
     let mut seen = [false; CODES];
     let mut leaves: u16 = 0;
     let mut answer = Answer::Accepted;
-    let mut at = start;
+    let mut end = start;
     'lines: for g in 0..count as usize {
         let gate = g as u16 + 1;
-        let line = read_gate_line(text, at);
+        let line = read_gate_line(text, end);
         let fault = line.fault;
         if let Fault::Is(why) = fault {
             answer = Answer::Refused(why, gate + 1);
@@ -440,40 +458,43 @@ fn gate_lines(text: &[u8], start: usize, out: u16, inverted: bool, count: u8) ->
         let mut fanins = no_fanins();
         for i in 0..line.count as usize {
             let x = line.numbers[i + 2];
-            let code = x.magnitude;
-            match read_fanin(&seen, leaves, out, gate, code) {
+            match read_fanin(&seen, leaves, out, gate, x.magnitude) {
                 Fanin::Bad(why) => {
                     answer = Answer::Refused(why, gate + 1);
                     break 'lines;
                 }
                 Fanin::Reads(source) => {
-                    fanins[i] = Edge {
-                        inverted: x.negative,
-                        source,
-                    };
+                    fanins[i] = edge_of(x.negative, source);
                     leaves = with_leaf(leaves, source);
-                    seen[code as usize] = true;
+                    seen[x.magnitude as usize] = true;
                 }
             }
         }
-        let kind = line.kind;
-        gates[g] = Gate {
-            kind,
-            count: line.count,
-            fanins,
-        };
-        at = line.end;
+        gates[g] = gate_of(line, fanins);
+        end = line.end;
     }
-    let sheet = Sheet {
-        out,
-        inverted,
-        count,
-        gates,
-    };
     Lines {
         answer,
-        end: at,
-        sheet,
+        end,
+        gates,
         seen,
     }
+}
+
+// The first gate that is never read, the root left aside.
+enum Unread {
+    First(u16),
+    Nowhere,
+}
+
+fn first_unread(seen: &[bool; CODES], count: u8) -> Unread
+    ensures { λ r. ⌜ UnreadFound (now (seen .entry)) count r ⌝ }
+{
+    let base = tree::CODE_BASE as usize;
+    for g in 1..count as usize {
+        if !seen[base + g] {
+            return Unread::First(g as u16);
+        }
+    }
+    Unread::Nowhere
 }

@@ -2,14 +2,13 @@ use Prim.Native.Nat.{_+_, _-_, _<_}
 use native.Mathlib.Omega.{arith}
 use borrow.Author.Needs.{needs}
 use mathlib.Core.Path.{_≡_, refl, sym, ap, _∙_, subst}
-use mathlib.Core.Bool.{true}
-use lib.ListN.{length, getD, drop, set}
+use lib.ListN.{length, getD, drop}
 use Rattle.sheet.specs.declared.GateLine.{GateLine}
 use Rattle.sheet.specs.declared.Lines.{Lines}
 use Rattle.sheet.specs.Limits.{mostGates}
-use Rattle.sheet.specs.Read.{Head, nothing, readLeft}
-use Rattle.sheet.specs.Answers.{noGates}
-use Rattle.sheet.specs.Inside.{codes, Marked, Comes, GatesHeld}
+use Rattle.sheet.specs.Read.{nothing, readLeft}
+use Rattle.sheet.specs.Answers.{drawnGates, noGates}
+use Rattle.sheet.specs.Inside.{codes, Comes, GatesHeld}
 use Rattle.sheet.proofs.HeadLaws.{zeroValue}
 use Rattle.sheet.proofs.FaninLaws.{code-below}
 use Rattle.sheet.proofs.LinesLaws.{AtLine, AtFanin, at-start, line-refused, line-taken, lines-over, fanin-refused, fanin-taken, gate-taken}
@@ -17,6 +16,8 @@ use Rattle.sheet.proofs.gate_lines.Statement.{statement}
 use Rattle.sheet.proofs.gate_lines.Tie as tie
 use Rattle.sheet.proofs.gate_lines.Reads as reads
 use Rattle.sheet.proofs.gate_lines.Lts as lts
+use Rattle.sheet.proofs.edge_of.Reads as edge-of-reads
+use Rattle.sheet.proofs.gate_of.Reads as gate-of-reads
 use Rattle.sheet.proofs.no_fanins.Reads as no-fanins-reads
 use Rattle.sheet.proofs.no_gates.Reads as no-gates-reads
 use Rattle.sheet.proofs.read_fanin.Reads as read-fanin-reads
@@ -24,19 +25,19 @@ use Rattle.sheet.proofs.read_gate_line.Reads as read-gate-line-reads
 use Rattle.sheet.proofs.with_leaf.Reads as with-leaf-reads
 
 abbrev Inv-loop : tie.InvT-loop
-Inv-loop text start out inverted count gates seen₀ leaves₀ answer₀ at g gate line fanins₀ i₀ g-end i-end seen leaves answer fanins i =
+Inv-loop text start out count gates seen₀ leaves₀ answer₀ end g gate line fanins₀ i₀ g-end i-end seen leaves answer fanins i =
     AtFanin text start out count gates g line seen leaves answer fanins i
 
 abbrev μ-loop : tie.MeasureT-loop
-μ-loop text start out inverted count gates seen₀ leaves₀ answer₀ at g gate line fanins₀ i₀ g-end i-end seen leaves answer fanins i =
+μ-loop text start out count gates seen₀ leaves₀ answer₀ end g gate line fanins₀ i₀ g-end i-end seen leaves answer fanins i =
     line .count - i
 
 abbrev Inv-lines : tie.InvT-lines
-Inv-lines text start out inverted count gates₀ seen₀ leaves₀ answer₀ at₀ g₀ g-end gates seen leaves answer at g =
-    AtLine text start out count gates seen leaves answer at g
+Inv-lines text start out count gates₀ seen₀ leaves₀ answer₀ end₀ g₀ g-end gates seen leaves answer end g =
+    AtLine text start out count gates seen leaves answer end g
 
 abbrev μ-lines : tie.MeasureT-lines
-μ-lines text start out inverted count gates₀ seen₀ leaves₀ answer₀ at₀ g₀ g-end gates seen leaves answer at g =
+μ-lines text start out count gates₀ seen₀ leaves₀ answer₀ end₀ g₀ g-end gates seen leaves answer end g =
     count - g
 
 no-gates-length : length noGates ≡ mostGates
@@ -61,48 +62,48 @@ code-known c =
     code-below (l .lines .g + 1) _ (omega (arith, l .before .before .before .fits)) (c .before .source .given .0 .0)
     (f .read-fanin .ensures .source (c .before .source .given .0 .0) (c .before .source .given .1))
 
--- src/lib.rt:420:21
+-- src/lib.rt:445:21
 no-gates-requires : tie.Need-no-gates-requires Inv-loop μ-loop Inv-lines μ-lines
 no-gates-requires c κs = search needs
 
--- src/lib.rt:425:5
+-- src/lib.rt:450:5
 lines-holds : tie.Need-lines-holds Inv-loop μ-loop Inv-lines μ-lines
 lines-holds c =
-    let a = c .before .before .args in
-    at-start (a .text .now) (a .start) (a .out) (a .count) (c .no-gates .result) (ap length (c .no-gates .ensures) ∙ no-gates-length)
+    let s = c .before .before in
+    at-start (s .args .text .now) (s .args .start) (s .args .out) (s .args .count) (c .no-gates .result) (ap length (c .no-gates .ensures) ∙ no-gates-length) (s .pre)
 
--- src/lib.rt:426:20
+-- src/lib.rt:451:20
 cast-gate : tie.Need-cast-gate Inv-loop μ-loop Inv-lines μ-lines
 cast-gate c = search needs
 
--- src/lib.rt:426:20
+-- src/lib.rt:451:20
 add-gate : tie.Need-add-gate Inv-loop μ-loop Inv-lines μ-lines
 add-gate c = search needs
 
--- src/lib.rt:427:20
+-- src/lib.rt:452:20
 read-gate-line-requires : tie.Need-read-gate-line-requires Inv-loop μ-loop Inv-lines μ-lines
 read-gate-line-requires c κs = search needs
 
--- src/lib.rt:429:26
+-- src/lib.rt:454:26
 enum-known-fault : tie.Need-enum-known-fault Inv-loop μ-loop Inv-lines μ-lines
 enum-known-fault c = search needs
 
--- src/lib.rt:430:43
-add-t29 : tie.Need-add-t29 Inv-loop μ-loop Inv-lines μ-lines
-add-t29 c = search needs
+-- src/lib.rt:455:43
+add-t25 : tie.Need-add-t25 Inv-loop μ-loop Inv-lines μ-lines
+add-t25 c = search needs
 
 enum-told : tie.Need-enum-told Inv-loop μ-loop Inv-lines μ-lines
 enum-told c = search needs
 
--- src/lib.rt:433:26
+-- src/lib.rt:458:26
 no-fanins-requires : tie.Need-no-fanins-requires Inv-loop μ-loop Inv-lines μ-lines
 no-fanins-requires c κs = search needs
 
--- src/lib.rt:434:21
+-- src/lib.rt:459:21
 cast-i-end : tie.Need-cast-i-end Inv-loop μ-loop Inv-lines μ-lines
 cast-i-end c = search needs
 
--- src/lib.rt:434:9
+-- src/lib.rt:459:9
 loop-holds : tie.Need-loop-holds Inv-loop μ-loop Inv-lines μ-lines
 loop-holds c =
     let r = c .before .before .before in
@@ -111,121 +112,118 @@ loop-holds c =
     line-taken (a .text .now) (a .start) (a .out) (a .count) (b .lines .inv) (omega arith) (r .read-gate-line .result) (r .read-gate-line .ensures) (c .before .enum-told .given .1)
     (c .no-fanins .result) (ap length (c .no-fanins .ensures))
 
--- src/lib.rt:435:34
+-- src/lib.rt:460:34
 add-x : tie.Need-add-x Inv-loop μ-loop Inv-lines μ-lines
 add-x c = search needs
 
--- src/lib.rt:435:21
+-- src/lib.rt:460:21
 mul-x : tie.Need-mul-x Inv-loop μ-loop Inv-lines μ-lines
 mul-x c = search needs
 
--- src/lib.rt:435:21
+-- src/lib.rt:460:21
 element-copy-out-x : tie.Need-element-copy-out-x Inv-loop μ-loop Inv-lines μ-lines
 element-copy-out-x c = search needs
 
--- src/lib.rt:437:19
+-- src/lib.rt:461:19
 read-fanin-requires : tie.Need-read-fanin-requires Inv-loop μ-loop Inv-lines μ-lines
 read-fanin-requires c κs = search needs
 
--- src/lib.rt:438:28
+-- src/lib.rt:462:28
 enum-known-why : tie.Need-enum-known-why Inv-loop μ-loop Inv-lines μ-lines
 enum-known-why c = search needs
 
--- src/lib.rt:439:51
-add-t41 : tie.Need-add-t41 Inv-loop μ-loop Inv-lines μ-lines
-add-t41 c = search needs
+-- src/lib.rt:463:51
+add-t37 : tie.Need-add-t37 Inv-loop μ-loop Inv-lines μ-lines
+add-t37 c = search needs
 
--- src/lib.rt:442:30
+-- src/lib.rt:466:30
 enum-known-source : tie.Need-enum-known-source Inv-loop μ-loop Inv-lines μ-lines
 enum-known-source c = search needs
 
--- src/lib.rt:443:21
+-- src/lib.rt:467:33
+edge-of-requires : tie.Need-edge-of-requires Inv-loop μ-loop Inv-lines μ-lines
+edge-of-requires c κs = search needs
+
+-- src/lib.rt:467:21
 mul-fanins : tie.Need-mul-fanins Inv-loop μ-loop Inv-lines μ-lines
 mul-fanins c = search needs
 
--- src/lib.rt:443:21
+-- src/lib.rt:467:21
 array-set-from-fanins : tie.Need-array-set-from-fanins Inv-loop μ-loop Inv-lines μ-lines
 array-set-from-fanins c = search needs
 
--- src/lib.rt:444:21
+-- src/lib.rt:468:21
 with-leaf-requires : tie.Need-with-leaf-requires Inv-loop μ-loop Inv-lines μ-lines
 with-leaf-requires c κs = search needs
 
--- src/lib.rt:445:26
+-- src/lib.rt:469:26
 cast-seen : tie.Need-cast-seen Inv-loop μ-loop Inv-lines μ-lines
-cast-seen c = omega (arith, code-known (c .before))
+cast-seen c = omega (arith, code-known (c .before .before .before))
 
--- src/lib.rt:445:21
+-- src/lib.rt:469:21
 array-write-seen : tie.Need-array-write-seen Inv-loop μ-loop Inv-lines μ-lines
-array-write-seen c = omega (arith, code-known (c .before), (loop-of (c .before)) .loop .inv .marked .whole)
+array-write-seen c = omega (arith, code-known (c .before .before .before), loop-of (c .before .before .before) .loop .inv .marked .whole)
 
--- src/lib.rt:434:13
+-- src/lib.rt:459:13
 add-i : tie.Need-add-i Inv-loop μ-loop Inv-lines μ-lines
 add-i c = search needs
 
--- src/lib.rt:434:9
+-- src/lib.rt:459:9
 loop-less : tie.Need-loop-less Inv-loop μ-loop Inv-lines μ-lines
 loop-less c = search needs
 
--- src/lib.rt:434:9
+-- src/lib.rt:459:9
 loop-again : tie.Need-loop-again Inv-loop μ-loop Inv-lines μ-lines
 loop-again c =
-    let d = c .before in
+    let w = c .before in
+    let e = w .before in
+    let d = e .before in
     let f = d .before .before .before in
     let b = loop-of d in
-    let l = lines-of b in
-    let a = l .before .before .before .args in
-    let x = getD (line-of b .numbers) (b .loop .i + 2) zeroValue in
-    let s = d .before .source .given .0 .0 in
-    subst (λ n. AtFanin (a .text .now) (a .start) (a .out) (a .count) (l .lines .gates) (l .lines .g) (line-of b) (set (b .loop .seen) (x .magnitude) true) n (b .loop .answer)
-    (set (b .loop .fanins) (b .loop .i) (record { inverted = x .negative; source = s })) (b .loop .i + 1)) (sym (c .with-leaf .ensures))
-    (fanin-taken (a .text .now) (a .start) (a .out) (a .count) (b .loop .inv) (omega arith) (omega (arith, l .before .before .before .fits)) (f .read-fanin .result) (f .read-fanin .ensures) s
-    (d .before .source .given .1))
+    let a = lines-of b .before .before .before in
+    fanin-taken (a .args .text .now) (a .args .start) (a .args .out) (a .args .count) (b .loop .inv) (omega arith) (omega (arith, a .fits)) (f .read-fanin .result) (f .read-fanin .ensures)
+    (d .before .source .given .0 .0) (d .before .source .given .1) (e .edge-of .result) (e .edge-of .ensures) (w .with-leaf .result) (w .with-leaf .ensures)
 
--- src/lib.rt:450:9
+-- src/lib.rt:473:20
+gate-of-requires : tie.Need-gate-of-requires Inv-loop μ-loop Inv-lines μ-lines
+gate-of-requires c κs = search needs
+
+-- src/lib.rt:473:9
 mul-gates : tie.Need-mul-gates Inv-loop μ-loop Inv-lines μ-lines
 mul-gates c = search needs
 
--- src/lib.rt:450:9
+-- src/lib.rt:473:9
 array-set-from-gates : tie.Need-array-set-from-gates Inv-loop μ-loop Inv-lines μ-lines
 array-set-from-gates c = search needs
 
--- src/lib.rt:425:17
+-- src/lib.rt:450:17
 add-g : tie.Need-add-g Inv-loop μ-loop Inv-lines μ-lines
 add-g c = search needs
 
--- src/lib.rt:425:5
+-- src/lib.rt:450:5
 lines-less : tie.Need-lines-less Inv-loop μ-loop Inv-lines μ-lines
 lines-less c = search needs
 
--- src/lib.rt:425:5
+-- src/lib.rt:450:5
 lines-again : tie.Need-lines-again Inv-loop μ-loop Inv-lines μ-lines
 lines-again c =
-    let a = lines-of (c .before) .before .before .before in
-    gate-taken (a .args .text .now) (a .args .start) (a .args .out) (a .args .count) (c .before .loop .inv) (omega arith) (omega (arith, a .fits))
+    let b = c .before .before in
+    let a = lines-of b .before .before .before in
+    gate-taken (a .args .text .now) (a .args .start) (a .args .out) (a .args .count) (b .loop .inv) (omega arith) (omega (arith, a .fits)) (c .gate-of .result) (c .gate-of .ensures)
 
--- src/lib.rt:417:1
+-- src/lib.rt:441:1
 returns : tie.Need-returns Inv-loop μ-loop Inv-lines μ-lines
 returns c =
     let a = c .before .before .before .before .args in
-    let h = c .before .lines .inv in
-    let seen = h .seen in
-    let head : Head = record { out = a .out; inverted = a .inverted; count = a .count } in
-    let r : Lines = record {
-      answer = c .before .lines .answer;
-      end = c .before .lines .at;
-      sheet = record { out = a .out; inverted = a .inverted; count = a .count; gates = c .before .lines .gates };
-      seen = c .before .lines .seen;
-    } in
-    subst (λ w. Comes w (GatesHeld (a .text .now) head r) (readLeft (a .out) (a .count) 1 nothing (drop (a .start) (a .text .now)))) (sym (h .accepted)) (
-      _,
-      (
-        record { held = refl; count = refl; marked = subst (λ n. Marked (c .before .lines .seen) n seen) (sym (h .marked .count)) (h .marked); rest = refl },
-        lines-over (a .text .now) (a .start) (a .out) (a .count) h (omega arith),
-      ),
+    let l = c .before .lines in
+    let h = l .inv in
+    let r : Lines = record { answer = l .answer; end = l .end; gates = l .gates; seen = l .seen } in
+    subst (λ w. Comes w (GatesHeld (a .text .now) (a .count) r) (readLeft (a .out) (a .count) 1 nothing (drop (a .start) (a .text .now)))) (sym (h .accepted)) (
+      (drawnGates (a .count) (l .gates), h .seen, drop (l .end) (a .text .now)),
+      (record { gates = refl; marked = h .marked .gates; rest = refl; within = h .inside }, lines-over (a .text .now) (a .start) (a .out) (a .count) h (omega arith)),
     )
 
--- src/lib.rt:417:1
+-- src/lib.rt:441:1
 returns-2 : tie.Need-returns-2 Inv-loop μ-loop Inv-lines μ-lines
 returns-2 c =
     let r = c .before .before .before in
@@ -234,6 +232,7 @@ returns-2 c =
     line-refused (a .text .now) (a .start) (a .out) (a .count) (b .lines .inv) (omega arith) (r .read-gate-line .result) (r .read-gate-line .ensures)
     (c .before .fault .given .0 .0) (c .before .fault .given .1)
 
+-- src/lib.rt:441:1
 returns-3 : tie.Need-returns-3 Inv-loop μ-loop Inv-lines μ-lines
 returns-3 c =
     let f = c .before .before .before in
@@ -256,7 +255,7 @@ gate-lines-spec =
     add-gate
     read-gate-line-requires
     enum-known-fault
-    add-t29
+    add-t25
     enum-told
     no-fanins-requires
     cast-i-end
@@ -266,8 +265,9 @@ gate-lines-spec =
     element-copy-out-x
     read-fanin-requires
     enum-known-why
-    add-t41
+    add-t37
     enum-known-source
+    edge-of-requires
     mul-fanins
     array-set-from-fanins
     with-leaf-requires
@@ -276,6 +276,7 @@ gate-lines-spec =
     add-i
     loop-less
     loop-again
+    gate-of-requires
     mul-gates
     array-set-from-gates
     add-g

@@ -5,14 +5,12 @@ use mathlib.Core.Option.{some}
 use mathlib.Core.List.{List}
 use lib.ListN.{length, take, drop}
 use Rattle.sheet.specs.declared.Refusal.{Refusal}
-use Rattle.sheet.specs.declared.Fault.the-variants.{Is}
 use Rattle.sheet.specs.declared.GateLine.{GateLine}
-use Rattle.sheet.specs.Limits.{mostFields}
 use Rattle.sheet.specs.Answers.{numberOf}
 use Rattle.sheet.specs.Line.{line, fields}
 use Rattle.sheet.specs.Step.{good, bad}
 use Rattle.sheet.specs.Read.{gateHeadOf}
-use Rattle.sheet.specs.Inside.{cutAt, gateHeadStep, gateLine, faninNumbers, faultStep, GateLineRead}
+use Rattle.sheet.specs.Inside.{cutAt, gateHeadStep, gateLine, faninNumbers, faultStep, LineRefused, GateLineRead}
 use Rattle.sheet.proofs.GateLaws.{fanins-are, line-missing, line-bad, line-good}
 use borrow.Author.Needs.{needs}
 use Rattle.sheet.proofs.read_gate_line.Statement.{statement}
@@ -38,12 +36,13 @@ head-is : (c : tie.After-read-gate-head) (g : ℕ) → let a = c .before .before
     gateHeadOf g (fields (take (end - a .start) (drop (a .start) (a .text .now)))) ≡ gateHeadStep g (c .before .before .read-fields .result) (c .read-gate-head .result)
 head-is c g = ap (gateHeadOf g) (c .before .before .read-fields .ensures .same) ∙ c .read-gate-head .ensures .step g
 
-refused : (text : List ℕ) (start : ℕ) (l : GateLine) {why : Refusal} → (l .fault ≡ Is why) × (l .count ≡ 0) × (length (l .numbers) ≡ mostFields) →
-    ((g : ℕ) → gateLine g (drop start text) ≡ bad (numberOf why) (suc g)) → GateLineRead text start l
+refused : (text : List ℕ) (start : ℕ) (l : GateLine) {why : Refusal} → LineRefused why l → ((g : ℕ) → gateLine g (drop start text) ≡ bad (numberOf why) (suc g)) →
+    GateLineRead text start l
 refused text start l b h = record {
-  step = λ g. h g ∙ sym (ap (λ w. faultStep g w (l .kind, faninNumbers l, drop (l .end) text)) (b .0));
-  whole = b .2;
-  within = omega arith;
+  step = λ g. h g ∙ sym (ap (λ w. faultStep g w (l .kind, faninNumbers l, drop (l .end) text)) (b .fault));
+  whole = b .whole;
+  within = omega (arith, b .count);
+  ends = omega (arith, b .ends);
 }
 
 -- src/lib.rt:309:27
@@ -129,6 +128,7 @@ returns-3 c =
           (head-is h g ∙ (ap (gateHeadStep g f) (k .1) ∙ ap (λ xs. good (k .0 .0, xs)) (fanins-are f (k .0 .1 .0) (n .0))));
       whole = h .before .before .read-fields .ensures .room .whole;
       within = n .1;
+      ends = omega (arith, within e);
     }
 
 pub read-gate-line-spec : {M : Type 1} → statement M
