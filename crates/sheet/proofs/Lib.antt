@@ -5,3 +5,4 @@ pub mod FieldLaws
 pub mod FaninLaws
 pub mod LinesLaws
 pub mod UnreadLaws
+pub mod SheetLaws

@@ -43,9 +43,11 @@ module _ {flags : List Bool} {count g : ℕ} (p : Passed flags count g) where
     }
 
     pub passed-first : getD flags (gateBase + g) false ≡ false → (read : List ℕ) → Flagged gateBase (mostGates + 1) flags read →
-        readUnread (from 1 (count - 1)) read ≡ bad 13 (suc g)
+        readUnread (from 1 (count - 1)) read ≡ bad 13 (g + 1)
     passed-first e read h =
-        p .same read h ∙ (ap (λ gs. readUnread gs read) one-more ∙ unread-first g (from (g + 1) (count - (g + 1))) read (sym (h g (omega arith)) ∙ e))
+        p .same read h
+        ∙ (ap (λ gs. readUnread gs read) one-more
+        ∙ (unread-first g (from (g + 1) (count - (g + 1))) read (sym (h g (omega arith)) ∙ e) ∙ ap (bad 13) (sym (add-one g))))
 
   pub passed-all : count ≤ g → (read : List ℕ) → Flagged gateBase (mostGates + 1) flags read → readUnread (from 1 (count - 1)) read ≡ good tt
   passed-all l read h = p .same read h ∙ ap (λ n. readUnread (from g n) read) (let q : count - g ≡ 0 = omega arith in q)

@@ -1,9 +1,10 @@
 -- What the functions inside answer. Definitions only.
 use Prim.Native.Nat.{ℕ, suc, _+_, _-_, _≤_, _<_}
 use mathlib.Core.Path.{_≡_}
-use mathlib.Core.Bool.{Bool, true, false, not, cond, _||_}
+use mathlib.Core.Bool.{Bool, true, false, not, cond, _&&_, _||_}
 use mathlib.Core.Option.{Option, none, some}
 use mathlib.Core.List.{List, [], _∷_, _++_, map}
+use lib.Dec.{ltb}
 use lib.ListN.{length, getD, take, drop}
 use Rattle.tree.specs.declared.Kind.{Kind}
 use Rattle.tree.specs.Limits.{greatestNet}
@@ -30,6 +31,7 @@ use Rattle.sheet.specs.declared.Fault.the-variants.{Nothing, Is as IsFau
 use Rattle.sheet.specs.declared.GateLine.{GateLine}
 use Rattle.sheet.specs.declared.Lines.{Lines}
 use Rattle.sheet.specs.declared.Unread.{Unread}
+use Rattle.sheet.specs.declared.Next.{Next}
 use Rattle.sheet.specs.declared.Unread.the-variants.{First, Nowhere}
 use Rattle.sheet.specs.Sheet.{DrawnGate, DrawnSheet, netOf, from}
 use Rattle.sheet.specs.Limits.{gateBase, mostFields, mostGates, mostFanins, mostLeaves}
@@ -37,6 +39,7 @@ use Rattle.sheet.specs.Line.{line, fields}
 use Rattle.sheet.specs.Step.{Step, good, bad, _>>=_, require, given}
 use Rattle.sheet.specs.Read.{empty, Head as LineOne, readHead, gateHeadOf, member, Seen, nothing, sourceOf, readFanin, readLeft, readUnread}
 use Rattle.sheet.specs.Answers.{numberOf, drawnGates}
+use Rattle.sheet.specs.Promise.{NextRead}
 
 -- ---- where a line ends
 
@@ -176,19 +179,33 @@ GatesRead text start out count l = Comes (l .answer) (GatesHeld text count l) (r
 
 abbrev pub unreadStep : Unread → Step (Unit {0})
 unreadStep Nowhere = good tt
-unreadStep (First g) = bad 13 (suc g)
+unreadStep (First line) = bad 13 line
 
 abbrev pub UnreadFound : List Bool → ℕ → Unread → Type 0
 UnreadFound flags count r = (read : List ℕ) → Flagged gateBase (mostGates + 1) flags read → readUnread (from 1 (count - 1)) read ≡ unreadStep r
 
 -- ---- a sheet
 
+-- bytes follow the last line, where none may
+abbrev pub more : (last : Bool) (end size : ℕ) → Bool
+more last end size = last && ltb end size
+
+-- what comes after the gates
+abbrev pub readEnd : (last : Bool) → LineOne → List DrawnGate × Seen × List ℕ → Step (DrawnSheet × List ℕ)
+readEnd last head (gates, seen, rest) = do
+  _ ← require (not last || empty rest) 1 (head .count + 2)
+  _ ← readUnread (from 1 (head .count - 1)) (seen .gates)
+  good (record { out = head .out; inverted = head .inverted; gates = gates }, rest)
+
 -- a sheet off the front of a text, after which bytes may follow unless it is the last
 abbrev pub readFront : (last : Bool) → List ℕ → Step (DrawnSheet × List ℕ)
 readFront last text = do
   (bytes, rest) ← given (line text) 1 1
   head ← readHead bytes
-  (gates, seen, rest₁) ← readLeft (head .out) (head .count) 1 nothing rest
-  _ ← require (not last || empty rest₁) 1 (head .count + 2)
-  _ ← readUnread (from 1 (head .count - 1)) (seen .gates)
-  good (record { out = head .out; inverted = head .inverted; gates = gates }, rest₁)
+  gates ← readLeft (head .out) (head .count) 1 nothing rest
+  readEnd last head gates
+
+-- of the lines of the gates
+abbrev pub EndRead : List ℕ → Lines → LineOne → Bool → Next → Type 0
+EndRead text l head last r =
+    (m : Step (List DrawnGate × Seen × List ℕ)) → Comes (l .answer) (GatesHeld text (head .count) l) m → NextRead text (m >>= readEnd last head) r

@@ -5,6 +5,7 @@ pub mod Step
 pub mod Read
 pub mod Cut
 pub mod Answers
+pub mod Promise
 pub mod Inside
 pub mod Trees
 pub mod Formed

@@ -2,12 +2,14 @@
 ghost use mathlib.Core.Path.{_≡_};
 ghost use mathlib.Core.Bool.{false};
 ghost use Prim.Native.Nat.{_+_, _≤_};
-ghost use lib.ListN.{length};
+ghost use lib.ListN.{length, drop};
 ghost use Rattle.sheet.specs.Read.{within, counts, headOf, kindOf, sourceOf};
-ghost use Rattle.sheet.specs.Answers.{noFanins, noGates};
+ghost use Rattle.sheet.specs.Cut.{readNext};
+ghost use Rattle.sheet.specs.Promise.{SheetRead, NextRead};
+ghost use Rattle.sheet.specs.Answers.{noFanins, noGates, noSheet};
 ghost use Rattle.sheet.specs.Limits.{mostGates, mostLeaves};
 ghost use Rattle.sheet.specs.Sheet.{netOf};
-ghost use Rattle.sheet.specs.Inside.{LineEnds, valueOf, fieldsOf, Room, FieldsRead, headStep, kindStep, GateHeadRead, LineRefused, GateLineRead, sourceStep, FaninRead, GatesRead, UnreadFound};
+ghost use Rattle.sheet.specs.Inside.{LineEnds, valueOf, fieldsOf, Room, FieldsRead, headStep, kindStep, GateHeadRead, LineRefused, GateLineRead, sourceStep, FaninRead, GatesRead, UnreadFound, more, EndRead, readFront};
 use tree::Kind;
 
 // The most gates of a sheet, and the fewest and the most fanins of a gate.
@@ -79,6 +81,13 @@ pub enum Answer {
 // What comes of a text. The sheet of a refused text is zero.
 pub struct Reading {
     pub answer: Answer,
+    pub sheet: Sheet,
+}
+
+// What comes of a text from a place on, and the place after the sheet. The sheet of a refused text is zero, and so is the place.
+pub struct Next {
+    pub answer: Answer,
+    pub end: usize,
     pub sheet: Sheet,
 }
 
@@ -481,7 +490,7 @@ fn gate_lines(text: &[u8], start: usize, out: u16, count: u8) -> Lines
     }
 }
 
-// The first gate that is never read, the root left aside.
+// The line of the first gate that is never read, the root left aside.
 enum Unread {
     First(u16),
     Nowhere,
@@ -493,8 +502,98 @@ fn first_unread(seen: &[bool; CODES], count: u8) -> Unread
     let base = tree::CODE_BASE as usize;
     for g in 1..count as usize {
         if !seen[base + g] {
-            return Unread::First(g as u16);
+            return Unread::First(g as u16 + 1);
         }
     }
     Unread::Nowhere
+}
+
+fn refused(why: Refusal, line: u16) -> Next
+    ensures { λ r. ⌜ r ≡ record { answer = Answer.Refused why line; end = 0; sheet = noSheet } ⌝ }
+{
+    let gates = no_gates();
+    let sheet = Sheet {
+        out: 0,
+        inverted: false,
+        count: 0,
+        gates,
+    };
+    Next {
+        answer: Answer::Refused(why, line),
+        end: 0,
+        sheet,
+    }
+}
+
+// Whether bytes follow the last line, where none may.
+fn more(last: bool, end: usize, size: usize) -> bool
+    ensures { λ r. ⌜ r ≡ more last end size ⌝ }
+{
+    if last {
+        return end < size;
+    }
+    false
+}
+
+// What comes after the gates: bytes beyond the last line, and gates that are never read.
+fn read_end(text: &[u8], l: Lines, out: u16, inverted: bool, count: u8, last: bool) -> Next
+    ensures { λ r. ⌜ EndRead (now (text .entry)) l (record { out = out; inverted = inverted; count = count }) last r ⌝ }
+{
+    let answer = l.answer;
+    if let Answer::Refused(why, line) = answer {
+        return refused(why, line);
+    }
+    if more(last, l.end, text.len()) {
+        return refused(Refusal::Layout, count as u16 + 2);
+    }
+    let seen = l.seen;
+    if let Unread::First(line) = first_unread(&seen, count) {
+        return refused(Refusal::GateUnread, line);
+    }
+    let gates = l.gates;
+    let sheet = Sheet {
+        out,
+        inverted,
+        count,
+        gates,
+    };
+    Next {
+        answer: Answer::Accepted,
+        end: l.end,
+        sheet,
+    }
+}
+
+// A sheet from a place on, after which bytes may follow unless it is the last.
+fn read_front(text: &[u8], start: usize, last: bool) -> Next
+    ensures { λ r. ⌜ NextRead (now (text .entry)) (readFront last (drop start (now (text .entry)))) r ⌝ }
+{
+    let Ending::At(end) = line_end(text, start) else {
+        return refused(Refusal::Layout, 1);
+    };
+    let f = read_fields(&text[start..end]);
+    match read_head(f) {
+        Head::Bad(why) => refused(why, 1),
+        Head::Good(out, inverted, count) => {
+            let l = gate_lines(text, end + 1, out, count);
+            read_end(text, l, out, inverted, count, last)
+        }
+    }
+}
+
+// The sheet that a text is.
+pub fn read(text: &[u8]) -> Reading
+    ensures { λ r. ⌜ SheetRead (now (text .entry)) r ⌝ }
+{
+    let next = read_front(text, 0, true);
+    let answer = next.answer;
+    let sheet = next.sheet;
+    Reading { answer, sheet }
+}
+
+// The sheet at a place of a text, and the place after it, from which the text may go on.
+pub fn read_next(text: &[u8], start: usize) -> Next
+    ensures { λ r. ⌜ NextRead (now (text .entry)) (readNext (drop start (now (text .entry)))) r ⌝ }
+{
+    read_front(text, start, false)
 }

@@ -34,6 +34,9 @@ element-copy-out-if1 c = search needs
 cast-t11 : tie.Need-cast-t11 Inv-loop μ-loop
 cast-t11 c = search needs
 
+add-t12 : tie.Need-add-t12 Inv-loop μ-loop
+add-t12 c = search needs
+
 -- src/lib.rt:496:13
 returns : tie.Need-returns Inv-loop μ-loop
 returns c =
@@ -69,6 +72,7 @@ first-unread-spec =
     add-if1
     element-copy-out-if1
     cast-t11
+    add-t12
     returns
     add-g
     loop-less

@@ -1,0 +1,29 @@
+use mathlib.Core.Path.{sym, ap, _∙_}
+use lib.ListN.{drop}
+use Rattle.sheet.specs.Step.{_>>=_}
+use Rattle.sheet.specs.Read.{reading}
+use Rattle.sheet.specs.Answers.{drawnSheet}
+use Rattle.sheet.proofs.SheetLaws.{alone, front-all, reading-alone}
+use borrow.Author.Needs.{needs}
+use Rattle.sheet.proofs.read.Statement.{statement}
+use Rattle.sheet.proofs.read.Tie as tie
+use Rattle.sheet.proofs.read.Reads as reads
+use Rattle.sheet.proofs.read.Lts as lts
+use Rattle.sheet.proofs.read_front.Reads as read-front-reads
+
+-- src/lib.rt:588:9
+read-front-requires : tie.Need-read-front-requires
+read-front-requires c κs = search needs
+
+-- src/lib.rt:585:1
+returns : tie.Need-returns
+returns c =
+    let text = c .before .before .before .args .text .now in
+    let n = c .before .read-front in
+    record {
+      same = sym (ap reading (front-all text ∙ ap (λ m. m >>= alone) (n .ensures .same)) ∙ reading-alone (n .result .answer) (drawnSheet (n .result .sheet)) (drop (n .result .end) text));
+      none = λ why line e. n .ensures .none why line e .0;
+    }
+
+pub read-spec : {M : Type 1} → statement M
+read-spec = tie.close (tie.spec read-front-requires returns)
