@@ -1,5 +1,5 @@
 -- Laws of the steps of a merge: what each loop adds in a turn, and what the whole makes.
-use Prim.Native.Nat.{ℕ, zero, suc, _+_, _-_, _*_, _%_, _^_, _≤_, _<_}
+use Prim.Native.Nat.{ℕ, zero, suc, _+_, _-_, _*_, _/_, _%_, _^_, _≤_, _<_}
 use native.Mathlib.Nat.{add-zero}
 use native.Mathlib.Numerals.{add-one}
 use native.Mathlib.Omega.{arith}
@@ -9,7 +9,7 @@ use mathlib.Core.Bool.{Bool, true, false, not, cond}
 use mathlib.Core.List.{List, [], _∷_, _++_, map, map-append, map-map}
 use lib.Dec.{eqb}
 use lib.ListN.{length, getD, take, drop, set, replicate, length-append, length-map, length-set, length-take, length-replicate}
-use lib.Pow.{pow-mono, shl-exact}
+use lib.Pow.{pow-pos, pow-mono, shl-exact, ones-split, high, ones-lt}
 use lib.Seq.{slice-cons, slice-empty, length-slice, take-all, length-take-le, getD-take, getD-drop, take-suc, take-suc-set, drop-drop, drop-at, drop-set-lt, append-snoc, set-split, take-at, slice}
 use Rattle.lists.specs.Cases.{by-eqb, if-leb}
 use Rattle.lists.specs.Lists.{_∈_, Every, Sorted, insert, sorted}
@@ -18,15 +18,15 @@ use Rattle.lists.specs.NumberLaws.{insert-inserted, insert-first, sorted-permut
 use Rattle.tree.specs.declared.Kind.{Kind}
 use Rattle.tree.specs.Tree.{turned, meet}
 use Rattle.cover.specs.Bits.{bit, digit, truthOf, index, place}
-use Rattle.cover.specs.Tables.{output}
-use Rattle.cover.specs.BitLaws.{index-lt, truthOf-lt}
+use Rattle.cover.specs.Tables.{output, tabled}
+use Rattle.cover.specs.BitLaws.{bit-truthOf, truthOf-lt, truthOf-only, index-lt}
 use Rattle.table.specs.Limits.{inputRoom}
 use Rattle.table.specs.declared.Table.{Table}
 use Rattle.table.specs.Records.{reads, tableOf, recordOf}
 use Rattle.mapper.specs.declared.Pending.{Pending}
 use Rattle.mapper.specs.Run.{merged}
 use Rattle.mapper.specs.Pendings.{operandOf, Mergeable}
-use Rattle.mapper.specs.Merging.{padded, placesOf, indexAt, valueAt, gateAt, truthFrom, Room, Ordered, Places}
+use Rattle.mapper.specs.Merging.{padded, placesOf, indexAt, valueAt, gateAt, truthFrom, Room, Ordered, Places, Tabled, invertedOf}
 
 -- ---- a part of a list
 
@@ -268,8 +268,11 @@ module _ (cs : List ℕ) (n : ℕ) (r : Room n cs) (xs : List ℕ) (m : ℕ) (o 
 pub ordered-right : {x y : Pending} → Mergeable x y → Ordered (y .table .count) (y .table .inputs)
 ordered-right m = record { fits = m .kept .fits; zeros = ap (λ r. r .inputs) (m .kept .padded); sorted = m .sorted }
 
-pub rows-are : (n : ℕ) → n ≤ inputRoom → 1 * 2 ^ n % 2 ^ 64 ≡ 2 ^ n
+rows-are : (n : ℕ) → n ≤ inputRoom → 1 * 2 ^ n % 2 ^ 64 ≡ 2 ^ n
 rows-are n l = shl-exact {a = 1} 1 n 64 (omega arith) (omega arith) ∙ omega arith
+
+pub rows-some : (n : ℕ) → n ≤ inputRoom → 0 < 1 * 2 ^ n % 2 ^ 64
+rows-some n l = rw (rows-are n l) (pow-pos n)
 
 pub rows-low : (n : ℕ) → n ≤ inputRoom → 1 * 2 ^ n % 2 ^ 64 ≤ 64
 rows-low n l = rw (rows-are n l) (pow-mono {i = n} {j = 6} l)
@@ -322,3 +325,40 @@ module _ (x y : Pending) (m : Mergeable x y) (shape : length (x .table .inputs) 
       truth-is =
           e ∙ ap (truthOf (gateAt k x ps y qs)) (rows-are (count x y) (m .fits))
           ∙ (λ j. truthOf (λ row. meet k (left row j) (right row j)) (2 ^ sym codes-count j))
+
+-- ---- the table of the other value
+
+-- a one for each row
+pub ones-are : (n : ℕ) → n ≤ inputRoom → (2 ^ 64 - 1) / 2 ^ (64 - 1 * 2 ^ n % 2 ^ 64) ≡ 2 ^ 2 ^ n - 1
+ones-are n l =
+    ap (λ m. (2 ^ 64 - 1) / 2 ^ (64 - m)) (rows-are n l) ∙ ap (λ m. (2 ^ m - 1) / 2 ^ (64 - 2 ^ n)) all
+    ∙ ap (λ m. m / 2 ^ (64 - 2 ^ n)) (ones-split (2 ^ n) (64 - 2 ^ n)) ∙ high (2 ^ 2 ^ n - 1) (64 - 2 ^ n) (ones-lt (64 - 2 ^ n))
+  where
+    all : 64 ≡ 2 ^ n + (64 - 2 ^ n)
+    all = omega (arith, pow-mono {i = n} {j = 6} l)
+
+-- a number of n bits taken from them
+pub complement : (n t : ℕ) → t < 2 ^ n → truthOf (λ i. not (bit t i)) n ≡ 2 ^ n - 1 - t
+complement zero t h = omega arith
+complement (suc n) t h =
+    ap (digit (not (bit t 0))) (complement n (t / 2) (omega arith))
+    ∙ by-eqb (λ b. digit (not b) (2 ^ n - 1 - t / 2) ≡ 2 ^ suc n - 1 - t) (t % 2) 1 (λ e. omega arith) (λ e. omega arith)
+
+module _ (n : ℕ) (xs : List ℕ) (f : (ℕ → Bool) → Bool) where
+  pub tabled-record : length xs ≤ inputRoom → Tabled (recordOf (tabled n xs f))
+  tabled-record l = record { fits = l; small = truthOf-lt (λ i. f (λ c. bit i (place c xs))) (2 ^ length xs) }
+
+  -- its value is turned over
+  pub tabled-inverted : invertedOf (recordOf (tabled n xs f)) ≡ recordOf (tabled n xs (λ e. turned true (f e)))
+  tabled-inverted = λ j. record { net = n; count = length xs; inputs = padded xs; truth = turned-over j }
+    where
+      rows : ℕ
+      rows = 2 ^ length xs
+
+      value : ℕ → Bool
+      value i = f (λ c. bit i (place c xs))
+
+      turned-over : truthOf (λ i. not (bit (truthOf value rows) i)) rows ≡ truthOf (λ i. turned true (value i)) rows
+      turned-over =
+          truthOf-only (λ i. not (bit (truthOf value rows) i)) rows (truthOf (λ i. turned true (value i)) rows) (truthOf-lt (λ i. turned true (value i)) rows)
+          (λ i l. bit-truthOf (λ i. turned true (value i)) rows i l ∙ turned-not (value i) ∙ ap not (sym (bit-truthOf value rows i l)))

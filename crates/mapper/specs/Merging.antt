@@ -1,13 +1,14 @@
 -- What the steps of a merge compute. Definitions only: the laws are in MergeLaws.
-use Prim.Native.Nat.{ℕ, _+_, _-_, _≤_}
+use Prim.Native.Nat.{ℕ, _+_, _-_, _^_, _≤_, _<_}
 use mathlib.Core.Path.{_≡_}
-use mathlib.Core.Bool.{Bool}
+use mathlib.Core.Bool.{Bool, not}
 use mathlib.Core.List.{List, _++_, map}
 use lib.ListN.{length, take, replicate}
 use Rattle.lists.specs.Lists.{Every, Sorted}
 use Rattle.tree.specs.declared.Kind.{Kind}
 use Rattle.tree.specs.Tree.{turned, meet}
 use Rattle.cover.specs.Bits.{bit, index, place, truthOf}
+use Rattle.table.specs.declared.Table.{Table}
 use Rattle.table.specs.Limits.{inputRoom}
 use Rattle.mapper.specs.declared.Pending.{Pending}
 
@@ -50,3 +51,12 @@ pub record Ordered (n : ℕ) (xs : List ℕ) : Type 0 where
 pub record Places (n : ℕ) (ps : List ℕ) : Type 0 where
   pub room : Room n ps
   pub low : Every (λ p. p ≤ inputRoom) (take n ps)
+
+-- a truth table of a record's inputs, of which there is room
+pub record Tabled (t : Table) : Type 0 where
+  pub fits : t .count ≤ inputRoom
+  pub small : t .truth < 2 ^ 2 ^ t .count
+
+-- the table of the other value
+abbrev pub invertedOf : Table → Table
+invertedOf t = record { net = t .net; count = t .count; inputs = t .inputs; truth = truthOf (λ i. not (bit (t .truth) i)) (2 ^ t .count) }

@@ -9,7 +9,7 @@ ghost use Rattle.cover.specs.Bits.{bit as bitOf, digit as digitOf, place as pla
 ghost use Rattle.table.specs.Records.{recordOf};
 ghost use Rattle.mapper.specs.Run.{single as singleOf, merged};
 ghost use Rattle.mapper.specs.Pendings.{operandOf, Mergeable};
-ghost use Rattle.mapper.specs.Merging.{padded, placesOf, indexAt, valueAt, gateAt, Room, Ordered, Places};
+ghost use Rattle.mapper.specs.Merging.{padded, placesOf, indexAt, valueAt, gateAt, Room, Ordered, Places, Tabled, invertedOf};
 use crate::Pending;
 use table::Table;
 use tree::Kind;
@@ -183,4 +183,15 @@ pub fn merge(kind: Kind, x: Pending, y: Pending) -> Table
         inputs,
         truth: truth(kind, 1u64 << count, x, &x_places, y, &y_places),
     }
+}
+
+// The table of the other value: each bit of the truth table turned over.
+pub fn inverted(mut t: Table) -> Table
+    requires { ⌜ Tabled t ⌝ }
+    ensures { λ r. ⌜ r ≡ invertedOf t ⌝ }
+{
+    let rows = 1u64 << t.count;
+    let ones = u64::MAX >> (64 - rows);
+    t.truth = ones - t.truth;
+    t
 }
