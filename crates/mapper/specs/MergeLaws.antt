@@ -7,12 +7,11 @@ use mathlib.Core.Path.{_≡_, refl, sym, ap, ap₂, _∙_, subst}
 use mathlib.Core.Logic.{_≢_}
 use mathlib.Core.Bool.{Bool, true, false, not, cond}
 use mathlib.Core.List.{List, [], _∷_, _++_, map, map-append, map-map}
-use lib.Dec.{eqb}
 use lib.ListN.{length, getD, take, drop, set, replicate, length-append, length-map, length-set, length-take, length-replicate}
 use lib.Pow.{pow-pos, pow-mono, shl-exact, ones-split, high, ones-lt}
-use lib.Seq.{slice-cons, slice-empty, length-slice, take-all, length-take-le, getD-take, getD-drop, take-suc, take-suc-set, drop-drop, drop-at, drop-set-lt, append-snoc, set-split, take-at, slice}
+use lib.Seq.{slice, slice-cons, slice-empty, length-slice, length-take-le, getD-take, getD-drop, take-suc, take-suc-set, drop-drop, drop-at, drop-set-lt, append-snoc, set-split, take-at}
 use Rattle.lists.specs.Cases.{by-eqb, if-leb}
-use Rattle.lists.specs.Lists.{_∈_, Every, Sorted, insert, sorted}
+use Rattle.lists.specs.Lists.{Every, Sorted, insert, sorted}
 use Rattle.lists.specs.ListLaws.{every-none, every-cons, every-at, inserted-length, permuted-refl, permuted-length}
 use Rattle.lists.specs.NumberLaws.{insert-inserted, insert-first, sorted-permuted, sorted-sorted, sorted-only}
 use Rattle.tree.specs.declared.Kind.{Kind}
@@ -49,7 +48,7 @@ place-later c i n xs l m e =
     ap (place c) (slice-cons i n xs 0 l m)
     ∙ by-eqb (λ b. cond b 0 (suc (place c (slice (suc i) n xs))) ≡ suc (place c (slice (suc i) n xs))) c (getD xs i 0) (λ q. absurd (e (sym q))) (λ q. refl)
 
-pub place-le : (c : ℕ) (xs : List ℕ) → place c xs ≤ length xs
+place-le : (c : ℕ) (xs : List ℕ) → place c xs ≤ length xs
 place-le c [] = omega arith
 place-le c (x ∷ xs) = by-eqb (λ b. cond b 0 (suc (place c xs)) ≤ suc (length xs)) c x (λ q. omega arith) (λ q. omega (arith, place-le c xs))
 

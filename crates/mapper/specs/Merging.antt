@@ -52,7 +52,7 @@ pub record Places (n : ℕ) (ps : List ℕ) : Type 0 where
   pub room : Room n ps
   pub low : Every (λ p. p ≤ inputRoom) (take n ps)
 
--- a truth table of a record's inputs, of which there is room
+-- a record of no more inputs than there is room for, with a bit for each of their rows
 pub record Tabled (t : Table) : Type 0 where
   pub fits : t .count ≤ inputRoom
   pub small : t .truth < 2 ^ 2 ^ t .count

@@ -1,7 +1,7 @@
-// The tables of a plan's run: that of one code, and that of a gate of two fanins.
+// The tables of a plan's run: that of one code, that of a gate of two fanins, and that of the other value.
 ghost use mathlib.Core.Path.{_≡_};
 ghost use Prim.Native.Nat.{_+_, _^_, _<_, _≤_};
-ghost use lib.ListN.{take, drop};
+ghost use lib.ListN.{take};
 ghost use mathlib.Core.List.{_++_};
 ghost use Rattle.lists.specs.Lists.{insert as insertOf, sorted};
 ghost use Rattle.tree.specs.Tree.{meet as meetOf};
@@ -24,6 +24,40 @@ pub fn single(code: u16) -> Table
         inputs: [code, 0, 0, 0, 0, 0],
         truth: 2,
     }
+}
+
+// The table of a gate of two fanins.
+pub fn merge(kind: Kind, x: Pending, y: Pending) -> Table
+    requires { ⌜ Mergeable x y ⌝ }
+    ensures { λ r. ⌜ r ≡ recordOf (merged kind (operandOf x) (operandOf y)) ⌝ }
+{
+    let a = x.table;
+    let b = y.table;
+    let n = a.count as usize;
+    let m = b.count as usize;
+    let codes = a.inputs;
+    let others = b.inputs;
+    let inputs = union(&codes, n, others, m);
+    let count = n + m;
+    let x_places = places(&codes, n, &inputs, count);
+    let y_places = places(&others, m, &inputs, count);
+    Table {
+        net: 0,
+        count: count as u8,
+        inputs,
+        truth: truth(kind, 1u64 << count, x, &x_places, y, &y_places),
+    }
+}
+
+// The table of the other value: each bit of the truth table turned over.
+pub fn inverted(mut t: Table) -> Table
+    requires { ⌜ Tabled t ⌝ }
+    ensures { λ r. ⌜ r ≡ invertedOf t ⌝ }
+{
+    let rows = 1u64 << t.count;
+    let ones = u64::MAX >> (64 - rows);
+    t.truth = ones - t.truth;
+    t
 }
 
 // Bit i of n.
@@ -160,38 +194,4 @@ fn union(codes: &[u16; 6], n: usize, inputs: [u16; 6], count: usize) -> [u16; 6]
         size += 1;
     }
     out
-}
-
-// The table of a gate of two fanins.
-pub fn merge(kind: Kind, x: Pending, y: Pending) -> Table
-    requires { ⌜ Mergeable x y ⌝ }
-    ensures { λ r. ⌜ r ≡ recordOf (merged kind (operandOf x) (operandOf y)) ⌝ }
-{
-    let a = x.table;
-    let b = y.table;
-    let n = a.count as usize;
-    let m = b.count as usize;
-    let codes = a.inputs;
-    let others = b.inputs;
-    let inputs = union(&codes, n, others, m);
-    let count = n + m;
-    let x_places = places(&codes, n, &inputs, count);
-    let y_places = places(&others, m, &inputs, count);
-    Table {
-        net: 0,
-        count: count as u8,
-        inputs,
-        truth: truth(kind, 1u64 << count, x, &x_places, y, &y_places),
-    }
-}
-
-// The table of the other value: each bit of the truth table turned over.
-pub fn inverted(mut t: Table) -> Table
-    requires { ⌜ Tabled t ⌝ }
-    ensures { λ r. ⌜ r ≡ invertedOf t ⌝ }
-{
-    let rows = 1u64 << t.count;
-    let ones = u64::MAX >> (64 - rows);
-    t.truth = ones - t.truth;
-    t
 }

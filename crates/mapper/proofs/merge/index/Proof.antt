@@ -1,6 +1,6 @@
 -- `mapper::merge::index` meets its contract. The invariant: the number is the index that the row's bits at the places from i on make.
 -- The measure is i. Assumes nothing.
-use Prim.Native.Nat.{_-_, _≤_, _<_}
+use Prim.Native.Nat.{_-_, _≤_}
 use native.Mathlib.Omega.{arith}
 use mathlib.Core.Path.{_≡_, refl, sym, ap, ap₂, _∙_}
 use lib.Seq.{slice}
