@@ -65,6 +65,7 @@ module _ {K : ℕ} {ks : List Key} (good : Good K ks) {n : ℕ} (size : n ≡ 2 
           least = subst (LeastReach K ks) k l;
           planned = subst (λ ts. Planned K ks (upto (length ks)) ts (r .key)) (sym (x .is)) (subst (Planned K ks (upto (length ks)) (x .added)) k q);
           len = omega (arith, x .len, planned-length q, upto-length (length ks));
+          size = x .size;
         }
 
 -- what the test tells of the keys

@@ -19,7 +19,7 @@ use Rattle.cover.specs.declared.Key.{Key}
 use Rattle.cover.specs.declared.Token.{Token}
 use Rattle.cover.specs.declared.Token.the-variants.{Push as push, Join as join}
 use Rattle.cover.specs.declared.Plan.{Plan}
-use Rattle.cover.specs.Limits.{mostSteps}
+use Rattle.cover.specs.Limits.{mostFanins, mostSteps}
 use Rattle.cover.specs.Key.{leaf-key, cuts, Way}
 use Rattle.cover.specs.KeyLaws.{join-way}
 use Rattle.cover.specs.Masks.{select, Within}
@@ -29,6 +29,10 @@ use Rattle.cover.specs.PlanBounds.{planned-length}
 use Rattle.cover.specs.Entries.{entry, JoinableAt, Entered, Entries, OneBit}
 use Rattle.cover.specs.EntryLaws.{entries-small}
 use Rattle.cover.specs.Steps.{tokens, stepped, joinToken, Took, Writable, Written, Writes}
+
+-- how many of the at most ten fanins a mask has
+abbrev pub fanins : ℕ → ℕ
+fanins s = length (select s (upto mostFanins))
 
 -- the fanins of a mask are those of a submask and of the rest
 parts-length : {A : Type 0} (xs : List A) (u s : ℕ) → Within u s →
@@ -110,6 +114,17 @@ module _ {K : ℕ} {bs ws us : List ℕ} {s : ℕ} {p : Plan} (w : Writable K bs
 
     pub part : Within u s × (u < s) × (0 < u)
     part = let a = own (w .entries) .apart some in (a .0, a .1, some)
+
+    -- each part has fewer fanins than the mask
+    pub fewer : (fanins (s - u) < fanins s) × (fanins u < fanins s)
+    fewer =
+        let p = part in
+        let l = p .1 in
+        let h = w .place in
+        let e = parts-length (upto mostFanins) u s (p .0) in
+        let a = select-some (upto mostFanins) (s - u) 0 (omega arith) (omega arith) in
+        let b = select-some (upto mostFanins) u 0 (p .2) (omega arith) in
+        (omega arith, omega arith)
 
     -- the fanins of the two parts
     bits : (x : ℕ) → ℕ

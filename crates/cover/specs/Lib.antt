@@ -28,6 +28,7 @@ pub mod PlanBounds
 pub mod Steps
 pub mod PlanOf
 pub mod PlanOfLaws
+pub mod PlanChecks
 pub mod Search
 pub mod BitLaws
 pub mod Eval
@@ -40,6 +41,6 @@ pub mod Added
 pub mod AddedTables
 pub mod AddedLaws
 pub mod HistoryLaws
-pub mod Panels
-pub mod PanelsRight
+pub mod Worked
+pub mod WorkedRight
 pub mod Example

@@ -35,6 +35,7 @@ pub record Answer (K : ℕ) (ks : List Key) (r : Plan) : Type 0 where
   pub least : LeastReach K ks (r .key)
   pub planned : Planned K ks (upto (length ks)) (tokens r) (r .key)
   pub len : r .len + 1 ≡ 2 * length ks
+  pub size : length (r .steps) ≡ mostSteps
 
 -- the promise: input that is not good is answered by zeros
 abbrev pub PlanOf : ℕ → ℕ → List Key → Plan → Type 0

@@ -1,4 +1,5 @@
-// Covers of a tree of gates by lookup tables, and the least number of tables.
+// Covers of a tree of gates by lookup tables, and the least number of tables: the search for one gate, over the sets of its
+// fanins as bit masks, and the plan that it finds.
 ghost use mathlib.Core.Path.{_≡_};
 ghost use mathlib.Core.Bool.{true, false};
 ghost use Prim.Native.Nat.{min, _≤_, _<_, _^_};
@@ -181,6 +182,7 @@ fn fill(
     requires { ⌜ Fillable k count keys (now below) (now width) (now split) ⌝ }
     ensures { λ r. ⌜ (r ≡ 2 ^ count) × Entries k (take count keys) (now (below .exit)) (now (width .exit)) (now (split .exit)) r ⌝ }
 {
+    // h fanins have come: next is the bit of the one to come, and top the highest bit of a mask below it
     let mut h: usize = 0;
     let mut top: usize = 0;
     let mut next: usize = 1;

@@ -1,6 +1,7 @@
--- `cover::with_steps`, which calls itself for the two parts of a mask, meets its contract. The measure is the mask. Assumes nothing.
+-- `cover::with_steps`, which calls itself for the two parts of a mask, meets its contract. The measure is how
+-- many fanins the mask has, so it is at most ten calls deep. Assumes nothing.
 use native.Mathlib.Omega.{arith}
-use Rattle.cover.proofs.Writing.{split-most, one-able, one-writes, part, first-writable, second-writable, join-able, join-writes}
+use Rattle.cover.proofs.Writing.{fanins, split-most, one-able, one-writes, part, fewer, first-writable, second-writable, join-able, join-writes}
 use Prim.Native.Nat.{ℕ, _<_}
 use borrow.Fn.Kinds.{In, Out}
 use borrow.Fn.PlainCycle.{Measures, is, falls, and}
@@ -15,7 +16,7 @@ use Rattle.cover.proofs.+with_steps.{statement}
 use Rattle.cover.proofs.+with_steps.Tie.{close}
 
 abbrev μ-with-steps : Measures 1 with-steps-kinds.ps ℕ
-μ-with-steps κs a = a .1 .0
+μ-with-steps κs a = fanins (a .1 .0)
 
 abbrev with-steps-at : ℕ → In 1 with-steps-kinds.ps
 with-steps-at t =
@@ -53,13 +54,13 @@ with-steps-sub-rest t c = omega (arith, part (c .before .before .pre .1) (c .if1
 with-steps-with-steps-requires : (t : ℕ) → with-steps-lts.Need-with-steps-requires (calls t) (with-steps-at t) with-steps.Post
 with-steps-with-steps-requires t c κs =
     let w = c .before .before .pre in
-    (omega (arith, w .0, part (w .1) (c .if1 .left)), first-writable (w .1) (c .if1 .left))
+    (omega (arith, w .0, fewer (w .1) (c .if1 .left)), first-writable (w .1) (c .if1 .left))
 
 with-steps-with-steps-requires-2 : (t : ℕ) → with-steps-lts.Need-with-steps-requires-2 (calls t) (with-steps-at t) with-steps.Post
 with-steps-with-steps-requires-2 t c κs =
     let w = c .before .before .before .pre in
     let n = c .before .if1 .left in
-    (omega (arith, w .0, part (w .1) n), second-writable (w .1) n (c .with-steps .ensures))
+    (omega (arith, w .0, fewer (w .1) n), second-writable (w .1) n (c .with-steps .ensures))
 
 with-steps-with-join-requires : (t : ℕ) → with-steps-lts.Need-with-join-requires (calls t) (with-steps-at t) with-steps.Post
 with-steps-with-join-requires t c κs =

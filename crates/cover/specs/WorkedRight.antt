@@ -1,5 +1,5 @@
--- Every panel is right: one computed test over the whole table of rows, by the computed best key and the table of the whole
--- tree.
+-- Every worked example is right: one computed test over the whole table of rows, by the computed best key and the table of the
+-- whole tree.
 use Prim.Native.Nat.{ℕ, _≤_}
 use mathlib.Core.Path.{_≡_, _∙_}
 use mathlib.Core.Bool.{Bool, true, false, _&&_}
@@ -15,7 +15,7 @@ use Rattle.cover.specs.Key.{pack, better}
 use Rattle.cover.specs.Subsets.{least-of}
 use Rattle.cover.specs.Least.{least-tables, least-is}
 use Rattle.cover.specs.Whole.{whole, one-table}
-use Rattle.cover.specs.Panels.{Row, Shown, Right, panels}
+use Rattle.cover.specs.Worked.{Row, Shown, Right, worked}
 
 abbrev is-gate : Node → Bool
 is-gate (leaf n) = false
@@ -58,6 +58,6 @@ rows-right (r ∷ rs) h =
     let q = and-split (truth-right r (r .truth)) _ (p .1) in
     every-cons (record { least = row-count r (p .0); shown = row-truth r (r .truth) (q .0) }) (rows-right rs (q .1))
 
-pub panels-right : Every Right panels
+pub worked-right : Every Right worked
 unfolding pack better least-of
-panels-right = rows-right panels tt
+worked-right = rows-right worked tt

@@ -1,5 +1,6 @@
--- The panels worked by hand: for each tree and K the least number of tables and, where it is given, the truth table.
--- Definitions only: that every row is right is in PanelsRight.
+-- The worked examples that 01 stars ("Panels worked by hand"): for each tree and K the least number of tables and, where it is
+-- given, the truth table.
+-- Definitions only: that every row is right is in WorkedRight.
 use Prim.Native.Nat.{ℕ, suc, zero, _+_}
 use mathlib.Core.Path.{_≡_}
 use mathlib.Core.Bool.{Bool, true, false}
@@ -47,8 +48,8 @@ row K t n = record { inputs = K; tree = t; inverted = false; count = n; truth = 
 abbrev pub single : ℕ → Node → Bool → ℕ → Row
 single K t v x = record { inputs = K; tree = t; inverted = v; count = 1; truth = some x }
 
-abbrev pub panels : List Row
-panels =
+abbrev pub worked : List Row
+worked =
     single 2 (gate and (edge false (leaf 1) (edge true (leaf 2) Edges.none))) false 2
     ∷ single 2 (gate and (edge false (leaf 1) (edge true (leaf 2) Edges.none))) true 13
     ∷ row 2 (gate and (ports 5 1)) 4
