@@ -1,5 +1,5 @@
--- Laws of masks: submasks and what is left of a mask without one; the loop `u = (u - 1) & r`, which meets the submasks of r
--- from the greatest down; and the elements that a mask selects, which are mixed of those of a submask and of the rest.
+-- Laws of masks: submasks; the loop `u = (u - 1) & r`, which meets the submasks of r from the greatest down; and the elements
+-- that a mask selects, which are mixed of those of a submask and of the rest.
 use Prim.Native.Nat.{ℕ, zero, suc, _+_, _-_, _*_, _/_, _%_, _^_, _≤_, _<_}
 use native.Mathlib.Nat.{zero-add, zero-mul, one-mul}
 use native.Mathlib.Omega.{arith}
@@ -8,7 +8,7 @@ use mathlib.Core.Path.{_≡_, refl, sym, ap, _∙_}
 use mathlib.Core.Logic.{by-cases}
 use mathlib.Core.List.{List, [], _∷_}
 use lib.Arith.{bin-ind}
-use lib.Bits.{bitAnd, and-step, and-zero-l, and-self, and-block, and-le-l, and-le-r}
+use lib.Bits.{bitAnd, and-step, and-zero-l, and-block, and-le-l, and-le-r}
 use lib.ListN.{length, getD}
 use lib.Pow.{pow-pos}
 use Rattle.lists.specs.Lists.{Every, Inserted, here, there, Mix, neither, left, right}
@@ -34,28 +34,6 @@ within-and =
     bin-ind (λ u. (r : ℕ) → Within (bitAnd u r) r) (λ r. rw (and-zero-l r) (and-zero-l r)) λ u f r.
     let e : bitAnd u r / 2 ≡ bitAnd (u / 2) (r / 2) = omega (arith, and-step u r) in
     within-whole (bitAnd u r) r (omega (arith, and-step u r)) (rw e (f (r / 2)))
-
--- the rest of a mask without a submask is a submask too, with no bit in common with it
-pub within-rest : (u r : ℕ) → Within u r → Within (r - u) r × (bitAnd (r - u) u ≡ 0)
-within-rest u r =
-    bin-ind (λ r. (u : ℕ) → Within u r → Within (r - u) r × (bitAnd (r - u) u ≡ 0))
-    (λ u w. let z : u ≡ 0 = omega (arith, within-le u 0 w) in rw z (and-zero-l 0, and-zero-l 0))
-    (λ r f u w.
-    let h = within-half u r w in
-    let l = within-le (u / 2) (r / 2) (h .1) in
-    let g = f (u / 2) (h .1) in
-    let e : (r - u) / 2 ≡ r / 2 - u / 2 = omega arith in
-    (within-whole (r - u) r (omega arith) (rw e (g .0)), omega (arith, rw e at (and-step (r - u) u)))) r u
-
--- two masks with no bit in common are submasks of their sum
-pub apart-within : (a b : ℕ) → bitAnd a b ≡ 0 → Within a (a + b) × Within b (a + b)
-apart-within =
-    bin-ind (λ a. (b : ℕ) → bitAnd a b ≡ 0 → Within a (a + b) × Within b (a + b))
-    (λ b z. (and-zero-l (0 + b), rw zero-add (and-self b))) λ a f b z.
-    let s = and-step a b in
-    let g = f (b / 2) (omega arith) in
-    let e : (a + b) / 2 ≡ a / 2 + b / 2 = omega arith in
-    (within-whole a (a + b) (omega arith) (rw e (g .0)), within-whole b (a + b) (omega arith) (rw e (g .1)))
 
 -- a submask of what stands below the highest bit is one of the whole
 pub within-top : (h r u : ℕ) → r < 2 ^ h → Within u r → Within u (2 ^ h + r)

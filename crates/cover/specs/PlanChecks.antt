@@ -2,7 +2,7 @@
 use Prim.Native.Nat.{ℕ}
 use mathlib.Core.Path.{_≡_, refl}
 use mathlib.Core.Bool.{Bool, true, false}
-use mathlib.Core.List.{List, [], _∷_}
+use mathlib.Core.List.{[], _∷_}
 use Rattle.cover.specs.declared.Key.{Key}
 use Rattle.cover.specs.Key.{key, leaf-key}
 use Rattle.cover.specs.PlanOf.{faninTest, goodInput}
