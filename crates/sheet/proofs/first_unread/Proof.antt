@@ -1,3 +1,4 @@
+-- `sheet::first_unread` meets its contract. The loop's invariant, `Passed`: each gate passed was read. Assumes nothing.
 use Prim.Native.Nat.{_-_}
 use native.Mathlib.Omega.{arith}
 use borrow.Author.Needs.{needs}
@@ -5,8 +6,6 @@ use borrow.Author.Tests.{not-true, not-false}
 use Rattle.sheet.proofs.UnreadLaws.{Passed, passed-none, passed-more, passed-first, passed-all}
 use Rattle.sheet.proofs.first_unread.Statement.{statement}
 use Rattle.sheet.proofs.first_unread.Tie as tie
-use Rattle.sheet.proofs.first_unread.Reads as reads
-use Rattle.sheet.proofs.first_unread.Lts as lts
 
 abbrev Inv-loop : tie.InvT-loop
 Inv-loop seen count base g₀ g-end g = Passed seen count g
@@ -14,50 +13,40 @@ Inv-loop seen count base g₀ g-end g = Passed seen count g
 abbrev μ-loop : tie.MeasureT-loop
 μ-loop seen count base g₀ g-end g = count - g
 
--- src/lib.rt:493:16
 cast-base : tie.Need-cast-base Inv-loop μ-loop
 cast-base c = search needs
 
--- src/lib.rt:494:5
 loop-holds : tie.Need-loop-holds Inv-loop μ-loop
 loop-holds c = passed-none (c .args .seen .now) (c .args .count)
 
--- src/lib.rt:495:18
 add-if1 : tie.Need-add-if1 Inv-loop μ-loop
 add-if1 c = search needs
 
--- src/lib.rt:495:13
 element-copy-out-if1 : tie.Need-element-copy-out-if1 Inv-loop μ-loop
 element-copy-out-if1 c = search needs
 
--- src/lib.rt:496:34
 cast-t11 : tie.Need-cast-t11 Inv-loop μ-loop
 cast-t11 c = search needs
 
 add-t12 : tie.Need-add-t12 Inv-loop μ-loop
 add-t12 c = search needs
 
--- src/lib.rt:496:13
 returns : tie.Need-returns Inv-loop μ-loop
 returns c =
     let b = c .before .before .before in
     passed-first (b .loop .inv) (omega arith) (omega (arith, b .before .fits)) (not-true _ (c .if1 .taken))
 
--- src/lib.rt:494:9
 add-g : tie.Need-add-g Inv-loop μ-loop
 add-g c = search needs
 
--- src/lib.rt:494:5
 loop-less : tie.Need-loop-less Inv-loop μ-loop
 loop-less c = search needs
 
--- src/lib.rt:494:5
 loop-again : tie.Need-loop-again Inv-loop μ-loop
 loop-again c =
     let b = c .before .before .before in
     passed-more (b .loop .inv) (omega arith) (omega (arith, b .before .fits)) (not-false _ (c .if1 .left))
 
--- src/lib.rt:490:1
 returns-2 : tie.Need-returns-2 Inv-loop μ-loop
 returns-2 c = passed-all (c .before .loop .inv) (omega arith)
 

@@ -1,3 +1,5 @@
+-- `sheet::gate_lines` meets its contract. What is left to read, with what was read put before it, is the same at each line (`AtLine`)
+-- and at each fanin (`AtFanin`). Assumes nothing.
 use Prim.Native.Nat.{_+_, _-_, _<_}
 use native.Mathlib.Omega.{arith}
 use borrow.Author.Needs.{needs}
@@ -14,15 +16,6 @@ use Rattle.sheet.proofs.FaninLaws.{code-below}
 use Rattle.sheet.proofs.LinesLaws.{AtLine, AtFanin, at-start, line-refused, line-taken, lines-over, fanin-refused, fanin-taken, gate-taken}
 use Rattle.sheet.proofs.gate_lines.Statement.{statement}
 use Rattle.sheet.proofs.gate_lines.Tie as tie
-use Rattle.sheet.proofs.gate_lines.Reads as reads
-use Rattle.sheet.proofs.gate_lines.Lts as lts
-use Rattle.sheet.proofs.edge_of.Reads as edge-of-reads
-use Rattle.sheet.proofs.gate_of.Reads as gate-of-reads
-use Rattle.sheet.proofs.no_fanins.Reads as no-fanins-reads
-use Rattle.sheet.proofs.no_gates.Reads as no-gates-reads
-use Rattle.sheet.proofs.read_fanin.Reads as read-fanin-reads
-use Rattle.sheet.proofs.read_gate_line.Reads as read-gate-line-reads
-use Rattle.sheet.proofs.with_leaf.Reads as with-leaf-reads
 
 abbrev Inv-loop : tie.InvT-loop
 Inv-loop text start out count gates seen₀ leaves₀ answer₀ end g gate line fanins₀ i₀ g-end i-end seen leaves answer fanins i =
@@ -62,48 +55,38 @@ code-known c =
     code-below (l .lines .g + 1) _ (omega (arith, l .before .before .before .fits)) (c .before .source .given .0 .0)
     (f .read-fanin .ensures .source (c .before .source .given .0 .0) (c .before .source .given .1))
 
--- src/lib.rt:445:21
 no-gates-requires : tie.Need-no-gates-requires Inv-loop μ-loop Inv-lines μ-lines
 no-gates-requires c κs = search needs
 
--- src/lib.rt:450:5
 lines-holds : tie.Need-lines-holds Inv-loop μ-loop Inv-lines μ-lines
 lines-holds c =
     let s = c .before .before in
     at-start (s .args .text .now) (s .args .start) (s .args .out) (s .args .count) (c .no-gates .result) (ap length (c .no-gates .ensures) ∙ no-gates-length) (s .pre)
 
--- src/lib.rt:451:20
 cast-gate : tie.Need-cast-gate Inv-loop μ-loop Inv-lines μ-lines
 cast-gate c = search needs
 
--- src/lib.rt:451:20
 add-gate : tie.Need-add-gate Inv-loop μ-loop Inv-lines μ-lines
 add-gate c = search needs
 
--- src/lib.rt:452:20
 read-gate-line-requires : tie.Need-read-gate-line-requires Inv-loop μ-loop Inv-lines μ-lines
 read-gate-line-requires c κs = search needs
 
--- src/lib.rt:454:26
 enum-known-fault : tie.Need-enum-known-fault Inv-loop μ-loop Inv-lines μ-lines
 enum-known-fault c = search needs
 
--- src/lib.rt:455:43
 add-t25 : tie.Need-add-t25 Inv-loop μ-loop Inv-lines μ-lines
 add-t25 c = search needs
 
 enum-told : tie.Need-enum-told Inv-loop μ-loop Inv-lines μ-lines
 enum-told c = search needs
 
--- src/lib.rt:458:26
 no-fanins-requires : tie.Need-no-fanins-requires Inv-loop μ-loop Inv-lines μ-lines
 no-fanins-requires c κs = search needs
 
--- src/lib.rt:459:21
 cast-i-end : tie.Need-cast-i-end Inv-loop μ-loop Inv-lines μ-lines
 cast-i-end c = search needs
 
--- src/lib.rt:459:9
 loop-holds : tie.Need-loop-holds Inv-loop μ-loop Inv-lines μ-lines
 loop-holds c =
     let r = c .before .before .before in
@@ -112,67 +95,51 @@ loop-holds c =
     line-taken (a .text .now) (a .start) (a .out) (a .count) (b .lines .inv) (omega arith) (r .read-gate-line .result) (r .read-gate-line .ensures) (c .before .enum-told .given .1)
     (c .no-fanins .result) (ap length (c .no-fanins .ensures))
 
--- src/lib.rt:460:34
 add-x : tie.Need-add-x Inv-loop μ-loop Inv-lines μ-lines
 add-x c = search needs
 
--- src/lib.rt:460:21
 mul-x : tie.Need-mul-x Inv-loop μ-loop Inv-lines μ-lines
 mul-x c = search needs
 
--- src/lib.rt:460:21
 element-copy-out-x : tie.Need-element-copy-out-x Inv-loop μ-loop Inv-lines μ-lines
 element-copy-out-x c = search needs
 
--- src/lib.rt:461:19
 read-fanin-requires : tie.Need-read-fanin-requires Inv-loop μ-loop Inv-lines μ-lines
 read-fanin-requires c κs = search needs
 
--- src/lib.rt:462:28
 enum-known-why : tie.Need-enum-known-why Inv-loop μ-loop Inv-lines μ-lines
 enum-known-why c = search needs
 
--- src/lib.rt:463:51
 add-t37 : tie.Need-add-t37 Inv-loop μ-loop Inv-lines μ-lines
 add-t37 c = search needs
 
--- src/lib.rt:466:30
 enum-known-source : tie.Need-enum-known-source Inv-loop μ-loop Inv-lines μ-lines
 enum-known-source c = search needs
 
--- src/lib.rt:467:33
 edge-of-requires : tie.Need-edge-of-requires Inv-loop μ-loop Inv-lines μ-lines
 edge-of-requires c κs = search needs
 
--- src/lib.rt:467:21
 mul-fanins : tie.Need-mul-fanins Inv-loop μ-loop Inv-lines μ-lines
 mul-fanins c = search needs
 
--- src/lib.rt:467:21
 array-set-from-fanins : tie.Need-array-set-from-fanins Inv-loop μ-loop Inv-lines μ-lines
 array-set-from-fanins c = search needs
 
--- src/lib.rt:468:21
 with-leaf-requires : tie.Need-with-leaf-requires Inv-loop μ-loop Inv-lines μ-lines
 with-leaf-requires c κs = search needs
 
--- src/lib.rt:469:26
 cast-seen : tie.Need-cast-seen Inv-loop μ-loop Inv-lines μ-lines
 cast-seen c = omega (arith, code-known (c .before .before .before))
 
--- src/lib.rt:469:21
 array-write-seen : tie.Need-array-write-seen Inv-loop μ-loop Inv-lines μ-lines
 array-write-seen c = omega (arith, code-known (c .before .before .before), loop-of (c .before .before .before) .loop .inv .marked .whole)
 
--- src/lib.rt:459:13
 add-i : tie.Need-add-i Inv-loop μ-loop Inv-lines μ-lines
 add-i c = search needs
 
--- src/lib.rt:459:9
 loop-less : tie.Need-loop-less Inv-loop μ-loop Inv-lines μ-lines
 loop-less c = search needs
 
--- src/lib.rt:459:9
 loop-again : tie.Need-loop-again Inv-loop μ-loop Inv-lines μ-lines
 loop-again c =
     let w = c .before in
@@ -184,34 +151,27 @@ loop-again c =
     fanin-taken (a .args .text .now) (a .args .start) (a .args .out) (a .args .count) (b .loop .inv) (omega arith) (omega (arith, a .fits)) (f .read-fanin .result) (f .read-fanin .ensures)
     (d .before .source .given .0 .0) (d .before .source .given .1) (e .edge-of .result) (e .edge-of .ensures) (w .with-leaf .result) (w .with-leaf .ensures)
 
--- src/lib.rt:473:20
 gate-of-requires : tie.Need-gate-of-requires Inv-loop μ-loop Inv-lines μ-lines
 gate-of-requires c κs = search needs
 
--- src/lib.rt:473:9
 mul-gates : tie.Need-mul-gates Inv-loop μ-loop Inv-lines μ-lines
 mul-gates c = search needs
 
--- src/lib.rt:473:9
 array-set-from-gates : tie.Need-array-set-from-gates Inv-loop μ-loop Inv-lines μ-lines
 array-set-from-gates c = search needs
 
--- src/lib.rt:450:17
 add-g : tie.Need-add-g Inv-loop μ-loop Inv-lines μ-lines
 add-g c = search needs
 
--- src/lib.rt:450:5
 lines-less : tie.Need-lines-less Inv-loop μ-loop Inv-lines μ-lines
 lines-less c = search needs
 
--- src/lib.rt:450:5
 lines-again : tie.Need-lines-again Inv-loop μ-loop Inv-lines μ-lines
 lines-again c =
     let b = c .before .before in
     let a = lines-of b .before .before .before in
     gate-taken (a .args .text .now) (a .args .start) (a .args .out) (a .args .count) (b .loop .inv) (omega arith) (omega (arith, a .fits)) (c .gate-of .result) (c .gate-of .ensures)
 
--- src/lib.rt:441:1
 returns : tie.Need-returns Inv-loop μ-loop Inv-lines μ-lines
 returns c =
     let a = c .before .before .before .before .args in
@@ -223,7 +183,6 @@ returns c =
       (record { gates = refl; marked = h .marked .gates; rest = refl; within = h .inside }, lines-over (a .text .now) (a .start) (a .out) (a .count) h (omega arith)),
     )
 
--- src/lib.rt:441:1
 returns-2 : tie.Need-returns-2 Inv-loop μ-loop Inv-lines μ-lines
 returns-2 c =
     let r = c .before .before .before in
@@ -232,7 +191,6 @@ returns-2 c =
     line-refused (a .text .now) (a .start) (a .out) (a .count) (b .lines .inv) (omega arith) (r .read-gate-line .result) (r .read-gate-line .ensures)
     (c .before .fault .given .0 .0) (c .before .fault .given .1)
 
--- src/lib.rt:441:1
 returns-3 : tie.Need-returns-3 Inv-loop μ-loop Inv-lines μ-lines
 returns-3 c =
     let f = c .before .before .before in

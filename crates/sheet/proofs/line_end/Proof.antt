@@ -10,8 +10,6 @@ use Rattle.sheet.specs.Line.{line}
 use Rattle.sheet.proofs.LineLaws.{before, line-start, line-more, line-here, line-past}
 use Rattle.sheet.proofs.line_end.Statement.{statement}
 use Rattle.sheet.proofs.line_end.Tie as tie
-use Rattle.sheet.proofs.line_end.Reads as reads
-use Rattle.sheet.proofs.line_end.Lts as lts
 
 abbrev Inv-loop : tie.InvT-loop
 Inv-loop text start i₀ i = (start ≤ i) × (line (drop start text) ≡ before (take (i - start) (drop start text)) (line (drop i text)))

@@ -1,14 +1,11 @@
+-- `sheet::more` meets its contract. Assumes nothing.
 use borrow.Author.Needs.{needs}
 use Rattle.sheet.proofs.more.Statement.{statement}
 use Rattle.sheet.proofs.more.Tie as tie
-use Rattle.sheet.proofs.more.Reads as reads
-use Rattle.sheet.proofs.more.Lts as lts
 
--- src/lib.rt:533:9
 returns : tie.Need-returns
 returns c = simp (c .if1 .taken)
 
--- src/lib.rt:529:1
 returns-2 : tie.Need-returns-2
 returns-2 c = search needs
 

@@ -1,3 +1,4 @@
+-- `sheet::no_gates` meets its contract. Assumes nothing.
 use mathlib.Core.Path.{ap}
 use lib.ListN.{replicate}
 use Rattle.tree.specs.declared.Kind.the-variants.{And as and}
@@ -6,15 +7,10 @@ use Rattle.sheet.specs.Answers.{noGates}
 use borrow.Author.Needs.{needs}
 use Rattle.sheet.proofs.no_gates.Statement.{statement}
 use Rattle.sheet.proofs.no_gates.Tie as tie
-use Rattle.sheet.proofs.no_gates.Reads as reads
-use Rattle.sheet.proofs.no_gates.Lts as lts
-use Rattle.sheet.proofs.no_fanins.Reads as no-fanins-reads
 
--- src/lib.rt:411:9
 no-fanins-requires : tie.Need-no-fanins-requires
 no-fanins-requires c κs = search needs
 
--- src/lib.rt:408:1
 returns : tie.Need-returns
 unfolding noGates
 returns c = ap (λ l. replicate mostGates (record { kind = and; count = 0; fanins = l })) (c .no-fanins .ensures)

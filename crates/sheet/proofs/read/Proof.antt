@@ -1,3 +1,4 @@
+-- `sheet::read` meets its contract. Assumes nothing.
 use mathlib.Core.Path.{sym, ap, _∙_}
 use lib.ListN.{drop}
 use Rattle.sheet.specs.Step.{_>>=_}
@@ -7,15 +8,10 @@ use Rattle.sheet.proofs.SheetLaws.{alone, front-all, reading-alone}
 use borrow.Author.Needs.{needs}
 use Rattle.sheet.proofs.read.Statement.{statement}
 use Rattle.sheet.proofs.read.Tie as tie
-use Rattle.sheet.proofs.read.Reads as reads
-use Rattle.sheet.proofs.read.Lts as lts
-use Rattle.sheet.proofs.read_front.Reads as read-front-reads
 
--- src/lib.rt:588:9
 read-front-requires : tie.Need-read-front-requires
 read-front-requires c κs = search needs
 
--- src/lib.rt:585:1
 returns : tie.Need-returns
 returns c =
     let text = c .before .before .before .args .text .now in

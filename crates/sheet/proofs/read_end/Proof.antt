@@ -1,3 +1,4 @@
+-- `sheet::read_end` meets its contract. Assumes nothing.
 use Prim.Native.Nat.{ℕ, _+_}
 use native.Mathlib.Omega.{arith}
 use mathlib.Core.Path.{_≡_, sym, ap, ap₂, _∙_}
@@ -9,24 +10,16 @@ use Rattle.sheet.proofs.SheetLaws.{next-refused, end-refused, went, end
 use borrow.Author.Needs.{needs}
 use Rattle.sheet.proofs.read_end.Statement.{statement}
 use Rattle.sheet.proofs.read_end.Tie as tie
-use Rattle.sheet.proofs.read_end.Reads as reads
-use Rattle.sheet.proofs.read_end.Lts as lts
-use Rattle.sheet.proofs.first_unread.Reads as first-unread-reads
-use Rattle.sheet.proofs.more.Reads as more-reads
-use Rattle.sheet.proofs.refused.Reads as refused-reads
 
 abbrev head-of : tie.Start → Head
 head-of s = record { out = s .args .out; inverted = s .args .inverted; count = s .args .count }
 
--- src/lib.rt:543:28
 enum-known-answer : tie.Need-enum-known-answer
 enum-known-answer c = search needs
 
--- src/lib.rt:544:9
 refused-requires : tie.Need-refused-requires
 refused-requires c κs = search needs
 
--- src/lib.rt:544:9
 returns : tie.Need-returns
 returns c =
     let s = c .before .before .before .before .before in
@@ -38,19 +31,15 @@ returns c =
 enum-told : tie.Need-enum-told
 enum-told c = search needs
 
--- src/lib.rt:546:8
 more-requires : tie.Need-more-requires
 more-requires c κs = search needs
 
--- src/lib.rt:547:41
 add-refused : tie.Need-add-refused
 add-refused c = search needs
 
--- src/lib.rt:547:9
 refused-requires-2 : tie.Need-refused-requires-2
 refused-requires-2 c κs = search needs
 
--- src/lib.rt:547:9
 returns-2 : tie.Need-returns-2
 returns-2 c =
     let e = c .before .before .before in
@@ -59,19 +48,15 @@ returns-2 c =
     λ m h. next-refused (a .text .now) _ (c .refused2 .result) Layout (a .count + 2) (c .refused2 .ensures)
     (end-more (a .text .now) (a .l) (head-of s) (a .last) m h (e .enum-told .given .1) (sym (c .before .before .more .ensures) ∙ c .before .if1 .taken))
 
--- src/lib.rt:550:34
 first-unread-requires : tie.Need-first-unread-requires
 first-unread-requires c κs = search needs
 
--- src/lib.rt:550:26
 enum-known-line : tie.Need-enum-known-line
 enum-known-line c = search needs
 
--- src/lib.rt:551:9
 refused-requires-3 : tie.Need-refused-requires-3
 refused-requires-3 c κs = search needs
 
--- src/lib.rt:551:9
 returns-3 : tie.Need-returns-3
 returns-3 c =
     let u = c .before .before .before .before in
@@ -88,7 +73,6 @@ returns-3 c =
 enum-told-2 : tie.Need-enum-told-2
 enum-told-2 c = search needs
 
--- src/lib.rt:539:1
 returns-4 : tie.Need-returns-4
 returns-4 c =
     let u = c .before .before .before in

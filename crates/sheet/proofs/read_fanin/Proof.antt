@@ -1,3 +1,4 @@
+-- `sheet::read_fanin` meets its contract. The flag at the fanin's number says whether what it reads was read before. Assumes nothing.
 use Prim.Native.Nat.{ℕ}
 use native.Mathlib.Omega.{arith}
 use mathlib.Core.Path.{_≡_, sym, ap, _∙_}
@@ -17,9 +18,6 @@ use Rattle.sheet.proofs.FaninLaws.{fanin-none, gate-twice, gate-once, n
 use borrow.Author.Needs.{needs}
 use Rattle.sheet.proofs.read_fanin.Statement.{statement}
 use Rattle.sheet.proofs.read_fanin.Tie as tie
-use Rattle.sheet.proofs.read_fanin.Reads as reads
-use Rattle.sheet.proofs.read_fanin.Lts as lts
-use Rattle.sheet.proofs.source_of.Reads as source-of-reads
 
 source-is : (c : tie.After-source) → sourceOf (c .before .before .before .args .gate) (c .before .before .before .args .code) ≡ some (c .source .given .0 .0)
 source-is c = c .before .before .source-of .ensures ∙ ap sourceStep (c .source .given .1)
@@ -37,19 +35,15 @@ net-is c = source-is (c .before .before .before .before .before) ∙ ap some (c 
 none-reads : (why : Refusal) (s : Source) → Bad why ≡ Reads s → ⊥
 none-reads why s e = let z : _≡_ {A = ℕ} 0 1 = cc in omega arith
 
--- src/lib.rt:301:32
 source-of-requires : tie.Need-source-of-requires
 source-of-requires c κs = search needs
 
--- src/lib.rt:301:22
 enum-known-source : tie.Need-enum-known-source
 enum-known-source c = search needs
 
--- src/lib.rt:302:27
 enum-told : tie.Need-enum-told
 enum-told c = search needs
 
--- src/lib.rt:302:9
 returns : tie.Need-returns
 returns c =
     let a = c .before .before .before .args in
@@ -60,17 +54,14 @@ returns c =
       step = λ seen h. fanin-none (a .out) (a .gate) seen (a .code) e;
     }
 
--- src/lib.rt:304:17
 element-copy-out-twice : tie.Need-element-copy-out-twice
 element-copy-out-twice c =
     let s = c .before .before .before .before in
     code-below (s .args .gate) (s .args .code) (s .pre) (c .before .source .given .0 .0) (source-is (c .before))
 
--- src/lib.rt:307:16
 enum-told-2 : tie.Need-enum-told-2
 enum-told-2 c = search needs
 
--- src/lib.rt:308:17
 returns-2 : tie.Need-returns-2
 returns-2 c =
     let s = c .before .before .before .before .before .before .before .before in
@@ -81,11 +72,9 @@ returns-2 c =
       step = λ seen h. gate-twice (a .out) (a .gate) seen (a .code) _ (gate-is (c .before)) (sym (gate-flag (a .gate) (a .code) (s .pre) h _ (gate-is (c .before))) ∙ c .if1 .taken);
     }
 
--- src/lib.rt:311:21
 enum-known-source-2 : tie.Need-enum-known-source-2
 enum-known-source-2 c = search needs
 
--- src/lib.rt:313:17
 returns-3 : tie.Need-returns-3
 returns-3 c =
     let s = c .before .before .before .before .before .before .before .before .before in
@@ -96,7 +85,6 @@ returns-3 c =
       step = λ seen h. net-twice (a .out) (a .gate) seen (a .code) _ (net-is (c .before)) (sym (net-flag (a .gate) (a .code) (s .pre) h _ (net-is (c .before))) ∙ c .if2 .taken);
     }
 
--- src/lib.rt:316:17
 returns-4 : tie.Need-returns-4
 returns-4 c =
     let s = c .before .before .before .before .before .before .before .before .before .before in
@@ -108,7 +96,6 @@ returns-4 c =
       step = λ seen h. net-out (a .out) (a .gate) seen (a .code) _ e (sym (net-flag (a .gate) (a .code) (s .pre) h _ e) ∙ c .before .if2 .left) (eq-eqb _ _ (c .if3 .taken));
     }
 
--- src/lib.rt:319:17
 returns-5 : tie.Need-returns-5
 returns-5 c =
     let s = c .before .before .before .before .before .before .before .before .before .before .before in
@@ -122,7 +109,6 @@ returns-5 c =
           (le-ltb (length (seen .nets)) mostLeaves (omega (arith, h .count)));
     }
 
--- src/lib.rt:297:1
 returns-6 : tie.Need-returns-6
 returns-6 c =
     let s = c .before .before .before .before .before .before .before .before in
@@ -138,7 +124,6 @@ returns-6 c =
           ∙ ap (λ s. good (s, saw seen s)) (sym (c .before .enum-told2 .given .1));
     }
 
--- src/lib.rt:297:1
 returns-7 : tie.Need-returns-7
 returns-7 c =
     let s = c .before .before .before .before .before .before .before .before .before .before .before in

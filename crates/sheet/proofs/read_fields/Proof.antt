@@ -1,3 +1,4 @@
+-- `sheet::read_fields` meets its contract. The loop's invariant, `SoFar`: the fields of the line are the numbers read, and then those of the bytes left. Assumes nothing.
 use Prim.Native.Nat.{ℕ, _+_, _-_, _^_, _<_}
 use native.Mathlib.Omega.{arith}
 use borrow.Author.Needs.{needs}
@@ -19,12 +20,6 @@ use Rattle.sheet.proofs.HeadLaws.{fields-none}
 use Rattle.sheet.proofs.FieldLaws.{SoFar, short-none, empty-list, nonempty, so-far-start, so-far-none, so-far-full, so-far-bad, so-far-more, so-far-all}
 use Rattle.sheet.proofs.read_fields.Statement.{statement}
 use Rattle.sheet.proofs.read_fields.Tie as tie
-use Rattle.sheet.proofs.read_fields.Reads as reads
-use Rattle.sheet.proofs.read_fields.Lts as lts
-use Rattle.decimal.proofs.magnitude.Reads as magnitude-reads
-use Rattle.decimal.proofs.negative.Reads as negative-reads
-use Rattle.decimal.proofs.read.Reads as read-reads
-use Rattle.sheet.proofs.no_fields.Reads as no-fields-reads
 
 abbrev Inv-loop : tie.InvT-loop
 Inv-loop line numbers₀ count₀ at₀ numbers count at = SoFar line numbers count at
@@ -50,39 +45,31 @@ field-read c =
     let a = c .before .before .before .before .before in
     c .read .ensures ∙ ap (λ n. fieldRead (take n (drop (a .loop .at) (the-line a)))) (let e : a .loop .at + columns - a .loop .at ≡ columns = omega arith in e)
 
--- src/lib.rt:118:9
 no-fields-requires : tie.Need-no-fields-requires Inv-loop μ-loop
 no-fields-requires c κs = search needs
 
--- src/lib.rt:118:9
 returns : tie.Need-returns Inv-loop μ-loop
 returns c =
     let n = empty-list (c .before .before .before .args .line .now) (c .before .if1 .taken) in
     record { same = ap fields n ∙ sym (fields-none (c .no-fields .result) (c .no-fields .ensures .0)); room = c .no-fields .ensures .1 }
 
--- src/lib.rt:124:5
 loop-holds : tie.Need-loop-holds Inv-loop μ-loop
 loop-holds c = so-far-start (c .before .before .args .line .now) (omega (arith, nonempty (c .before .before .args .line .now) (c .if1 .left)))
 
--- src/lib.rt:126:13
 no-fields-requires-2 : tie.Need-no-fields-requires-2 Inv-loop μ-loop
 no-fields-requires-2 c κs = search needs
 
--- src/lib.rt:126:13
 returns-2 : tie.Need-returns-2 Inv-loop μ-loop
 returns-2 c =
     let h = c .before .before .before .loop .inv in
     so-far-none h (c .no-fields2 .result) (c .no-fields2 .ensures) (so-far-full h (omega arith) (omega arith))
 
--- src/lib.rt:128:12
 sub-if3 : tie.Need-sub-if3 Inv-loop μ-loop
 sub-if3 c = search needs
 
--- src/lib.rt:129:13
 no-fields-requires-3 : tie.Need-no-fields-requires-3 Inv-loop μ-loop
 no-fields-requires-3 c κs = search needs
 
--- src/lib.rt:129:13
 returns-3 : tie.Need-returns-3 Inv-loop μ-loop
 returns-3 c =
     let a = c .before .before .before .before in
@@ -90,39 +77,30 @@ returns-3 c =
     so-far-none h (c .no-fields3 .result) (c .no-fields3 .ensures)
     (so-far-bad h (omega arith) (omega arith) (short-none (drop (a .loop .at) (the-line a)) (simp length-drop (omega arith))))
 
--- src/lib.rt:131:19
 add-end : tie.Need-add-end Inv-loop μ-loop
 add-end c = search needs
 
--- src/lib.rt:132:54
 sub-read : tie.Need-sub-read Inv-loop μ-loop
 sub-read c = search needs
 
--- src/lib.rt:132:54
 part-read-start : tie.Need-part-read-start Inv-loop μ-loop
 part-read-start c = search needs
 
--- src/lib.rt:132:54
 part-read-end : tie.Need-part-read-end Inv-loop μ-loop
 part-read-end c = search needs
 
--- src/lib.rt:132:40
 read-requires : tie.Need-read-requires Inv-loop μ-loop
 read-requires c κs = search needs
 
--- src/lib.rt:132:35
 enum-known-v : tie.Need-enum-known-v Inv-loop μ-loop
 enum-known-v c = search needs
 
--- src/lib.rt:133:13
 enum-told : tie.Need-enum-told Inv-loop μ-loop
 enum-told c = search needs
 
--- src/lib.rt:133:13
 no-fields-requires-4 : tie.Need-no-fields-requires-4 Inv-loop μ-loop
 no-fields-requires-4 c κs = search needs
 
--- src/lib.rt:133:13
 returns-4 : tie.Need-returns-4 Inv-loop μ-loop
 returns-4 c =
     let r = c .before .before .before in
@@ -132,31 +110,24 @@ returns-4 c =
     (so-far-bad h (omega arith) (omega arith)
     (read-none (take columns (drop (a .loop .at) (the-line a))) (sym (field-read r) ∙ c .before .enum-told .given .1)))
 
--- src/lib.rt:136:23
 negative-requires : tie.Need-negative-requires Inv-loop μ-loop
 negative-requires c κs = search needs
 
--- src/lib.rt:137:24
 magnitude-requires : tie.Need-magnitude-requires Inv-loop μ-loop
 magnitude-requires c κs = search needs
 
--- src/lib.rt:135:9
 mul-numbers : tie.Need-mul-numbers Inv-loop μ-loop
 mul-numbers c = search needs
 
--- src/lib.rt:135:9
 array-set-from-numbers : tie.Need-array-set-from-numbers Inv-loop μ-loop
 array-set-from-numbers c = search needs
 
--- src/lib.rt:139:9
 add-count : tie.Need-add-count Inv-loop μ-loop
 add-count c = search needs
 
--- src/lib.rt:124:5
 loop-less : tie.Need-loop-less Inv-loop μ-loop
 loop-less c = search needs
 
--- src/lib.rt:124:5
 loop-again : tie.Need-loop-again Inv-loop μ-loop
 loop-again c =
     let v = c .before .before .before in
@@ -173,7 +144,6 @@ loop-again c =
     ∙ ap₂ number (sym (c .before .negative .ensures)) (sym (c .magnitude .ensures))))
     (omega arith)
 
--- src/lib.rt:114:1
 returns-5 : tie.Need-returns-5 Inv-loop μ-loop
 returns-5 c = so-far-all (c .before .loop .inv) (omega arith)
 

@@ -1,3 +1,4 @@
+-- `sheet::read_front` meets its contract. Assumes nothing.
 use Prim.Native.Nat.{_+_, _-_, _≤_, _<_}
 use native.Mathlib.Omega.{arith}
 use mathlib.Core.Path.{_≡_, sym, ap, _∙_, subst}
@@ -12,14 +13,6 @@ use Rattle.sheet.proofs.SheetLaws.{next-refused, front-none, front-bad,
 use borrow.Author.Needs.{needs}
 use Rattle.sheet.proofs.read_front.Statement.{statement}
 use Rattle.sheet.proofs.read_front.Tie as tie
-use Rattle.sheet.proofs.read_front.Reads as reads
-use Rattle.sheet.proofs.read_front.Lts as lts
-use Rattle.sheet.proofs.gate_lines.Reads as gate-lines-reads
-use Rattle.sheet.proofs.line_end.Reads as line-end-reads
-use Rattle.sheet.proofs.read_end.Reads as read-end-reads
-use Rattle.sheet.proofs.read_fields.Reads as read-fields-reads
-use Rattle.sheet.proofs.read_head.Reads as read-head-reads
-use Rattle.sheet.proofs.refused.Reads as refused-reads
 
 -- the line that was found
 line-is : (c : tie.After-end) → let a = c .before .before .before .before .args in let end = c .end .given .0 .0 in
@@ -34,23 +27,18 @@ head-is : (c : tie.After-read-head) → let e = c .before .before .before .befor
     readHead (take (e .end .given .0 .0 - a .start) (drop (a .start) (a .text .now))) ≡ headStep (c .read-head .result)
 head-is c = ap headOf (c .before .read-fields .ensures .same) ∙ c .read-head .ensures
 
--- src/lib.rt:571:27
 line-end-requires : tie.Need-line-end-requires
 line-end-requires c κs = search needs
 
--- src/lib.rt:571:20
 enum-known-end : tie.Need-enum-known-end
 enum-known-end c = search needs
 
--- src/lib.rt:572:24
 enum-told : tie.Need-enum-told
 enum-told c = search needs
 
--- src/lib.rt:572:9
 refused-requires : tie.Need-refused-requires
 refused-requires c κs = search needs
 
--- src/lib.rt:572:9
 returns : tie.Need-returns
 returns c =
     let a = c .before .before .before .before .before .args in
@@ -58,51 +46,39 @@ returns c =
     (front-none (a .last) (drop (a .start) (a .text .now))
     (c .before .before .before .line-end .ensures .cut ∙ ap (cutAt (a .text .now) (a .start)) (c .before .enum-told .given .1)))
 
--- src/lib.rt:574:25
 sub-read-fields : tie.Need-sub-read-fields
 sub-read-fields c = omega (arith, within (c .before))
 
--- src/lib.rt:574:25
 part-read-fields-start : tie.Need-part-read-fields-start
 part-read-fields-start c = within (c .before) .0
 
--- src/lib.rt:574:25
 part-read-fields-end : tie.Need-part-read-fields-end
 part-read-fields-end c = omega (arith, within (c .before))
 
--- src/lib.rt:574:9
 read-fields-requires : tie.Need-read-fields-requires
 read-fields-requires c κs = search needs
 
--- src/lib.rt:575:11
 read-head-requires : tie.Need-read-head-requires
 read-head-requires c κs = search needs
 
--- src/lib.rt:576:19
 enum-known-why : tie.Need-enum-known-why
 enum-known-why c = search needs
 
--- src/lib.rt:576:27
 refused-requires-2 : tie.Need-refused-requires-2
 refused-requires-2 c κs = search needs
 
--- src/lib.rt:577:20
 enum-known-out : tie.Need-enum-known-out
 enum-known-out c = search needs
 
--- src/lib.rt:578:38
 add-gate-lines : tie.Need-add-gate-lines
 add-gate-lines c = omega (arith, within (c .before .before .before .before .before .before .before))
 
--- src/lib.rt:578:17
 gate-lines-requires : tie.Need-gate-lines-requires
 gate-lines-requires c κs = omega (arith, within (c .before .before .before .before .before .before .before))
 
--- src/lib.rt:579:13
 read-end-requires : tie.Need-read-end-requires
 read-end-requires c κs = search needs
 
--- src/lib.rt:568:1
 returns-2 : tie.Need-returns-2
 returns-2 c =
     let h = c .before .before .before .before in
@@ -111,7 +87,6 @@ returns-2 c =
     next-refused (a .text .now) _ (c .refused2 .result) (c .before .before .why .given .0 .0) 1 (c .refused2 .ensures)
     (front-bad (a .last) (drop (a .start) (a .text .now)) (line-is e) (head-is h ∙ ap headStep (c .before .before .why .given .1)))
 
--- src/lib.rt:568:1
 returns-3 : tie.Need-returns-3
 returns-3 c =
     let l = c .before in

@@ -1,3 +1,4 @@
+-- `sheet::read_gate_head` meets its contract. Each refusal is the first test of the definition that fails. Assumes nothing.
 use Prim.Native.Nat.{ℕ, _≤_}
 use native.Mathlib.Omega.{arith}
 use mathlib.Core.Path.{_≡_, sym, ap, _∙_, subst}
@@ -19,10 +20,6 @@ use Rattle.sheet.proofs.GateLaws.{gate-none, gate-few, gate-kind, gate-
 use borrow.Author.Needs.{needs}
 use Rattle.sheet.proofs.read_gate_head.Statement.{statement}
 use Rattle.sheet.proofs.read_gate_head.Tie as tie
-use Rattle.sheet.proofs.read_gate_head.Reads as reads
-use Rattle.sheet.proofs.read_gate_head.Lts as lts
-use Rattle.sheet.proofs.counts.Reads as counts-reads
-use Rattle.sheet.proofs.read_kind.Reads as read-kind-reads
 
 -- the first two fields, where there are two
 two-are : (c : tie.Else2) (g : ℕ) → let f = c .before .before .args .t1 in
@@ -53,7 +50,6 @@ returns c =
       fanins = λ k n e. absurd (none-good k n _ e);
     }
 
--- src/lib.rt:186:9
 returns-2 : tie.Need-returns-2
 returns-2 c =
     let f = c .before .before .args .t1 in
@@ -63,46 +59,36 @@ returns-2 c =
       fanins = λ k n e. absurd (none-good k n _ e);
     }
 
--- src/lib.rt:188:17
 element-copy-out-first : tie.Need-element-copy-out-first
 element-copy-out-first c = search needs
 
--- src/lib.rt:189:18
 element-copy-out-second : tie.Need-element-copy-out-second
 element-copy-out-second c = search needs
 
--- src/lib.rt:190:30
 read-kind-requires : tie.Need-read-kind-requires
 read-kind-requires c κs = search needs
 
--- src/lib.rt:190:22
 enum-known-kind : tie.Need-enum-known-kind
 enum-known-kind c = search needs
 
--- src/lib.rt:191:30
 enum-told : tie.Need-enum-told
 enum-told c = search needs
 
--- src/lib.rt:191:9
 returns-3 : tie.Need-returns-3
 returns-3 c = record {
   step = λ g. two-are (c .before .before .before .before .before) g ∙ gate-kind g _ _ _ (c .before .before .read-kind .ensures ∙ ap kindStep (c .enum-told .given .1));
   fanins = λ k n e. absurd (none-good k n _ e);
 }
 
--- src/lib.rt:193:16
 cast-counts : tie.Need-cast-counts
 cast-counts c = search needs
 
--- src/lib.rt:193:38
 cast-counts-2 : tie.Need-cast-counts-2
 cast-counts-2 c = search needs
 
--- src/lib.rt:193:9
 counts-requires : tie.Need-counts-requires
 counts-requires c κs = search needs
 
--- src/lib.rt:194:9
 returns-4 : tie.Need-returns-4
 returns-4 c = record {
   step = λ g. two-are (c .before .before .before .before .before .before .before .before) g
@@ -110,11 +96,9 @@ returns-4 c = record {
   fanins = λ k n e. absurd (none-good k n _ e);
 }
 
--- src/lib.rt:197:8
 cast-if4 : tie.Need-cast-if4
 cast-if4 c = omega (arith, few c)
 
--- src/lib.rt:198:9
 returns-5 : tie.Need-returns-5
 returns-5 c =
     let s = c .before .before .before .before .before .before .before .before .before .before .before in
@@ -125,11 +109,9 @@ returns-5 c =
       fanins = λ k n e. absurd (none-good k n _ e);
     }
 
--- src/lib.rt:200:26
 cast-t26 : tie.Need-cast-t26
 cast-t26 c = search needs
 
--- src/lib.rt:176:1
 returns-6 : tie.Need-returns-6
 returns-6 c =
     let s = c .before .before .before .before .before .before .before .before .before .before .before in

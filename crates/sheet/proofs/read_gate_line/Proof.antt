@@ -1,3 +1,4 @@
+-- `sheet::read_gate_line` meets its contract. Assumes nothing.
 use Prim.Native.Nat.{ℕ, suc, _+_, _-_, _≤_, _<_}
 use native.Mathlib.Omega.{arith}
 use mathlib.Core.Path.{_≡_, sym, ap, _∙_}
@@ -15,12 +16,6 @@ use Rattle.sheet.proofs.GateLaws.{fanins-are, line-missing, line-bad, l
 use borrow.Author.Needs.{needs}
 use Rattle.sheet.proofs.read_gate_line.Statement.{statement}
 use Rattle.sheet.proofs.read_gate_line.Tie as tie
-use Rattle.sheet.proofs.read_gate_line.Reads as reads
-use Rattle.sheet.proofs.read_gate_line.Lts as lts
-use Rattle.sheet.proofs.bad_line.Reads as bad-line-reads
-use Rattle.sheet.proofs.line_end.Reads as line-end-reads
-use Rattle.sheet.proofs.read_fields.Reads as read-fields-reads
-use Rattle.sheet.proofs.read_gate_head.Reads as read-gate-head-reads
 
 -- the line that was found
 line-is : (c : tie.After-end) → let a = c .before .before .before .before .args in let end = c .end .given .0 .0 in
@@ -45,66 +40,51 @@ refused text start l b h = record {
   ends = omega (arith, b .ends);
 }
 
--- src/lib.rt:309:27
 line-end-requires : tie.Need-line-end-requires
 line-end-requires c κs = search needs
 
--- src/lib.rt:309:20
 enum-known-end : tie.Need-enum-known-end
 enum-known-end c = search needs
 
--- src/lib.rt:310:25
 enum-told : tie.Need-enum-told
 enum-told c = search needs
 
--- src/lib.rt:310:9
 bad-line-requires : tie.Need-bad-line-requires
 bad-line-requires c κs = search needs
 
--- src/lib.rt:310:9
 returns : tie.Need-returns
 returns c =
     let a = c .before .before .before .before .before .args in
     refused (a .text .now) (a .start) (c .bad-line .result) (c .bad-line .ensures)
     (λ g. line-missing g (drop (a .start) (a .text .now)) (c .before .before .before .line-end .ensures .cut ∙ ap (cutAt (a .text .now) (a .start)) (c .before .enum-told .given .1)))
 
--- src/lib.rt:312:25
 sub-read-fields : tie.Need-sub-read-fields
 sub-read-fields c = omega (arith, within (c .before))
 
--- src/lib.rt:312:25
 part-read-fields-start : tie.Need-part-read-fields-start
 part-read-fields-start c = within (c .before) .0
 
--- src/lib.rt:312:25
 part-read-fields-end : tie.Need-part-read-fields-end
 part-read-fields-end c = omega (arith, within (c .before))
 
--- src/lib.rt:312:9
 read-fields-requires : tie.Need-read-fields-requires
 read-fields-requires c κs = search needs
 
--- src/lib.rt:314:11
 read-gate-head-requires : tie.Need-read-gate-head-requires
 read-gate-head-requires c κs = search needs
 
--- src/lib.rt:315:23
 enum-known-why : tie.Need-enum-known-why
 enum-known-why c = search needs
 
--- src/lib.rt:315:31
 bad-line-requires-2 : tie.Need-bad-line-requires-2
 bad-line-requires-2 c κs = search needs
 
--- src/lib.rt:316:24
 enum-known-kind : tie.Need-enum-known-kind
 enum-known-kind c = search needs
 
--- src/lib.rt:320:18
 add-t18 : tie.Need-add-t18
 add-t18 c = omega (arith, within (c .before .before .before .before .before .before .before .before))
 
--- src/lib.rt:306:1
 returns-2 : tie.Need-returns-2
 returns-2 c =
     let h = c .before .before .before .before in
@@ -114,7 +94,6 @@ returns-2 c =
     (λ g. line-bad g (drop (a .start) (a .text .now)) (line-is e)
     (head-is h g ∙ ap (gateHeadStep g (h .before .before .read-fields .result)) (c .before .before .why .given .1)))
 
--- src/
 returns-3 : tie.Need-returns-3
 returns-3 c =
     let h = c .before .before .before in

@@ -1,3 +1,4 @@
+-- `sheet::read_head` meets its contract. Each refusal is the first test of the definition that fails. Assumes nothing.
 use native.Mathlib.Omega.{arith}
 use mathlib.Core.Path.{_≡_, sym, ap, _∙_, subst}
 use mathlib.Core.Bool.{Bool, true}
@@ -14,10 +15,6 @@ use Rattle.sheet.proofs.HeadLaws.{fieldAt, fields-none, fields-some, va
 use borrow.Author.Needs.{needs}
 use Rattle.sheet.proofs.read_head.Statement.{statement}
 use Rattle.sheet.proofs.read_head.Tie as tie
-use Rattle.sheet.proofs.read_head.Reads as reads
-use Rattle.sheet.proofs.read_head.Lts as lts
-use Rattle.sheet.proofs.counts.Reads as counts-reads
-use Rattle.sheet.proofs.within.Reads as within-reads
 
 -- the two fields, where there are two
 pair-is : (c : tie.Else2) → headOf (fieldsOf (c .before .before .args .t1)) ≡ headOf (some (fieldAt (c .before .before .args .t1) 0 ∷ fieldAt (c .before .before .args .t1) 1 ∷ []))
@@ -37,7 +34,6 @@ T-of e = subst T (sym e) tt
 returns : tie.Need-returns
 returns c = ap headOf (fields-none (c .before .args .t1) (not-true _ (c .if1 .taken))) ∙ head-none
 
--- src/lib.rt:137:9
 returns-2 : tie.Need-returns-2
 returns-2 c =
     let f = c .before .before .args .t1 in
@@ -45,55 +41,44 @@ returns-2 c =
     ap headOf (fields-some f (not-false _ (c .before .if1 .left)))
     ∙ head-other (valuesOf f) (λ e. c .if2 .taken (sym (values-count f r) ∙ e))
 
--- src/lib.rt:139:15
 element-copy-out-out : tie.Need-element-copy-out-out
 element-copy-out-out c = search needs
 
--- src/lib.rt:140:17
 element-copy-out-gates : tie.Need-element-copy-out-gates
 element-copy-out-gates c = search needs
 
--- src/lib.rt:142:19
 cast-within : tie.Need-cast-within
 cast-within c = search needs
 
--- src/lib.rt:142:9
 within-requires : tie.Need-within-requires
 within-requires c κs = search needs
 
--- src/lib.rt:143:9
 returns-3 : tie.Need-returns-3
 returns-3 c =
     let e = c .before .before .before .before in
     pair-is e ∙ head-net _ _ (sym (c .before .within .ensures) ∙ not-true _ (c .if3 .taken))
 
--- src/lib.rt:145:19
 cast-counts : tie.Need-cast-counts
 cast-counts c = search needs
 
--- src/lib.rt:145:9
 counts-requires : tie.Need-counts-requires
 counts-requires c κs = search needs
 
--- src/lib.rt:146:9
 returns-4 : tie.Need-returns-4
 returns-4 c =
     let e = c .before .before .before .before .before .before in
     pair-is e ∙ head-count _ _ (net-good (c .before .before)) (sym (c .before .counts .ensures) ∙ not-true _ (c .if4 .taken))
 
--- src/lib.rt:149:16
 cast-t21 : tie.Need-cast-t21
 cast-t21 c =
     let x = fieldAt (c .before .before .before .before .before .before .before .before .args .t1) 0 in
     omega (arith, within-holds 1 greatestNet (x .magnitude) (T-of (net-good (c .before .before))))
 
--- src/lib.rt:149:42
 cast-t22 : tie.Need-cast-t22
 cast-t22 c =
     let x = fieldAt (c .before .before .before .before .before .before .before .before .args .t1) 1 in
     omega (arith, counts-holds 1 mostGates x (T-of (count-good c)))
 
--- src/lib.rt:127:1
 returns-5 : tie.Need-returns-5
 returns-5 c =
     let e = c .before .before .before .before .before .before in

@@ -1,3 +1,4 @@
+-- `sheet::read_next` meets its contract. Assumes nothing.
 use mathlib.Core.Path.{subst}
 use lib.ListN.{drop}
 use Rattle.sheet.specs.Promise.{NextRead}
@@ -5,15 +6,10 @@ use Rattle.sheet.proofs.SheetLaws.{front-next}
 use borrow.Author.Needs.{needs}
 use Rattle.sheet.proofs.read_next.Statement.{statement}
 use Rattle.sheet.proofs.read_next.Tie as tie
-use Rattle.sheet.proofs.read_next.Reads as reads
-use Rattle.sheet.proofs.read_next.Lts as lts
-use Rattle.sheet.proofs.read_front.Reads as read-front-reads
 
--- src/lib.rt:598:5
 read-front-requires : tie.Need-read-front-requires
 read-front-requires c κs = search needs
 
--- src/lib.rt:595:1
 returns : tie.Need-returns
 returns c =
     let a = c .before .before .args in

@@ -1,3 +1,4 @@
+-- `sheet::with_leaf` meets its contract. Assumes nothing.
 use Prim.Native.Nat.{_+_}
 use native.Mathlib.Omega.{arith}
 use mathlib.Core.Path.{sym, ap}
@@ -6,26 +7,19 @@ use Rattle.sheet.specs.Sheet.{netOf}
 use borrow.Author.Needs.{needs}
 use Rattle.sheet.proofs.with_leaf.Statement.{statement}
 use Rattle.sheet.proofs.with_leaf.Tie as tie
-use Rattle.sheet.proofs.with_leaf.Reads as reads
-use Rattle.sheet.proofs.with_leaf.Lts as lts
 
--- src/lib.rt:332:27
 enum-told : tie.Need-enum-told
 enum-told c = search needs
 
--- src/lib.rt:332:27
 add-result : tie.Need-add-result
 add-result c = search needs
 
--- src/lib.rt:333:28
 enum-told-2 : tie.Need-enum-told-2
 enum-told-2 c = search needs
 
--- src/lib.rt:327:1
 returns : tie.Need-returns
 returns c = sym (ap (λ s. c .before .before .args .leaves + length (netOf s)) (c .enum-told .given .1))
 
--- src/lib.rt:327:1
 returns-2 : tie.Need-returns-2
 returns-2 c = omega (arith, ap (λ s. length (netOf s)) (c .enum-told2 .given .1))
 

@@ -1,14 +1,11 @@
+-- `sheet::within` meets its contract. Assumes nothing.
 use borrow.Author.Tests.{le-leb, lt-leb}
 use Rattle.sheet.proofs.within.Statement.{statement}
 use Rattle.sheet.proofs.within.Tie as tie
-use Rattle.sheet.proofs.within.Reads as reads
-use Rattle.sheet.proofs.within.Lts as lts
 
--- src/lib.rt:106:9
 returns : tie.Need-returns
 returns c = simp (lt-leb _ _ (c .if1 .taken))
 
--- src/lib.rt:102:1
 returns-2 : tie.Need-returns-2
 returns-2 c = simp (le-leb _ _ (c .if1 .left))
 
