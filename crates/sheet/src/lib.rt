@@ -6,7 +6,7 @@ ghost use lib.ListN.{length, drop};
 ghost use Rattle.sheet.specs.Read.{within, counts, headOf, kindOf, sourceOf};
 ghost use Rattle.sheet.specs.Cut.{readNext};
 ghost use Rattle.sheet.specs.Promise.{SheetRead, NextRead};
-ghost use Rattle.sheet.specs.Answers.{noFanins, noGates, noSheet};
+ghost use Rattle.sheet.specs.Answers.{numberOf, noFanins, noGates, noSheet};
 ghost use Rattle.sheet.specs.Limits.{mostGates, mostLeaves};
 ghost use Rattle.sheet.specs.Sheet.{netOf};
 ghost use Rattle.sheet.specs.Inside.{LineEnds, valueOf, fieldsOf, Room, FieldsRead, headStep, kindStep, GateHeadRead, LineRefused, GateLineRead, sourceStep, FaninRead, GatesRead, UnreadFound, more, EndRead, readFront};
@@ -57,7 +57,7 @@ pub struct Sheet {
     pub gates: [Gate; MOST_GATES],
 }
 
-// Why a text is no sheet. Its number in 01 is `numberOf` in specs/Refusals.
+// Why a text is no sheet. Its number in 01 is `numberOf` in specs/Answers.
 pub enum Refusal {
     Layout,
     OutputNet,
@@ -70,6 +70,25 @@ pub enum Refusal {
     OutputLeaf,
     LeafCount,
     GateUnread,
+}
+
+// The number of a refusal in 01.
+pub fn number(why: Refusal) -> u8
+    ensures { λ r. ⌜ r ≡ numberOf why ⌝ }
+{
+    match why {
+        Refusal::Layout => 1,
+        Refusal::OutputNet => 4,
+        Refusal::GateCount => 5,
+        Refusal::GateKind => 6,
+        Refusal::FaninCount => 7,
+        Refusal::NoSource => 8,
+        Refusal::GateTwice => 9,
+        Refusal::NetTwice => 10,
+        Refusal::OutputLeaf => 11,
+        Refusal::LeafCount => 12,
+        Refusal::GateUnread => 13,
+    }
 }
 
 // A refusal gives the line, from 1.
@@ -158,10 +177,10 @@ fn read_fields(line: &[u8]) -> Fields
         if MOST_FIELDS <= count {
             return no_fields();
         }
-        if line.len() - at < COLUMNS {
+        if line.len() - at < decimal::COLUMNS {
             return no_fields();
         }
-        let end = at + COLUMNS;
+        let end = at + decimal::COLUMNS;
         let decimal::Field::Value(v) = decimal::read(&line[at..end]) else {
             return no_fields();
         };

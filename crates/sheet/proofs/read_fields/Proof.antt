@@ -1,20 +1,14 @@
--- `sheet::read_fields` meets its contract. The loop's invariant, `SoFar`: the fields of the line are the numbers read, and then those of the bytes left. Assumes nothing.
-use Prim.Native.Nat.{ℕ, _+_, _-_, _^_, _<_}
+-- `sheet::read_fields` meets its contract. The loop's invariant, `SoFar`: the fields of the line are the numbers read, and then
+-- those of the bytes left. Assumes nothing.
+use Prim.Native.Nat.{ℕ, _+_, _-_}
 use native.Mathlib.Omega.{arith}
 use borrow.Author.Needs.{needs}
-use mathlib.Core.Path.{_≡_, sym, ap, ap₂, _∙_}
-use mathlib.Core.Bool.{Bool}
-use mathlib.Core.Option.{some}
+use mathlib.Core.Path.{_≡_, sym, ap, _∙_}
 use mathlib.Core.List.{List}
 use lib.ListN.{length, take, drop, length-drop}
-use lib.IntN.{ℤ, pos, negsuc}
-use mir.Syntax.{w32}
-use mir.Val.{SFits}
-use mir.Facts.{toZ-ofZ}
-use Rattle.decimal.specs.Number.{Number, columns}
-use Rattle.decimal.specs.Reading.{numberOf, fieldRead}
-use Rattle.decimal.specs.ReadingLaws.{read-value, read-within, read-none}
-use Rattle.sheet.specs.declared.FieldValue.{FieldValue}
+use Rattle.decimal.specs.Number.{columns}
+use Rattle.decimal.specs.Reading.{fieldRead}
+use Rattle.decimal.specs.ReadingLaws.{read-number, read-none}
 use Rattle.sheet.specs.Line.{fields}
 use Rattle.sheet.proofs.HeadLaws.{fields-none}
 use Rattle.sheet.proofs.FieldLaws.{SoFar, short-none, empty-list, nonempty, so-far-start, so-far-none, so-far-full, so-far-bad, so-far-more, so-far-all}
@@ -30,13 +24,6 @@ abbrev μ-loop : tie.MeasureT-loop
 -- the line, and the loop's variables
 abbrev the-line : tie.At-loop Inv-loop μ-loop → List ℕ
 the-line c = c .before .before .before .args .line .now
-
-abbrev number : Bool → ℕ → Number
-number b m = record { negative = b; magnitude = m }
-
-value-fits : (z : ℤ) → numberOf z .magnitude < 10 ^ columns → SFits w32 z
-value-fits (pos n) l = record { sfits = omega arith }
-value-fits (negsuc n) l = record { sfits = omega arith }
 
 -- what stands in the next columns
 field-read : (c : tie.After-read Inv-loop μ-loop) → let a = c .before .before .before .before .before in
@@ -134,14 +121,8 @@ loop-again c =
     let r = v .before .before in
     let a = r .before .before .before .before .before in
     let h = a .loop .inv in
-    let e = sym (field-read r) ∙ v .v .given .1 in
-    let bytes = take columns (drop (a .loop .at) (the-line a)) in
-    -- the value as the machine holds it
-    let z = toZ-ofZ (value-fits (v .v .given .0 .0) (read-within bytes e .size)) in
     so-far-more h (omega arith) (omega arith) (record { negative = c .before .negative .result; magnitude = c .magnitude .result })
-    (read-value bytes e
-    ∙ ap some (ap₂ number (sym (ap (λ n. numberOf n .negative) z)) (sym (ap (λ n. numberOf n .magnitude) z))
-    ∙ ap₂ number (sym (c .before .negative .ensures)) (sym (c .magnitude .ensures))))
+    (read-number (take columns (drop (a .loop .at) (the-line a))) (sym (field-read r) ∙ v .v .given .1) (c .before .negative .ensures) (c .magnitude .ensures))
     (omega arith)
 
 returns-5 : tie.Need-returns-5 Inv-loop μ-loop
