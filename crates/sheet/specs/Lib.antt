@@ -8,11 +8,13 @@ pub mod Answers
 pub mod Promise
 pub mod Inside
 pub mod Trees
+pub mod Values
 pub mod Formed
 pub mod NumberLaws
 pub mod StepLaws
 pub mod ReadLaws
 pub mod RefusalLaws
 pub mod TreeLaws
+pub mod ValueLaws
 pub mod CutLaws
 pub mod Checks
