@@ -1,0 +1,225 @@
+// Runs a script of steps on one part, and prints what each step answers. A line of the script is eleven fields: the step, then its
+// numbers.
+//    0 K capacity                            open the part                       prints 0 or minus the refusal's number
+//    1 K · 2 capacity · 3 used               set a field of the part
+//    4 t net count input .. input truth      set record t
+//    5 t                                     set the truth table of record t to 2^64 - 1
+//    6 n                                     set the records 1 to n to a table of nets 1 and 2
+//    7                                       prints 1 where the part is sound, else 0
+//    8 line length place                     write a line into a buffer          prints the count or minus the number, and the buffer
+//    9 length place                          write the list into a buffer        the same
+ghost use Prim.Native.Nat.{_≤_};
+use decimal::Field;
+use libc::STDOUT_FILENO;
+use listing::Answer;
+use part::Opening;
+use part::Part;
+use table::Table;
+
+const FIELDS: usize = 11;
+
+const LINE: usize = 67;
+
+// The number in a field of a line, 0 where there is none.
+fn field(s: &[u8], i: usize) -> u32 {
+    if i >= FIELDS {
+        return 0;
+    }
+    let start = 6 * i;
+    let end = start + 6;
+    if s.len() < end {
+        return 0;
+    }
+    let f = decimal::read(&s[start..end]);
+    match f {
+        Field::Value(v) => decimal::magnitude(v),
+        Field::NoNumber => 0,
+    }
+}
+
+fn low16(x: u32) -> u16 {
+    (x % 65536) as u16
+}
+
+fn low8(x: u32) -> u8 {
+    (x % 256) as u8
+}
+
+// A number on a line of its own.
+fn say(v: i32) {
+    let mut b = [b' '; 6];
+    decimal::write_signed(&mut b, v);
+    io::write_all(STDOUT_FILENO, &b);
+    io::write_all(STDOUT_FILENO, b"\n");
+}
+
+fn opening(a: Opening) -> i32 {
+    match a {
+        Opening::Accepted => 0,
+        Opening::KOutOfRange => -2,
+        Opening::CapacityOutOfRange => -3,
+    }
+}
+
+// The count, which is below 100,000, or minus the refusal's number.
+fn written(a: Answer) -> i32 {
+    match a {
+        Answer::Wrote(n) => (n % 100000) as i32,
+        Answer::NotSound => -20,
+        Answer::NoLine => -15,
+        Answer::NoRoom => -14,
+    }
+}
+
+fn record(s: &[u8]) -> Table {
+    Table {
+        net: low16(field(s, 2)),
+        count: low8(field(s, 3)),
+        inputs: [
+            low16(field(s, 4)),
+            low16(field(s, 5)),
+            low16(field(s, 6)),
+            low16(field(s, 7)),
+            low16(field(s, 8)),
+            low16(field(s, 9)),
+        ],
+        truth: field(s, 10) as u64,
+    }
+}
+
+// The part with the record t, from 1, set; unchanged where there is no such record.
+fn with_record(mut p: Part, t: u32, r: Table) -> Part {
+    if t < 1 {
+        return p;
+    }
+    if t > 800 {
+        return p;
+    }
+    let at = (t - 1) as usize;
+    p.tables[at] = r;
+    p
+}
+
+fn with_full_truth(p: Part, t: u32) -> Part {
+    if t < 1 {
+        return p;
+    }
+    if t > 800 {
+        return p;
+    }
+    let at = (t - 1) as usize;
+    let mut r = p.tables[at];
+    r.truth = u64::MAX;
+    with_record(p, t, r)
+}
+
+// The part with its first n records set to the AND of the nets 1 and 2, which drive no net.
+fn filled(mut p: Part, n: u32) -> Part {
+    let r = Table {
+        net: 0,
+        count: 2,
+        inputs: [1, 2, 0, 0, 0, 0],
+        truth: 8,
+    };
+    let mut t: usize = 0;
+    let many = if n < 800 { n as usize } else { 800 };
+    while t < many {
+        p.tables[t] = r;
+        t += 1;
+    }
+    p
+}
+
+fn with_field(mut p: Part, which: u32, x: u32) -> Part {
+    match which {
+        1 => p.k = low8(x),
+        2 => p.capacity = low16(x),
+        _ => p.used = low16(x),
+    }
+    p
+}
+
+// The answer, and the buffer's first bytes.
+fn show(a: Answer, buf: &[u8]) {
+    say(written(a));
+    io::write_all(STDOUT_FILENO, buf);
+    io::write_all(STDOUT_FILENO, b"\n");
+}
+
+// As many bytes as asked for, if the buffer has them.
+fn room(n: u32, len: usize) -> usize
+    ensures { λ r. ⌜ r ≤ len ⌝ }
+{
+    let asked = n as usize;
+    if asked < len { asked } else { len }
+}
+
+fn line_into(p: Part, s: &[u8], buf: &mut [u8]) {
+    let a = listing::write_line(p, field(s, 1), &mut *buf, field(s, 3) as usize);
+    show(a, buf);
+}
+
+fn list_into(p: Part, s: &[u8], buf: &mut [u8]) {
+    let a = listing::write_list(p, &mut *buf, field(s, 2) as usize);
+    show(a, buf);
+}
+
+fn write_line(p: Part, s: &[u8], buf: &mut [u8]) {
+    let n = room(field(s, 2), buf.len());
+    line_into(p, s, &mut buf[..n]);
+}
+
+fn write_list(p: Part, s: &[u8], buf: &mut [u8]) {
+    let n = room(field(s, 1), buf.len());
+    list_into(p, s, &mut buf[..n]);
+}
+
+fn open(s: &[u8]) -> Part {
+    let o = Part::open(field(s, 1), field(s, 2));
+    let a = o.answer;
+    say(opening(a));
+    o.part
+}
+
+// One step of the script.
+fn step(p: Part, s: &[u8]) -> Part {
+    match field(s, 0) {
+        0 => open(s),
+        1 => with_field(p, 1, field(s, 1)),
+        2 => with_field(p, 2, field(s, 1)),
+        3 => with_field(p, 3, field(s, 1)),
+        4 => with_record(p, field(s, 1), record(s)),
+        5 => with_full_truth(p, field(s, 1)),
+        6 => filled(p, field(s, 1)),
+        _ => shown(p, s),
+    }
+}
+
+// A step that only prints.
+fn shown(p: Part, s: &[u8]) -> Part {
+    let mut buf = [b'.'; 4096];
+    match field(s, 0) {
+        7 => say(if p.sound() { 1 } else { 0 }),
+        8 => write_line(p, s, &mut buf),
+        _ => write_list(p, s, &mut buf),
+    }
+    p
+}
+
+// The lines of the script, one after another, from a part of all zeros.
+fn run(script: &[u8]) {
+    let o = Part::open(0, 0);
+    let mut p = o.part;
+    let mut at: usize = 0;
+    while LINE <= script.len() - at {
+        let end = at + LINE;
+        p = step(p, &script[at..end]);
+        at = end;
+    }
+}
+
+fn main() {
+    let mut script = io::large_buffer();
+    let n = io::read_full(0, &mut script);
+    run(&script[..n]);
+}
