@@ -1,0 +1,30 @@
+//! An independent implementation of Pailinstant's paper 01, written from the paper alone: it shares nothing with the proved code.
+//!
+//! `program::map` answers a whole input as the mapping program has to. 01 leaves free which least cover is taken and in which order
+//! its tables stand, so another mapper's list is not compared with ours: `check::check_list` tests it against the input.
+
+pub mod check;
+pub mod cover;
+pub mod exhaustive;
+pub mod least;
+pub mod part;
+pub mod program;
+pub mod refusal;
+pub mod rng;
+pub mod sheet;
+pub mod text;
+
+/// The greatest net.
+pub const NETS: i64 = 999;
+/// Gate g is the fanin `CODES + g`, table t the input `CODES + t`.
+pub const CODES: i64 = 1000;
+/// The most gates of a sheet.
+pub const GATES: usize = 255;
+/// The most leaves of a sheet.
+pub const LEAVES: usize = 256;
+/// The most fanins of a gate.
+pub const FANINS: usize = 10;
+/// The most inputs of a table.
+pub const INPUTS: usize = 6;
+/// The most tables of a part.
+pub const TABLES: usize = 800;

@@ -1,0 +1,198 @@
+//! The search against every splitting and every cover of small trees, and the checker against their tables.
+
+use outside::check::{check_list, sheet_tables};
+use outside::exhaustive::{covers, least, splittings};
+use outside::part::{Part, Table};
+use outside::sheet::{Edge, Gate, Kind, Sheet, Source};
+
+/// A drawn tree without names.
+#[derive(Clone, Debug, PartialEq, Eq, PartialOrd, Ord)]
+enum Shape {
+    Leaf,
+    Gate(Vec<Shape>),
+}
+
+/// All trees with `leaves` leaves whose gates have two fanins or more, up to the order of fanins.
+fn shapes(leaves: usize) -> Vec<Shape> {
+    if leaves == 1 {
+        return vec![Shape::Leaf];
+    }
+    let mut all: Vec<Shape> = groups(leaves, leaves - 1).into_iter().map(Shape::Gate).collect();
+    for shape in &mut all {
+        if let Shape::Gate(fanins) = shape {
+            fanins.sort();
+        }
+    }
+    all.sort();
+    all.dedup();
+    all
+}
+
+/// All lists of trees that have `leaves` leaves together, the first with at most `most`, none with more than the one before.
+fn groups(leaves: usize, most: usize) -> Vec<Vec<Shape>> {
+    if leaves == 0 {
+        return vec![Vec::new()];
+    }
+    let mut all = Vec::new();
+    for first in 1..=most.min(leaves) {
+        for shape in shapes(first) {
+            for rest in groups(leaves - first, first) {
+                all.push([vec![shape.clone()], rest].concat());
+            }
+        }
+    }
+    all
+}
+
+/// Adds the gates of `shape`; the bits of `marks` say which gates are OR and which edges are inverted.
+fn draw(shape: &Shape, sheet: &mut Sheet, nets: &mut u16, marks: &mut u64) -> Source {
+    let Shape::Gate(fanins) = shape else {
+        *nets += 1;
+        return Source::Net(*nets);
+    };
+    let mut edges = Vec::new();
+    for fanin in fanins {
+        let source = draw(fanin, sheet, nets, marks);
+        edges.push(Edge { inverted: mark(marks), source });
+    }
+    let kind = if mark(marks) { Kind::Or } else { Kind::And };
+    sheet.gates.push(Gate { kind, fanins: edges });
+    Source::Gate(sheet.gates.len() - 1)
+}
+
+fn mark(marks: &mut u64) -> bool {
+    let bit = *marks & 1 == 1;
+    *marks = marks.rotate_right(1);
+    bit
+}
+
+fn sheet(shape: &Shape, mut marks: u64) -> Sheet {
+    let mut sheet = Sheet { net: 999, inverted: mark(&mut marks), gates: Vec::new() };
+    draw(shape, &mut sheet, &mut 0, &mut marks);
+    sheet
+}
+
+const MARKS: [u64; 3] = [0, 0x5a3c_96e1_0f2d_b487, 0xc3d2_e1f0_5a69_7887];
+
+#[test]
+fn small_shapes() {
+    let counts: Vec<usize> = (1..=7).map(|leaves| shapes(leaves).len()).collect();
+    assert_eq!(counts, [1, 1, 2, 5, 12, 33, 90]);
+    let flat = sheet(&Shape::Gate(vec![Shape::Leaf; 5]), 0);
+    assert_eq!(splittings(&flat).len(), 236);
+}
+
+/// On every tree of up to six leaves and at every K, the search finds the least number over all splittings and covers.
+#[test]
+fn the_search_is_right_on_small_trees() {
+    for leaves in 2..=6 {
+        for shape in shapes(leaves) {
+            let sheet = sheet(&shape, 0);
+            let splittings = splittings(&sheet);
+            for k in 2..=6 {
+                assert_eq!(outside::least::least(&sheet, k), least(&splittings, k), "K {k}, {shape:?}");
+                assert_eq!(outside::least::least_by_width(&sheet, k), least(&splittings, k), "K {k}, {shape:?}");
+            }
+        }
+    }
+}
+
+/// The tables of every cover of every splitting of up to five leaves are taken, and those of each least cover make a good list.
+#[test]
+fn every_cover_is_taken() {
+    for leaves in 2..=5 {
+        for shape in shapes(leaves) {
+            for marks in MARKS {
+                every_cover_of(&sheet(&shape, marks));
+            }
+        }
+    }
+}
+
+fn every_cover_of(sheet: &Sheet) {
+    let splittings = splittings(sheet);
+    for k in 2..=6 {
+        let least = least(&splittings, k);
+        for (node, choice, count) in covers(&splittings, k) {
+            let tables = node.tables(choice, 3, sheet.net, sheet.inverted);
+            assert_eq!(tables.len(), count);
+            assert_eq!(sheet_tables(sheet, 3, &tables), Ok(()), "{sheet:?} {tables:?}");
+            let tables = node.tables(choice, 0, sheet.net, sheet.inverted);
+            let list = Part { k, capacity: 9, tables }.list();
+            let input = format!("{k:>6}     9\n{}", sheet.text());
+            assert_eq!(check_list(input.as_bytes(), list.as_bytes()).is_ok(), count == least, "{input}{list}");
+        }
+    }
+}
+
+/// No other truth table, input or net is taken in any table of any cover of up to four leaves, unless it is another cover's.
+#[test]
+fn nothing_else_is_taken() {
+    for leaves in 2..=4 {
+        for shape in shapes(leaves) {
+            for marks in MARKS {
+                let sheet = sheet(&shape, marks);
+                let splittings = splittings(&sheet);
+                let all: Vec<Vec<Table>> =
+                    covers(&splittings, 6).map(|(node, choice, _)| node.tables(choice, 0, sheet.net, sheet.inverted)).collect();
+                for tables in &all {
+                    for changed in changes(tables) {
+                        let taken = sheet_tables(&sheet, 0, &changed).is_ok();
+                        assert!(!taken || all.contains(&changed), "{sheet:?} {changed:?}");
+                    }
+                }
+            }
+        }
+    }
+}
+
+/// Lists with one bit of a truth table turned over, another input, another net, or a table left out or put twice.
+fn changes(tables: &[Table]) -> Vec<Vec<Table>> {
+    let mut all = Vec::new();
+    for (index, table) in tables.iter().enumerate() {
+        let mut with = |table: Table| {
+            let mut tables = tables.to_vec();
+            tables[index] = table;
+            all.push(tables);
+        };
+        for bit in 0..1 << table.inputs.len() {
+            with(Table { truth: table.truth ^ 1 << bit, ..table.clone() });
+        }
+        with(Table { truth: table.truth ^ ((1 << (1 << table.inputs.len())) - 1), ..table.clone() });
+        for place in 0..table.inputs.len() {
+            for other in (1..=5).chain(1001..=1003) {
+                let mut inputs = table.inputs.clone();
+                inputs[place] = other;
+                if inputs != table.inputs && inputs.is_sorted() {
+                    with(Table { inputs, ..table.clone() });
+                }
+            }
+        }
+        with(Table { net: 998 - table.net.min(998), ..table.clone() });
+        let mut fewer = tables.to_vec();
+        fewer.remove(index);
+        all.push(fewer);
+        let mut more = tables.to_vec();
+        more.insert(index, table.clone());
+        all.push(more);
+    }
+    all
+}
+
+/// A tree whose values are right, but whose inner table is inverted in both the table that gives it and the one that reads it.
+#[test]
+fn inverted_twice_is_found() {
+    let gates = vec![
+        Gate { kind: Kind::And, fanins: vec![edge(Source::Net(1)), edge(Source::Net(2))] },
+        Gate { kind: Kind::And, fanins: vec![edge(Source::Gate(0)), edge(Source::Net(3))] },
+    ];
+    let sheet = Sheet { net: 9, inverted: false, gates };
+    let inner = |truth| Table { net: 0, inputs: vec![1, 2], truth };
+    let root = |truth| Table { net: 9, inputs: vec![3, 1001], truth };
+    assert_eq!(sheet_tables(&sheet, 0, &[inner(8), root(8)]), Ok(()));
+    assert!(sheet_tables(&sheet, 0, &[inner(7), root(2)]).is_err());
+}
+
+fn edge(source: Source) -> Edge {
+    Edge { inverted: false, source }
+}
