@@ -6,14 +6,20 @@
 
 use crate::part::{read_list, Part, Table};
 use crate::program::{self, Accepted};
+use crate::refusal::Refusal;
 use crate::rng::Rng;
 use crate::sheet::{Edge, Kind, Sheet, Source};
 use crate::{CODES, NETS};
 
 /// Tests what a mapper printed for `input`: a refusal byte for byte, a list by its rules.
 pub fn check_output(input: &[u8], printed: &[u8]) -> Result<(), String> {
-    match program::read(input) {
-        Ok(accepted) => check_accepted(&accepted, printed),
+    check_answer(&program::read(input), printed)
+}
+
+/// The same, where the input has been read.
+pub fn check_answer(answer: &Result<Accepted, Refusal>, printed: &[u8]) -> Result<(), String> {
+    match answer {
+        Ok(accepted) => check_accepted(accepted, printed),
         Err(refusal) if printed == refusal.line().as_bytes() => Ok(()),
         Err(refusal) => Err(format!("printed {:?} where {:?} is right", start(printed), refusal.line())),
     }

@@ -6,7 +6,10 @@
 pub mod check;
 pub mod cover;
 pub mod exhaustive;
+pub mod generate;
 pub mod least;
+#[cfg(feature = "linked")]
+pub mod linked;
 pub mod part;
 pub mod program;
 pub mod refusal;

@@ -1,0 +1,20 @@
+//! The proved mapper, called from Rust through the archive that `rt staticlib` writes.
+
+use std::ffi::c_ulong;
+
+extern "C" {
+    /// Writes what the mapping program prints for the `input_len` bytes at `input` to `output`, which has room for `output_len`
+    /// bytes, and gives how many bytes it wrote.
+    fn pailinstant_map(input: *const u8, input_len: usize, output: *mut u8, output_len: usize) -> c_ulong;
+}
+
+/// The bytes of the longest list: line 0 of three fields, and 800 lines of nine fields, 21 columns and a line feed.
+pub const LONGEST: usize = 19 + crate::TABLES * (9 * 6 + 21 + 1);
+
+/// What the mapping program prints for `input`, written to the front of `output`; `output` has `LONGEST` bytes or more.
+pub fn map<'a>(input: &[u8], output: &'a mut [u8]) -> &'a [u8] {
+    assert!(output.len() >= LONGEST, "room for the longest list");
+    // SAFETY: both pointers are to bytes that are ours for the whole call, as many as the lengths say, and the two do not overlap.
+    let count = unsafe { pailinstant_map(input.as_ptr(), input.len(), output.as_mut_ptr(), output.len()) };
+    &output[..count as usize]
+}
