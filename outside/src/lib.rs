@@ -3,9 +3,12 @@
 //! `program::map` answers a whole input as the mapping program has to. 01 leaves free which least cover is taken and in which order
 //! its tables stand, so another mapper's list is not compared with ours: `check::check_list` tests it against the input.
 
+pub mod blif;
 pub mod check;
 pub mod cover;
+pub mod dot;
 pub mod exhaustive;
+pub mod explain;
 pub mod generate;
 pub mod least;
 #[cfg(feature = "linked")]
@@ -16,6 +19,7 @@ pub mod refusal;
 pub mod rng;
 pub mod sheet;
 pub mod text;
+pub mod tool;
 
 /// The greatest net.
 pub const NETS: i64 = 999;

@@ -12,6 +12,7 @@ use std::process::{Command, ExitCode, Stdio};
 use outside::check::check_answer;
 use outside::generate::case;
 use outside::program;
+use outside::tool::write_file;
 
 struct Options {
     count: u64,
@@ -98,7 +99,7 @@ fn run_cases(options: &mut Options) -> Result<usize, String> {
         failed += 1;
         println!("seed {} case {index} ({}): {fault}", options.seed, case.name);
         let file = format!("{}/case-{}-{index}", options.save, options.seed);
-        std::fs::write(&file, &case.input).map_err(|error| format!("{file}: {error}"))?;
+        write_file(&file, &case.input)?;
         if failed == 10 {
             break;
         }
