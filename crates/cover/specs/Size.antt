@@ -34,7 +34,7 @@ module _ (base : ℕ) where
     codes-length (net n) = refl
     codes-length (top m k fs) = code-length m (codes* base fs) (widths fs) (codes-length* fs)
 
-    codes-length* : (fs : Fanins) → length (codes* base fs) ≡ widths fs
+    pub codes-length* : (fs : Fanins) → length (codes* base fs) ≡ widths fs
     codes-length* end = refl
     codes-length* (old i c fs) = simp length-append (omega (arith, codes-length c, codes-length* fs))
     codes-length* (new m s fs) = simp length-append (omega (arith, code-length m (codes* base s) (widths s) (codes-length* s), codes-length* fs))

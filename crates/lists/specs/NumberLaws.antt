@@ -19,13 +19,25 @@ module _ {A : Type 0} (f : A → ℕ) where
   sum-append [] zs = omega arith
   sum-append (y ∷ ys) zs = omega (arith, sum-append ys zs)
 
-  sum-inserted : {y : A} {ys zs : List A} → Inserted y ys zs → sum f ys ≡ sum f (y ∷ zs)
+  pub sum-inserted : {y : A} {ys zs : List A} → Inserted y ys zs → sum f ys ≡ sum f (y ∷ zs)
   sum-inserted here = refl
   sum-inserted (there i) = omega (arith, sum-inserted i)
 
   pub sum-permuted : {ys zs : List A} → Permuted ys zs → sum f ys ≡ sum f zs
   sum-permuted empty = refl
   sum-permuted (more i p) = omega (arith, sum-inserted i, sum-permuted p)
+
+pub sum-same : {A : Type 0} (f g : A → ℕ) (xs : List A) → Every (λ x. f x ≡ g x) xs → sum f xs ≡ sum g xs
+sum-same f g [] h = refl
+sum-same f g (x ∷ xs) h = omega (arith, every-head h, sum-same f g xs (every-tail h))
+
+pub sum-none : {A : Type 0} (xs : List A) → sum (λ x. 0) xs ≡ 0
+sum-none [] = refl
+sum-none (x ∷ xs) = omega (arith, sum-none xs)
+
+pub sum-le : {A : Type 0} (f g : A → ℕ) (xs : List A) → Every (λ x. f x ≤ g x) xs → sum f xs ≤ sum g xs
+sum-le f g [] h = omega arith
+sum-le f g (x ∷ xs) h = omega (arith, every-head h, sum-le f g xs (every-tail h))
 
 -- ---- the numbers below n
 

@@ -3,8 +3,12 @@ pub mod Pendings
 pub mod Merging
 pub mod Runs
 pub mod Mapping
+pub mod Maps
 pub mod MergeLaws
 pub mod RunLaws
 pub mod SafeLaws
 pub mod RunsLaws
+pub mod CountLaws
 pub mod MappingLaws
+pub mod MapsLaws
+pub mod SheetLaws

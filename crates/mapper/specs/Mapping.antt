@@ -5,7 +5,7 @@ use mathlib.Core.Path.{_≡_}
 use mathlib.Core.Bool.{Bool, false}
 use mathlib.Core.List.{List, [], _∷_, _++_, map}
 use lib.ListN.{length, getD}
-use Rattle.lists.specs.Lists.{Every, Permuted, Paired, gather}
+use Rattle.lists.specs.Lists.{Every, Distinct, Permuted, Paired, gather, sum}
 use Rattle.tree.specs.declared.Kind.{Kind}
 use Rattle.tree.specs.declared.Kind.the-variants.{And as and}
 use Rattle.tree.specs.Tree.{Node, gate, Edges}
@@ -13,6 +13,7 @@ use Rattle.cover.specs.declared.Key.{Key}
 use Rattle.cover.specs.declared.Token.{Token}
 use Rattle.cover.specs.Key.{leaf-key}
 use Rattle.cover.specs.Cover.{Cover, net, top, Fanins, end}
+use Rattle.cover.specs.Nets.{nets*}
 use Rattle.cover.specs.Reach.{Best}
 use Rattle.cover.specs.Tables.{Table, Placed, numbered}
 use Rattle.cover.specs.Placed.{tableOf, records*}
@@ -20,7 +21,7 @@ use Rattle.cover.specs.Plans.{Body}
 use Rattle.sheet.specs.declared.Source.{Source}
 use Rattle.sheet.specs.declared.Source.the-variants.{Net, Gate}
 use Rattle.sheet.specs.declared.Edge.{Edge}
-use Rattle.sheet.specs.Sheet.{DrawnGate, gatesRead}
+use Rattle.sheet.specs.Sheet.{DrawnGate, leafNets, gatesRead}
 use Rattle.sheet.specs.Trees.{treesOf}
 use Rattle.mapper.specs.Run.{Operand, single, run}
 
@@ -36,6 +37,10 @@ unmapped = record { kind = and; body = end; key = leaf-key }
 -- gate g, counted from 1
 abbrev pub mappedAt : List Mapped → ℕ → Mapped
 mappedAt done g = getD done (g - 1) unmapped
+
+-- how many leaves stand under it
+abbrev pub leafCount : Mapped → ℕ
+leafCount d = length (nets* (d .body))
 
 -- it is not placed
 abbrev pub coverOf : Mapped → Cover
@@ -95,6 +100,7 @@ module _ (base : ℕ) where
     pub low : Every (λ d. Low base (n + length staged) (heldTable d)) done
     pub taken : Permuted (numbered n staged ++ gather (λ j. innerOf (mappedAt done j)) (gatesRead gs)) (gather innerOf done)
     pub earlier : Early base (numbered n staged)
+    pub leaves : length (leafNets gs) + sum (λ j. leafCount (mappedAt done j)) (gatesRead gs) ≡ sum leafCount done
 
   -- one gate more: what the run of its plan leaves, and what is known then
   pub record Next (n K : ℕ) (gs : List DrawnGate) (done : List Mapped) (staged : List Table) (g : DrawnGate) (plan : List Token) (a : Key) : Type 0 where
@@ -103,3 +109,5 @@ module _ (base : ℕ) where
     pub ends : run base (n + length staged) (g .kind) (operandsOf done (g .fanins)) plan (record { stack = []; placed = [] })
         ≡ record { stack = record { inverted = false; table = tableOf base 0 false (g .kind) body } ∷ []; placed = new }
     pub progress : Progress n K (gs ++ (g ∷ [])) (done ++ (record { kind = g .kind; body = body; key = a } ∷ [])) (staged ++ new)
+    pub is : (es : Edges) × Body K es a body
+    pub below : Distinct (gatesRead (gs ++ (g ∷ []))) → a .below + 2 ≤ length (leafNets (gs ++ (g ∷ [])))

@@ -6,15 +6,17 @@ use mathlib.Core.Bool.{Bool, true, false}
 use mathlib.Core.List.{List, [], _∷_, _++_, append-assoc, append-nil, map}
 use lib.ListN.{length, getD, length-append, length-map, List·getD-append}
 use lib.Seq.{getD-append-add}
-use Rattle.lists.specs.Lists.{_∈_, Every, Permuted, Paired, no-pair, pair, gather, upto}
+use Rattle.lists.specs.Lists.{_∈_, Every, Distinct, Permuted, Paired, no-pair, pair, gather, upto, sum}
 use Rattle.lists.specs.ListLaws.{every-none, every-cons, every-head, every-tail, every-at, every-append, every-left, every-right, permuted-refl, permuted-sym, permuted-trans, permuted-append, permuted-swap, permuted-length, gather-append, gather-permuted, gather-same, interchange}
 use Rattle.lists.specs.MixLaws.{paired-append}
+use Rattle.lists.specs.NumberLaws.{sum-append, sum-same, sum-none}
 use Rattle.tree.specs.declared.Kind.{Kind}
-use Rattle.tree.specs.Tree.{Node, leaf, gate, Edges, none, edge}
+use Rattle.tree.specs.Tree.{Node, leaf, gate, Edges, none, edge, leaves, leaves*}
 use Rattle.cover.specs.declared.Key.{Key}
 use Rattle.cover.specs.declared.Token.{Token}
 use Rattle.cover.specs.Key.{leaf-key}
-use Rattle.cover.specs.Cover.{Cover, net, top, Fanins, tables}
+use Rattle.cover.specs.Cover.{Cover, net, top, Fanins, tables, split}
+use Rattle.cover.specs.Nets.{nets*, split-nets, tables-most*}
 use Rattle.cover.specs.Tables.{Table, Placed, numbered}
 use Rattle.cover.specs.Eval.{numbered-append, numbered-length}
 use Rattle.cover.specs.Size.{records-length*}
@@ -28,13 +30,14 @@ use Rattle.cover.specs.Placings.{inner}
 use Rattle.sheet.specs.declared.Source.{Source}
 use Rattle.sheet.specs.declared.Source.the-variants.{Net, Gate}
 use Rattle.sheet.specs.declared.Edge.{Edge}
-use Rattle.sheet.specs.Sheet.{DrawnGate, DrawnSheet, from, netOf, gateOf, faninNets, faninGates, gatesRead}
+use Rattle.sheet.specs.Sheet.{DrawnGate, DrawnSheet, from, netOf, gateOf, faninNets, faninGates, leafNets, gatesRead}
 use Rattle.sheet.specs.Trees.{nodeOf, edgesOf, treesOf, treeOf, drawn as drawnSheet}
 use Rattle.sheet.specs.Formed.{WellFormed}
 use Rattle.sheet.specs.TreeLaws.{without, from-end}
 use Rattle.cover.specs.Added.{Legal, Added, AddedLeast}
 use Rattle.mapper.specs.Run.{Operand, State, single, run}
-use Rattle.mapper.specs.Mapping.{Mapped, unmapped, mappedAt, coverOf, Stood, keyOf, sourceCover, keysOf, coversOf, Low, Early, heldTable, innerOf, sourceTable, operandsOf, Progress, Next}
+use Rattle.mapper.specs.Mapping.{Mapped, unmapped, mappedAt, leafCount, coverOf, Stood, keyOf, sourceCover, keysOf, coversOf, Low, Early, heldTable, innerOf, sourceTable, operandsOf, Progress, Next}
+use Rattle.mapper.specs.CountLaws.{mapped-sums}
 use Rattle.mapper.specs.RunLaws.{single-is, Shows, Gated, gated}
 
 paired-at : {A B : Type 0} {R : A → B → Type 0} {xs : List A} {ys : List B} (a : A) (b : B) → Paired R xs ys → (i : ℕ) → i < length ys → R (getD xs i a) (getD ys i b)
@@ -60,7 +63,7 @@ module _ (K : ℕ) (two : 2 ≤ K) {ts : List Node} {done : List Mapped} (stood 
   stood-at : (g : ℕ) → 1 ≤ g → g ≤ length done → Stood K (getD ts (g - 1) (leaf 0)) (mappedAt done g)
   stood-at g l m = paired-at (leaf 0) unmapped stood (g - 1) (omega arith)
 
-  source-standing : (s : Source) → AreMapped done (gateOf s) → Standing K (nodeOf ts s) (keyOf done s) (sourceCover done s)
+  pub source-standing : (s : Source) → AreMapped done (gateOf s) → Standing K (nodeOf ts s) (keyOf done s) (sourceCover done s)
   source-standing (Net n) h = net-standing K n (omega arith)
   source-standing (Gate g) h =
       let s = stood-at g (every-head h .0) (every-head h .1) in
@@ -79,6 +82,27 @@ module _ (K : ℕ) (two : 2 ≤ K) {ts : List Node} {done : List Mapped} (stood 
   fanins-best [] h = at-end
   fanins-best (f ∷ fs) h =
       at-edge (source-best (f .source) (every-left (gateOf (f .source)) (faninGates fs) h)) (fanins-best fs (every-right (gateOf (f .source)) (faninGates fs) h))
+
+  -- the leaves that some fanins bring
+  source-leaves : (s : Source) → AreMapped done (gateOf s) → length (leaves (nodeOf ts s)) ≡ length (netOf s) + sum (λ j. leafCount (mappedAt done j)) (gateOf s)
+  source-leaves (Net n) h = refl
+  source-leaves (Gate g) h =
+      let s = stood-at g (every-head h .0) (every-head h .1) in
+      ap (λ t. length (leaves t)) (s .tree)
+      ∙ sym (permuted-length (split-nets (split {k = mappedAt done g .kind} {m = 0} {fs = mappedAt done g .body} (s .is .matched)))) ∙ (let e : leafCount (mappedAt done g) ≡ 0 + (leafCount (mappedAt done g) + 0) = omega arith in e)
+
+  fanin-leaves : (fs : List Edge) → AreMapped done (faninGates fs) →
+      length (leaves* (edgesOf ts fs)) ≡ length (faninNets fs) + sum (λ j. leafCount (mappedAt done j)) (faninGates fs)
+  fanin-leaves [] h = refl
+  fanin-leaves (f ∷ fs) h =
+      let a = source-leaves (f .source) (every-left (gateOf (f .source)) (faninGates fs) h) in
+      let b = fanin-leaves fs (every-right (gateOf (f .source)) (faninGates fs) h) in
+      omega (
+        arith,
+        length-append (leaves (nodeOf ts (f .source))) (leaves* (edgesOf ts fs)),
+        length-append (netOf (f .source)) (faninNets fs),
+        sum-append (λ j. leafCount (mappedAt done j)) (gateOf (f .source)) (faninGates fs),
+      )
 
 module _ (base : ℕ) where
   inner-fanins : (done : List Mapped) (fs : List Edge) → gather (λ q. inner base (q .1)) (coversOf done fs) ≡ gather (λ j. innerOf base (mappedAt done j)) (faninGates fs)
@@ -127,7 +151,7 @@ module _ (base : ℕ) where
   -- ---- one gate more
 
   pub mapping-start : (n K : ℕ) → Progress base n K [] [] []
-  mapping-start n K = record { stood = no-pair; read = every-none _; low = every-none _; taken = permuted-refl _; earlier = every-none _ }
+  mapping-start n K = record { stood = no-pair; read = every-none _; low = every-none _; taken = permuted-refl _; earlier = every-none _; leaves = refl }
 
   module _ (n K : ℕ) (two : 2 ≤ K) {gs : List DrawnGate} {done : List Mapped} {staged : List Table} (p : Progress base n K gs done staged)
       (g : DrawnGate) (many : 2 ≤ length (g .fanins)) (nets : Every (λ x. x ≤ base) (faninNets (g .fanins)))
@@ -167,6 +191,32 @@ module _ (base : ℕ) where
     numbers : numbered n (staged ++ next .new) ≡ numbered n staged ++ numbered (n + length staged) (next .new)
     numbers = numbered-append n (n + length staged) staged (next .new) refl
 
+    -- the leaves under the gate are its nets and those under the gates that it reads
+    new-leaves : leafCount mapped ≡ length (faninNets (g .fanins)) + sum (λ j. leafCount (mappedAt done j)) (faninGates (g .fanins))
+    new-leaves =
+        permuted-length (split-nets (split {k = g .kind} {m = 0} {fs = next .body} (next .is .matched)))
+        ∙ fanin-leaves K two (p .stood) (g .fanins) gates
+
+    reads-leaves : sum (λ j. leafCount (mappedAt (done ++ (mapped ∷ [])) j)) (gatesRead (gs ++ (g ∷ []))) ≡ sum (λ j. leafCount (mappedAt done j)) (gatesRead (gs ++ (g ∷ [])))
+    reads-leaves =
+        sum-same (λ j. leafCount (mappedAt (done ++ (mapped ∷ [])) j)) (λ j. leafCount (mappedAt done j)) (gatesRead (gs ++ (g ∷ [])))
+        (λ j i. let b = (rw (← reads-end) at all-mapped) j i in ap leafCount (List·getD-append done (mapped ∷ []) unmapped (j - 1) (omega arith)))
+
+    all-leaves : length (leafNets (gs ++ (g ∷ []))) + sum (λ j. leafCount (mappedAt done j)) (gatesRead (gs ++ (g ∷ []))) ≡ sum leafCount done + leafCount mapped
+    all-leaves =
+        let l = ap length (gather-append (λ x. faninNets (x .fanins)) gs (g ∷ [])) ∙ length-append (leafNets gs) (faninNets (g .fanins) ++ []) in
+        let m = length-append (faninNets (g .fanins)) [] in
+        let s = ap (sum (λ j. leafCount (mappedAt done j))) reads-end in
+        let t = sum-append (λ j. leafCount (mappedAt done j)) (gatesRead gs) (faninGates (g .fanins) ++ []) in
+        let u = sum-append (λ j. leafCount (mappedAt done j)) (faninGates (g .fanins)) [] in
+        omega (arith, p .leaves, new-leaves)
+
+    -- few tables stand below it: the gates that were read are others, each read once
+    next-below : Distinct (gatesRead (gs ++ (g ∷ []))) → a .below + 2 ≤ length (leafNets (gs ++ (g ∷ [])))
+    next-below once =
+        let m = mapped-sums done (gatesRead (gs ++ (g ∷ []))) once (rw (← reads-end) at all-mapped) leafCount (λ d. 0) (λ d i. omega arith) in
+        omega (arith, all-leaves, sum-none (gatesRead (gs ++ (g ∷ []))), next .is .count, next .is .many, tables-most* K (next .body) (next .is .fits))
+
     -- ONE GATE MORE: its plan's run leaves the table that holds the gate, and the tables placed are staged after the others
     next-progress : Progress base n K (gs ++ (g ∷ [])) (done ++ (mapped ∷ [])) (staged ++ next .new)
     next-progress = record {
@@ -190,10 +240,11 @@ module _ (base : ℕ) where
           (gather (λ j. innerOf base (mappedAt done j)) (faninGates (g .fanins))) (gather (innerOf base) done) (innerOf base mapped) (p .taken)
           (rw (inner-fanins done (g .fanins)) at (next .taken)));
       earlier = rw numbers (every-append (numbered n staged) _ (p .earlier) (next .earlier));
+      leaves = omega (arith, all-leaves, reads-leaves, sum-append leafCount done (mapped ∷ []));
     }
 
     pub mapping-next : Next base n K gs done staged g plan a
-    mapping-next = record { body = next .body; new = next .new; ends = next .ends; progress = next-progress }
+    mapping-next = record { body = next .body; new = next .new; ends = next .ends; progress = next-progress; is = (edgesOf (treesOf [] gs) (g .fanins), next .is); below = next-below }
 
   -- ---- the root
 

@@ -56,6 +56,9 @@ record-neat t l s = record {
   sorted = subst Sorted (sym (ap (λ u. u .inputs) (read-back t))) s;
 }
 
+pub kept-count : (r : Table) → Kept r → r .count ≡ length (tableOf r .inputs)
+kept-count r k = ap (λ q. q .count) (k .padded)
+
 -- ---- as a run on lists
 
 stack-set : (d i : ℕ) (ps : List Pending) (x : Pending) → d ≤ i → stackOf d (set ps i x) ≡ stackOf d ps
@@ -67,14 +70,14 @@ stack-put : (d : ℕ) (ps : List Pending) (x : Pending) → d < length ps → st
 stack-put d ps x l = ap₂ (λ p st. operandOf p ∷ st) (getD-set-same ps d x noPending l) (stack-set d d ps x (omega arith))
 
 -- what holds of each of the first d, and of the one that is stored next, holds of each of the first suc d
-stored-all : {A : Type 0} (P : A → Type 0) (z : A) (xs : List A) (d : ℕ) (x : A) → d < length xs → ((i : ℕ) → i < d → P (getD xs i z)) → P x →
+pub stored-all : {A : Type 0} (P : A → Type 0) (z : A) (xs : List A) (d : ℕ) (x : A) → d < length xs → ((i : ℕ) → i < d → P (getD xs i z)) → P x →
     (i : ℕ) → i < d + 1 → P (getD (set xs d x) i z)
 stored-all P z xs d x l h p i m =
     by-eqb (λ b. P (getD (set xs d x) i z)) i d
     (λ e. subst (λ j. P (getD (set xs d x) j z)) (sym e) (rw (getD-set-same xs d x z l) p))
     (λ e. rw (getD-set-other xs d i x z e) (h i (omega arith)))
 
-placed-length : (s : Run) → Holds s → length (placedOf s) ≡ s .placed
+pub placed-length : (s : Run) → Holds s → length (placedOf s) ≡ s .placed
 placed-length s h = length-map (take (s .placed) (s .tables)) tableOf ∙ length-take-le (s .placed) (s .tables) (omega (arith, h .placed, h .table-room))
 
 -- one operand more
@@ -127,9 +130,6 @@ module _ (first : ℕ) where
   placed-stack : (l : Bool) (s : Run) (t : Table) → placedIf l s t .stack ≡ s .stack
   placed-stack false s t = refl
   placed-stack true s t = refl
-
-  kept-count : (r : Table) → Kept r → r .count ≡ length (tableOf r .inputs)
-  kept-count r k = ap (λ q. q .count) (k .padded)
 
   merged-sorted : (k : Kind) (x y : Operand) → Sorted (merged k x y .inputs)
   unfolding merged
@@ -273,14 +273,14 @@ module _ (first : ℕ) where
 
 -- ---- a step of a plan
 
-fanin-count : (o : Operands) → Good o → length (faninsOf o) ≡ o .count
+pub fanin-count : (o : Operands) → Good o → length (faninsOf o) ≡ o .count
 fanin-count o g = length-map (take (o .count) (o .fanins)) operandOf ∙ length-take-le (o .count) (o .fanins) (omega (arith, g .count, g .room))
 
-stack-length : (d : ℕ) (ps : List Pending) → length (stackOf d ps) ≡ d
+pub stack-length : (d : ℕ) (ps : List Pending) → length (stackOf d ps) ≡ d
 stack-length zero ps = refl
 stack-length (suc d) ps = ap suc (stack-length d ps)
 
-map-at : {A B : Type 0} (f : A → B) (xs : List A) (i : ℕ) (x : A) (y : B) → i < length xs → getD (map f xs) i y ≡ f (getD xs i x)
+pub map-at : {A B : Type 0} (f : A → B) (xs : List A) (i : ℕ) (x : A) (y : B) → i < length xs → getD (map f xs) i y ≡ f (getD xs i x)
 map-at f [] i x y l = absurd (omega arith)
 map-at f (a ∷ xs) zero x y l = refl
 map-at f (a ∷ xs) (suc i) x y l = map-at f xs i x y (omega arith)

@@ -1,6 +1,7 @@
 // Mapping one sheet to lookup tables.
 use table::Table;
 
+pub mod map;
 mod merge;
 mod run;
 

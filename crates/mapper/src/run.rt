@@ -5,15 +5,17 @@ ghost use Rattle.mapper.specs.Runs.{pushed, placedIf, operandAt, replace
 use crate::Pending;
 use crate::merge::merge;
 use crate::merge::single;
+use cover::Key;
 use cover::Plan;
 use cover::Token;
 use table::Table;
 use tree::Kind;
 
-// The fanins of a gate, as operands. What stands past the count is of no matter.
+// The fanins of a gate: as operands, and their keys. What stands past the count is of no matter.
 pub struct Operands {
     pub count: u8,
     pub fanins: [Pending; 10],
+    pub keys: [Key; 10],
 }
 
 // The operands, the last one at depth - 1, and the tables placed. What stands past the counts is of no matter.
@@ -53,7 +55,7 @@ fn place(run: Run, cut: bool, t: Table) -> Run
 }
 
 // The operand i, counted from the bottom.
-fn operand(run: Run, i: usize) -> Pending
+pub fn operand(run: Run, i: usize) -> Pending
     requires { ⌜ i < 10 ⌝ }
     ensures { λ r. ⌜ r ≡ operandAt run i ⌝ }
 {

@@ -60,7 +60,7 @@ pub distinct-permuted : {xs ys : List ℕ} → Permuted xs ys → Distinct xs �
 distinct-permuted empty d = d
 distinct-permuted (more i p) d = distinct-insert i (permuted-to p (d .0)) (distinct-permuted p (d .1))
 
-drawn-out : {x : ℕ} {xs : List ℕ} → x ∈ xs → (ys : List ℕ) × Inserted x xs ys
+pub drawn-out : {x : ℕ} {xs : List ℕ} → x ∈ xs → (ys : List ℕ) × Inserted x xs ys
 drawn-out {x} (first {xs = l} e) = (l, subst (λ y. Inserted x (y ∷ l) l) e here)
 drawn-out (later m) = let r = drawn-out m in (_, there (r .1))
 
