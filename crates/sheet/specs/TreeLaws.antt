@@ -1,4 +1,4 @@
--- The tree of a well formed sheet: each gate has two fanins or more, and its leaves are the nets that the gates read.
+-- The tree of a well formed sheet: each gate has two fanins or more, and it holds the nets and the gates of the sheet, each once.
 use Prim.Native.Nat.{ℕ, zero, suc, _+_, _-_, _≤_, _<_}
 use native.Mathlib.Omega.{arith}
 use mathlib.Core.Path.{_≡_, refl, sym, ap, ap₂, _∙_, subst}
@@ -19,7 +19,7 @@ use Rattle.sheet.specs.Sheet.{DrawnGate, DrawnSheet, sheet, netOf, gateO
 use Rattle.sheet.specs.Read.{readSheet}
 use Rattle.sheet.specs.ReadLaws.{read-formed}
 use Rattle.sheet.specs.NumberLaws.{distinct-permuted}
-use Rattle.sheet.specs.Trees.{treeAt, nodeOf, edgesOf, treesOf, treeOf, drawn}
+use Rattle.sheet.specs.Trees.{treeAt, nodeOf, edgesOf, treesOf, treeOf, gateTrees, gateTrees*, drawn}
 use Rattle.sheet.specs.Formed.{FaninCount, Earlier, WellFormed}
 use Rattle.cover.specs.Added as Added
 
@@ -85,10 +85,6 @@ new-length : (ts : List Node) (gs : List DrawnGate) → length (newTrees ts gs) 
 new-length ts [] = refl
 new-length ts (g ∷ gs) = ap suc (new-length _ gs)
 
--- the leaves of gate j, where `ts` has the trees
-abbrev leavesAt : List Node → ℕ → List ℕ
-leavesAt ts j = leaves (treeAt ts j)
-
 -- one more at the end
 end-length : (ts : List Node) (t : Node) → length (ts ++ (t ∷ [])) ≡ suc (length ts)
 end-length ts t = omega (arith, length-append ts (t ∷ []))
@@ -97,17 +93,82 @@ at-end : (us : List Node) (t : Node) (ts : List Node) → treeAt (us ++ (t ∷ t
 at-end us t ts =
     ap (λ i. getD (us ++ (t ∷ ts)) i (leaf 0)) (let h : suc (length us) - 1 ≡ length us + 0 = omega arith in h) ∙ getD-append-add us (t ∷ ts) 0 (leaf 0)
 
-in-order : (us ts all : List Node) → us ++ ts ≡ all → gather leaves ts ≡ gather (leavesAt all) (from (suc (length us)) (length ts))
-in-order us [] all e = refl
-in-order us (t ∷ ts) all e =
-    ap₂ _++_ (ap leaves (sym (at-end us t ts) ∙ ap (λ l. treeAt l (suc (length us))) e))
-    (in-order (us ++ (t ∷ [])) ts all (append-assoc us (t ∷ []) ts ∙ e) ∙ ap (λ n. gather (leavesAt all) (from (suc n) (length ts))) (end-length us t))
-
 pub from-end : (g n : ℕ) → from g (suc n) ≡ from g n ++ ((g + n) ∷ [])
 from-end g zero = ap (λ m. m ∷ []) (omega arith)
 from-end g (suc n) = ap (λ l. g ∷ l) (from-end (suc g) n ∙ ap (λ m. from (suc g) n ++ (m ∷ [])) (omega arith))
 
+-- ---- what a tree holds: what the gates in it bring, each once
+
+abbrev treeFor : List Node → DrawnGate → Node
+treeFor ts g = Node.gate (g .kind) (edgesOf ts (g .fanins))
+
+-- a gate's tree holds what the gate brings, and what the trees of the gates that it reads hold
+module _ {A : Type 0} (held : Node → List A) (brings : List Node → DrawnGate → List A)
+    (law : (ts : List Node) (g : DrawnGate) → Permuted (held (treeFor ts g)) (brings ts g ++ gather (λ j. held (treeAt ts j)) (faninGates (g .fanins)))) where
+  abbrev heldAt : List Node → ℕ → List A
+  heldAt ts j = held (treeAt ts j)
+
+  abbrev brought : List Node → List DrawnGate → List A
+  brought ts [] = []
+  brought ts (g ∷ gs) = brings ts g ++ brought (ts ++ (treeFor ts g ∷ [])) gs
+
+  in-order : (us ts all : List Node) → us ++ ts ≡ all → gather held ts ≡ gather (heldAt all) (from (suc (length us)) (length ts))
+  in-order us [] all e = refl
+  in-order us (t ∷ ts) all e =
+      ap₂ _++_ (ap held (sym (at-end us t ts) ∙ ap (λ l. treeAt l (suc (length us))) e))
+      (in-order (us ++ (t ∷ [])) ts all (append-assoc us (t ∷ []) ts ∙ e) ∙ ap (λ n. gather (heldAt all) (from (suc n) (length ts))) (end-length us t))
+
+  -- all trees together hold what the gates bring, and once more what those of each gate that is read hold
+  new-held : (ts : List Node) (gs : List DrawnGate) (all : List Node) → ts ++ newTrees ts gs ≡ all → Earlier (suc (length ts)) gs →
+      Permuted (gather held (newTrees ts gs)) (brought ts gs ++ gather (heldAt all) (gatesRead gs))
+  new-held ts [] all e h = empty
+  new-held ts (g ∷ gs) all e h =
+      let t : Node = treeFor ts g in
+      let reads : List ℕ = faninGates (g .fanins) in
+      let kept : gather (heldAt ts) reads ≡ gather (heldAt all) reads =
+      gather-same (heldAt ts) (heldAt all) reads
+      (λ j m. let b = h .0 j m in ap held (sym (List·getD-append ts (newTrees ts (g ∷ gs)) (leaf 0) (j - 1) (omega arith)) ∙ ap (λ l. treeAt l j) e)) in
+      let here = subst (λ l. Permuted (held t) (brings ts g ++ l)) kept (law ts g) in
+      let rest = new-held (ts ++ (t ∷ [])) gs all (append-assoc ts (t ∷ []) _ ∙ e) (subst (λ n. Earlier (suc n) gs) (sym (end-length ts t)) (h .1)) in
+      rw (gather-append (heldAt all) reads (gatesRead gs))
+      (permuted-trans (permuted-append here rest)
+      (interchange (brings ts g) (gather (heldAt all) reads) (brought (ts ++ (t ∷ [])) gs) (gather (heldAt all) (gatesRead gs))))
+
+  -- the root's stands last
+  root-last : (gs : List DrawnGate) (all : List Node) → treesOf [] gs ≡ all → 1 ≤ length gs →
+      gather held (newTrees [] gs) ≡ gather (heldAt all) (from 1 (length gs - 1)) ++ (heldAt all (length gs) ++ [])
+  root-last gs all e l =
+      let m = length gs - 1 in
+      let f = heldAt all in
+      in-order [] (newTrees [] gs) all (sym (trees-split [] gs) ∙ e)
+      ∙ (ap (λ n. gather f (from 1 n)) (let h : length (newTrees [] gs) ≡ suc m = omega (arith, new-length [] gs) in h)
+      ∙ (ap (gather f) (from-end 1 m)
+      ∙ (gather-append f (from 1 m) ((1 + m) ∷ [])
+      ∙ ap (λ k. gather f (from 1 m) ++ (f k ++ [])) (let h : 1 + m ≡ length gs = omega arith in h))))
+
+  -- what each gate but the root holds is above on both sides
+  root-held : (gs : List DrawnGate) (all : List Node) → treesOf [] gs ≡ all → 1 ≤ length gs → Earlier 1 gs → Permuted (gatesRead gs) (from 1 (length gs - 1)) →
+      Permuted (brought [] gs) (heldAt all (length gs))
+  root-held gs all e l h r =
+      let f = heldAt all in
+      let own = brought [] gs in
+      let below = gather f (from 1 (length gs - 1)) in
+      let root = f (length gs) in
+      let p : Permuted (below ++ (root ++ [])) (own ++ gather f (gatesRead gs)) =
+      subst (λ l. Permuted l (own ++ gather f (gatesRead gs))) (root-last gs all e l) (new-held [] gs all (sym (trees-split [] gs) ∙ e) h) in
+      let q : Permuted (own ++ below) (below ++ (root ++ [])) =
+      permuted-trans (permuted-append (permuted-refl own) (permuted-sym (gather-permuted f r))) (permuted-sym p) in
+      let s : Permuted (below ++ (own ++ [])) (below ++ (root ++ [])) =
+      permuted-trans (permuted-swap below own []) (subst (λ l. Permuted (own ++ l) (below ++ (root ++ []))) (sym (append-nil below)) q) in
+      simp append-nil at (without below {ys = own ++ []} {zs = root ++ []} s)
+
+  pub sheet-held : (s : DrawnSheet) → WellFormed s → Permuted (brought [] (s .gates)) (held (treeOf s))
+  sheet-held s w = root-held (s .gates) (treesOf [] (s .gates)) refl (w .gate-count .0) (w .earlier) (w .read-once)
+
 -- ---- leaves
+
+abbrev leavesAt : List Node → ℕ → List ℕ
+leavesAt ts j = leaves (treeAt ts j)
 
 node-leaves : (ts : List Node) (s : Source) → leaves (nodeOf ts s) ≡ netOf s ++ gather (leavesAt ts) (gateOf s)
 node-leaves ts (net n) = refl
@@ -119,50 +180,44 @@ edges-leaves ts (f ∷ fs) =
     rw (node-leaves ts (f .source), gather-append (leavesAt ts) (gateOf (f .source)) (faninGates fs))
     (permuted-trans (permuted-append (permuted-refl (netOf (f .source) ++ gather (leavesAt ts) (gateOf (f .source)))) (edges-leaves ts fs)) (interchange (netOf (f .source)) (gather (leavesAt ts) (gateOf (f .source))) (faninNets fs) (gather (leavesAt ts) (faninGates fs))))
 
--- the leaves of all trees together are the nets, and once more those of each gate that is read
-new-leaves : (ts : List Node) (gs : List DrawnGate) (all : List Node) → ts ++ newTrees ts gs ≡ all → Earlier (suc (length ts)) gs →
-    Permuted (gather leaves (newTrees ts gs)) (leafNets gs ++ gather (leavesAt all) (gatesRead gs))
-new-leaves ts [] all e h = empty
-new-leaves ts (g ∷ gs) all e h =
-    let t : Node = Node.gate (g .kind) (edgesOf ts (g .fanins)) in
-    let kept : gather (leavesAt ts) (faninGates (g .fanins)) ≡ gather (leavesAt all) (faninGates (g .fanins)) =
-    gather-same (leavesAt ts) (leavesAt all) (faninGates (g .fanins))
-    (λ j m. let b = h .0 j m in ap leaves (sym (List·getD-append ts (newTrees ts (g ∷ gs)) (leaf 0) (j - 1) (omega arith)) ∙ ap (λ l. treeAt l j) e)) in
-    let here = subst (λ l. Permuted (leaves t) (faninNets (g .fanins) ++ l)) kept (edges-leaves ts (g .fanins)) in
-    let rest = new-leaves (ts ++ (t ∷ [])) gs all (append-assoc ts (t ∷ []) _ ∙ e) (subst (λ n. Earlier (suc n) gs) (sym (end-length ts t)) (h .1)) in
-    rw (gather-append (leavesAt all) (faninGates (g .fanins)) (gatesRead gs))
-    (permuted-trans (permuted-append here rest)
-    (interchange (faninNets (g .fanins)) (gather (leavesAt all) (faninGates (g .fanins))) (leafNets gs) (gather (leavesAt all) (gatesRead gs))))
+abbrev gate-nets : List Node → DrawnGate → List ℕ
+gate-nets ts g = faninNets (g .fanins)
 
--- the root's stand last
-root-last : (gs : List DrawnGate) (all : List Node) → treesOf [] gs ≡ all → 1 ≤ length gs →
-    gather leaves (newTrees [] gs) ≡ gather (leavesAt all) (from 1 (length gs - 1)) ++ (leavesAt all (length gs) ++ [])
-root-last gs all e l =
-    let m = length gs - 1 in
-    let f = leavesAt all in
-    in-order [] (newTrees [] gs) all (sym (trees-split [] gs) ∙ e)
-    ∙ (ap (λ n. gather f (from 1 n)) (let h : length (newTrees [] gs) ≡ suc m = omega (arith, new-length [] gs) in h)
-    ∙ (ap (gather f) (from-end 1 m)
-    ∙ (gather-append f (from 1 m) ((1 + m) ∷ [])
-    ∙ ap (λ k. gather f (from 1 m) ++ (f k ++ [])) (let h : 1 + m ≡ length gs = omega arith in h))))
+nets-brought : (ts : List Node) (gs : List DrawnGate) → brought leaves gate-nets (λ us g. edges-leaves us (g .fanins)) ts gs ≡ leafNets gs
+nets-brought ts [] = refl
+nets-brought ts (g ∷ gs) = ap (λ l. faninNets (g .fanins) ++ l) (nets-brought _ gs)
 
--- THE TREE'S LEAVES ARE THE NETS OF THE SHEET: those of each gate but the root are above on both sides
+-- THE TREE'S LEAVES ARE THE NETS OF THE SHEET, EACH ONCE
 pub leaves-are : (s : DrawnSheet) → WellFormed s → Permuted (leafNets (s .gates)) (leaves (treeOf s))
-leaves-are s w = of (s .gates) (treesOf [] (s .gates)) refl (w .gate-count .0) (w .earlier) (w .read-once)
-  where
-    of : (gs : List DrawnGate) (all : List Node) → treesOf [] gs ≡ all → 1 ≤ length gs → Earlier 1 gs → Permuted (gatesRead gs) (from 1 (length gs - 1)) →
-        Permuted (leafNets gs) (leavesAt all (length gs))
-    of gs all e l h r =
-        let f = leavesAt all in
-        let below = gather f (from 1 (length gs - 1)) in
-        let root = f (length gs) in
-        let p : Permuted (below ++ (root ++ [])) (leafNets gs ++ gather f (gatesRead gs)) =
-        subst (λ l. Permuted l (leafNets gs ++ gather f (gatesRead gs))) (root-last gs all e l) (new-leaves [] gs all (sym (trees-split [] gs) ∙ e) h) in
-        let q : Permuted (leafNets gs ++ below) (below ++ (root ++ [])) =
-        permuted-trans (permuted-append (permuted-refl (leafNets gs)) (permuted-sym (gather-permuted f r))) (permuted-sym p) in
-        let s : Permuted (below ++ (leafNets gs ++ [])) (below ++ (root ++ [])) =
-        permuted-trans (permuted-swap below (leafNets gs) []) (subst (λ l. Permuted (leafNets gs ++ l) (below ++ (root ++ []))) (sym (append-nil below)) q) in
-        simp append-nil at (without below {ys = leafNets gs ++ []} {zs = root ++ []} s)
+leaves-are s w =
+    subst (λ l. Permuted l (leaves (treeOf s))) (nets-brought [] (s .gates)) (sheet-held leaves gate-nets (λ us g. edges-leaves us (g .fanins)) s w)
+
+-- ---- gates
+
+node-gates : (ts : List Node) (s : Source) → gateTrees (nodeOf ts s) ≡ gather (λ j. gateTrees (treeAt ts j)) (gateOf s)
+node-gates ts (net n) = refl
+node-gates ts (gate g) = sym (append-nil _)
+
+edges-gates : (ts : List Node) (fs : List Fanin) → gateTrees* (edgesOf ts fs) ≡ gather (λ j. gateTrees (treeAt ts j)) (faninGates fs)
+edges-gates ts [] = refl
+edges-gates ts (f ∷ fs) =
+    ap₂ _++_ (node-gates ts (f .source)) (edges-gates ts fs) ∙ sym (gather-append (λ j. gateTrees (treeAt ts j)) (gateOf (f .source)) (faninGates fs))
+
+abbrev gate-itself : List Node → DrawnGate → List Node
+gate-itself ts g = treeFor ts g ∷ []
+
+gate-law : (ts : List Node) (g : DrawnGate) →
+    Permuted (gateTrees (treeFor ts g)) (gate-itself ts g ++ gather (λ j. gateTrees (treeAt ts j)) (faninGates (g .fanins)))
+gate-law ts g = subst (λ l. Permuted (gateTrees (treeFor ts g)) (treeFor ts g ∷ l)) (edges-gates ts (g .fanins)) (permuted-refl _)
+
+gates-brought : (ts : List Node) (gs : List DrawnGate) → brought gateTrees gate-itself gate-law ts gs ≡ newTrees ts gs
+gates-brought ts [] = refl
+gates-brought ts (g ∷ gs) = ap (λ l. treeFor ts g ∷ l) (gates-brought _ gs)
+
+-- THE GATES IN THE TREE ARE THOSE OF THE SHEET, EACH ONCE
+pub gates-are : (s : DrawnSheet) → WellFormed s → Permuted (treesOf [] (s .gates)) (gateTrees (treeOf s))
+gates-are s w =
+    subst (λ l. Permuted l (gateTrees (treeOf s))) (gates-brought [] (s .gates) ∙ sym (trees-split [] (s .gates))) (sheet-held gateTrees gate-itself gate-law s w)
 
 -- ---- the root
 
@@ -205,8 +260,10 @@ pub record Drawn (s : DrawnSheet) : Type 0 where
   pub root : (k : Kind) × (es : Edges) × (treeOf s ≡ Node.gate k es)
   pub legal : Added.Legal gateBase (drawn s)
   pub few : length (leaves (treeOf s)) ≤ mostLeaves
+  pub leaves-once : Permuted (leafNets (s .gates)) (leaves (treeOf s))
+  pub gates-once : Permuted (treesOf [] (s .gates)) (gateTrees (treeOf s))
 
 pub read-drawn : (text : List ℕ) (s : DrawnSheet) → readSheet text ≡ sheet s → Drawn s
 read-drawn text s e =
     let w = read-formed text s e in
-    record { formed = w; is-proper = tree-proper s w; root = root-gate s w; legal = drawn-legal s w; few = leaves-count s w }
+    record { formed = w; is-proper = tree-proper s w; root = root-gate s w; legal = drawn-legal s w; few = leaves-count s w; leaves-once = leaves-are s w; gates-once = gates-are s w }
