@@ -16,9 +16,9 @@ use Rattle.sheet.specs.declared.Source.{Source}
 use Rattle.sheet.specs.declared.Source.the-variants.{Net as net, Gate as gate}
 use Rattle.sheet.specs.Limits.{gateBase, mostGates, mostLeaves}
 use Rattle.sheet.specs.Sheet.{netOf}
-use Rattle.sheet.specs.Step.{Step, good, bad, _>>=_, require, given}
+use Rattle.sheet.specs.Step.{good, bad, _>>=_, require, given}
 use Rattle.sheet.specs.Read.{member, Seen, nothing, sourceOf, readFanin}
-use Rattle.sheet.specs.ReadLaws.{Named, source-named}
+use Rattle.sheet.specs.ReadLaws.{source-named}
 use Rattle.sheet.specs.Inside.{Flagged, codes, Marked, saw}
 
 -- ---- what comes of a fanin

@@ -14,7 +14,7 @@ use Rattle.sheet.specs.declared.FieldValue.{FieldValue}
 use Rattle.sheet.specs.declared.Fields.{Fields}
 use Rattle.sheet.specs.Limits.{fewestFanins, mostFanins}
 use Rattle.sheet.specs.Line.{line, fields}
-use Rattle.sheet.specs.Step.{Step, good, bad, _>>=_, require, given}
+use Rattle.sheet.specs.Step.{good, bad, _>>=_, require, given}
 use Rattle.sheet.specs.Read.{counts, kindOf, gateHeadOf}
 use Rattle.sheet.specs.Inside.{valueOf, valuesOf, gateLine}
 

@@ -12,7 +12,7 @@ use Rattle.decimal.specs.Number.{Number}
 use Rattle.sheet.specs.declared.FieldValue.{FieldValue}
 use Rattle.sheet.specs.declared.Fields.{Fields}
 use Rattle.sheet.specs.Limits.{mostGates}
-use Rattle.sheet.specs.Step.{Step, good, bad, _>>=_, require, given}
+use Rattle.sheet.specs.Step.{good, bad, _>>=_, require, given}
 use Rattle.sheet.specs.Read.{within, counts, headOf}
 use Rattle.sheet.specs.Inside.{valueOf, valuesOf, fieldsOf, Room}
 

@@ -25,7 +25,7 @@ use Rattle.sheet.specs.Limits.{mostFields, mostGates, mostFanins, mostLe
 use Rattle.sheet.specs.Line.{line, fields}
 use Rattle.sheet.specs.Sheet.{DrawnGate, netOf}
 use Rattle.sheet.specs.Step.{Step, good, bad, _>>=_, given}
-use Rattle.sheet.specs.Read.{Seen, nothing, sourceOf, readFanin, readFanins, gateHeadOf, readGate, readLeft}
+use Rattle.sheet.specs.Read.{Seen, nothing, readFanin, readFanins, gateHeadOf, readLeft}
 use Rattle.sheet.specs.Answers.{numberOf, drawnGate, drawnGates}
 use Rattle.sheet.specs.Inside.{valueOf, gateLine, faninNumbers, faultStep, GateLineRead, codes, Marked, saw, faninStep, FaninRead}
 use Rattle.sheet.proofs.HeadLaws.{zeroValue}

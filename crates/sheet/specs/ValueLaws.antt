@@ -3,7 +3,7 @@ use Prim.Native.Nat.{ℕ, _-_}
 use mathlib.Core.Path.{_≡_, refl, sym, ap, ap₂, _∙_}
 use mathlib.Core.Bool.{Bool}
 use mathlib.Core.List.{List, [], _∷_, _++_, map, map-append}
-use lib.ListN.{length, getD, List·getD-map}
+use lib.ListN.{length, List·getD-map}
 use Rattle.tree.specs.declared.Kind.{Kind}
 use Rattle.tree.specs.Tree.{Node, leaf, turned, meet, value, values}
 use Rattle.sheet.specs.declared.Source.{Source}

@@ -1,10 +1,8 @@
 -- `sheet::line_end` meets its contract. The loop's invariant: the line from `start` on is the bytes passed before the line from `i` on.
 -- Assumes nothing.
-use Prim.Native.Nat.{ℕ, _+_, _-_, _≤_, _<_}
+use Prim.Native.Nat.{ℕ, _-_, _≤_, _<_}
 use native.Mathlib.Omega.{arith}
-use native.Mathlib.Numerals.{add-one}
-use mathlib.Core.Path.{_≡_, sym, ap, _∙_, subst}
-use mathlib.Core.Option.{some}
+use mathlib.Core.Path.{_≡_, _∙_}
 use lib.ListN.{length, take, drop}
 use Rattle.sheet.specs.Line.{line}
 use Rattle.sheet.proofs.LineLaws.{before, line-start, line-more, line-here, line-past}
