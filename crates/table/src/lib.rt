@@ -1,6 +1,7 @@
 // Lookup tables as records of a part.
 mod inputs;
 pub mod rules;
+pub mod run;
 
 ghost use mathlib.Core.Path.{_≡_};
 ghost use Prim.Native.Nat.{min};
