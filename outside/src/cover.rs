@@ -76,13 +76,11 @@ fn swapped(truth: u64, place: usize) -> u64 {
     truth & !(lower | higher) | (truth & lower) << shift | (truth & higher) >> shift
 }
 
-/// One gate's fanins, each upright with its inversion beside it, and the tables made so far.
+/// One gate's fanins, each upright with its inversion beside it, and the part's tables so far.
 struct Gate<'a> {
     kind: Kind,
     fanins: [(Pending, bool); FANINS],
     search: &'a Search,
-    /// The number of tables before the sheet's.
-    used: usize,
     tables: &'a mut Vec<Table>,
 }
 
@@ -104,17 +102,16 @@ impl Gate<'_> {
             return pending.inverted(inverted);
         }
         self.tables.push(pending.table(0));
-        let code = CODES as usize + self.used + self.tables.len();
+        let code = CODES as usize + self.tables.len();
         Pending::of_input(code as u16).inverted(inverted)
     }
 }
 
-/// The tables of a least cover of `sheet`, for a part that has `used` tables.
-pub fn tables(sheet: &Sheet, k: usize, used: usize) -> Vec<Table> {
+/// Adds the tables of a least cover of `sheet` to those of the part.
+pub fn add(sheet: &Sheet, k: usize, tables: &mut Vec<Table>) {
     let mut search = Search::new(k);
     let mut gate_keys = Vec::with_capacity(sheet.gates.len());
     let mut pending: Vec<Pending> = Vec::with_capacity(sheet.gates.len());
-    let mut tables = Vec::new();
     let mut keys = [0; FANINS];
     for gate in &sheet.gates {
         fanin_keys(gate, &gate_keys, &mut keys);
@@ -128,9 +125,8 @@ pub fn tables(sheet: &Sheet, k: usize, used: usize) -> Vec<Table> {
             *fanin = (source, edge.inverted);
         }
         let all = (1 << gate.fanins.len()) - 1;
-        pending.push(Gate { kind: gate.kind, fanins, search: &search, used, tables: &mut tables }.group(all));
+        pending.push(Gate { kind: gate.kind, fanins, search: &search, tables }.group(all));
     }
     let root = pending[pending.len() - 1].inverted(sheet.inverted);
     tables.push(root.table(sheet.net));
-    tables
 }

@@ -17,6 +17,7 @@ pub mod part;
 pub mod program;
 pub mod refusal;
 pub mod rng;
+pub mod samples;
 pub mod sheet;
 pub mod text;
 pub mod tool;

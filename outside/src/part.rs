@@ -30,21 +30,30 @@ impl Table {
         output
     }
 
-    fn line(&self, number: usize) -> String {
-        let mut line = format!("{:>6}{:>6}{:>6}", number, self.net, self.inputs.len());
-        for input in &self.inputs {
-            line += &format!("{input:>6}");
+    fn line(&self, number: usize, list: &mut String) {
+        for field in [number as u64, self.net.into(), self.inputs.len() as u64] {
+            text::push(list, field, 6);
         }
-        line + &format!("{:>21}\n", self.truth)
+        for &input in &self.inputs {
+            text::push(list, input.into(), 6);
+        }
+        text::push(list, self.truth, 21);
+        list.push('\n');
     }
 }
 
 impl Part {
     /// The list.
     pub fn list(&self) -> String {
-        let head = format!("{:>6}{:>6}{:>6}\n", self.k, self.capacity, self.tables.len());
-        let lines = self.tables.iter().enumerate().map(|(index, table)| table.line(index + 1));
-        head + &lines.collect::<String>()
+        let mut list = String::new();
+        for field in [self.k, self.capacity, self.tables.len()] {
+            text::push(&mut list, field as u64, 6);
+        }
+        list.push('\n');
+        for (index, table) in self.tables.iter().enumerate() {
+            table.line(index + 1, &mut list);
+        }
+        list
     }
 
     /// The five points of soundness, or what breaks them.

@@ -60,6 +60,22 @@ fn open(input: &[u8]) -> Result<(usize, usize, &[u8]), u32> {
 
 /// Reads an input to its end, or to the first refusal.
 pub fn read(input: &[u8]) -> Result<Accepted, Refusal> {
+    walk(input, least)
+}
+
+/// The part with a least cover of each sheet.
+pub fn map(input: &[u8]) -> Result<Part, Refusal> {
+    let mut tables = Vec::new();
+    let accepted = walk(input, |sheet, k| {
+        let used = tables.len();
+        cover::add(sheet, k, &mut tables);
+        tables.len() - used
+    })?;
+    Ok(Part { k: accepted.k, capacity: accepted.capacity, tables })
+}
+
+/// Reads an input sheet by sheet; `tables` gives how many tables a sheet takes at K.
+fn walk(input: &[u8], mut tables: impl FnMut(&Sheet, usize) -> usize) -> Result<Accepted, Refusal> {
     let (k, capacity, mut rest) = open(input).map_err(|number| Refusal::new(number, 0, 0))?;
     let mut accepted = Accepted { k, capacity, sheets: Vec::new(), least: Vec::new() };
     let mut nets = Nets { driven: [false; NETS as usize + 1], read: [false; NETS as usize + 1] };
@@ -71,23 +87,13 @@ pub fn read(input: &[u8]) -> Result<Accepted, Refusal> {
         if let Some(refused) = nets.refuse(&sheet) {
             return Err(Refusal::new(refused, number, 0));
         }
-        let tables = least(&sheet, k);
-        left = left.checked_sub(tables).ok_or(Refusal::new(23, number, 0))?;
+        let least = tables(&sheet, k);
+        left = left.checked_sub(least).ok_or(Refusal::new(23, number, 0))?;
         nets.add(&sheet);
         accepted.sheets.push(sheet);
-        accepted.least.push(tables);
+        accepted.least.push(least);
     }
     Ok(accepted)
-}
-
-/// The part with a least cover of each sheet.
-pub fn map(input: &[u8]) -> Result<Part, Refusal> {
-    let accepted = read(input)?;
-    let mut tables = Vec::new();
-    for sheet in &accepted.sheets {
-        tables.extend(cover::tables(sheet, accepted.k, tables.len()));
-    }
-    Ok(Part { k: accepted.k, capacity: accepted.capacity, tables })
 }
 
 /// What the program prints.

@@ -138,7 +138,10 @@ fn all_read(sheet: &Sheet) -> Result<(), Fault> {
 /// What the lines read so far leave for the next.
 struct Reader {
     net: u16,
-    nets: Vec<u16>,
+    /// Whether each net stands at a leaf.
+    nets: [bool; NETS as usize + 1],
+    leaves: usize,
+    /// Whether each gate so far is read.
     gates: Vec<bool>,
 }
 
@@ -152,7 +155,7 @@ fn read_lines(text: &[u8]) -> Result<(Sheet, &[u8]), Fault> {
         return Err(Fault { number: 5, line: 1 });
     }
     let mut sheet = Sheet { net: net.unsigned_abs() as u16, inverted: net < 0, gates: Vec::new() };
-    let mut reader = Reader { net: sheet.net, nets: Vec::new(), gates: Vec::new() };
+    let mut reader = Reader { net: sheet.net, nets: [false; NETS as usize + 1], leaves: 0, gates: Vec::new() };
     for line in 2..2 + count as usize {
         let (fields, after) = laid_out(rest, line)?;
         rest = after;
@@ -210,16 +213,18 @@ impl Reader {
     }
 
     fn leaf(&mut self, net: u16) -> Result<Source, u32> {
-        if self.nets.contains(&net) {
+        let seen = &mut self.nets[usize::from(net)];
+        if *seen {
             return Err(10);
         }
         if net == self.net {
             return Err(11);
         }
-        if self.nets.len() == LEAVES {
+        if self.leaves == LEAVES {
             return Err(12);
         }
-        self.nets.push(net);
+        *seen = true;
+        self.leaves += 1;
         Ok(Source::Net(net))
     }
 }

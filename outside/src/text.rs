@@ -36,3 +36,17 @@ pub fn fields(line: &[u8]) -> Option<Vec<i64>> {
     }
     line.chunks(COLUMNS).map(number).collect()
 }
+
+/// Adds a number, right-justified in `width` columns, 21 at most.
+pub fn push(text: &mut String, number: u64, width: usize) {
+    let mut columns = [b' '; 21];
+    let mut left = number;
+    for column in columns[..width].iter_mut().rev() {
+        *column = b'0' + (left % 10) as u8;
+        left /= 10;
+        if left == 0 {
+            break;
+        }
+    }
+    text.extend(columns[..width].iter().map(|&byte| char::from(byte)));
+}

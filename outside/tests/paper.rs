@@ -109,6 +109,14 @@ fn the_longest_chain() {
 }
 
 #[test]
+fn a_full_part() {
+    let input = outside::samples::full_part();
+    let list = print(input.as_bytes());
+    assert!(list.starts_with("     6   800   800\n"));
+    assert_eq!(check_list(input.as_bytes(), list.as_bytes()), Ok(()));
+}
+
+#[test]
 fn the_opening() {
     for k in [1, 7] {
         assert_eq!(refused(&text(&[&[k, 8]])), Refusal::new(2, 0, 0));

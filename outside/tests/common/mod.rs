@@ -27,13 +27,9 @@ pub fn gate(kind: i64, fanins: &[i64]) -> String {
     line(&[&[kind, fanins.len() as i64], fanins].concat())
 }
 
-/// A chain of gates of two fanins, AND and OR by turns: gate g reads gate g - 1 and one net more. Nets are 1 up.
-pub fn chain(net: i64, gates: i64) -> String {
-    let mut text = line(&[net, gates]) + &gate(1, &[1, 2]);
-    for number in 2..=gates {
-        text += &gate(1 + (number + 1) % 2, &[1000 + number - 1, number + 1]);
-    }
-    text
+/// A chain of gates of two fanins over nets 1 up, as text.
+pub fn chain(net: u16, gates: usize) -> String {
+    outside::samples::chain(net, gates, 2).text()
 }
 
 pub fn refused(input: &str) -> Refusal {

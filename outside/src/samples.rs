@@ -1,0 +1,28 @@
+//! Sheets at the limits, for tests and measurements.
+
+use crate::sheet::{Edge, Gate, Kind, Sheet, Source};
+
+/// A chain of gates, AND and OR by turns, all of one fanin count: gate 1 reads the first nets, and each other gate reads the one
+/// before and the next nets.
+pub fn chain(net: u16, gates: usize, fanins: usize) -> Sheet {
+    let mut nets = 1..;
+    let mut chain = Vec::new();
+    for index in 0..gates {
+        let below = index.checked_sub(1).map(Source::Gate);
+        let sources = below.into_iter().chain(nets.by_ref().map(Source::Net)).take(fanins);
+        let fanins = sources.map(|source| Edge { inverted: false, source }).collect();
+        chain.push(Gate { kind: if index % 2 == 0 { Kind::And } else { Kind::Or }, fanins });
+    }
+    Sheet { net, inverted: false, gates: chain }
+}
+
+/// The input of some sheets.
+pub fn input(k: usize, capacity: usize, sheets: &[Sheet]) -> String {
+    format!("{k:>6}{capacity:>6}\n") + &sheets.iter().map(Sheet::text).collect::<String>()
+}
+
+/// An input that fills a part of K 6 and 800 tables: 100 chains of 40 gates, eight tables each.
+pub fn full_part() -> String {
+    let sheets: Vec<Sheet> = (0..100).map(|index| chain(999 - index, 40, 2)).collect();
+    input(6, 800, &sheets)
+}
