@@ -9,6 +9,8 @@ pub mod cover;
 pub mod dot;
 pub mod exhaustive;
 pub mod explain;
+#[cfg(feature = "fuzz")]
+pub mod fuzz;
 pub mod generate;
 pub mod least;
 #[cfg(feature = "linked")]

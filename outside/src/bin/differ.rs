@@ -108,16 +108,12 @@ fn run_cases(options: &mut Options) -> Result<usize, String> {
         let outcome = if *number == 0 { "accepted".into() } else { format!("refusal {number}") };
         println!("{count:>8} {outcome}");
     }
+    println!("seed {}: {} cases, {failed} failed", options.seed, outcomes.values().sum::<usize>());
     Ok(failed)
 }
 
 fn main() -> ExitCode {
-    let result = options().and_then(|mut options| {
-        let failed = run_cases(&mut options)?;
-        println!("seed {}: {} cases, {failed} failed", options.seed, options.count);
-        Ok(failed)
-    });
-    match result {
+    match options().and_then(|mut options| run_cases(&mut options)) {
         Ok(0) => ExitCode::SUCCESS,
         Ok(_) => ExitCode::FAILURE,
         Err(error) => {

@@ -1,0 +1,137 @@
+//! 01's "Ways a mapper goes wrong": what each such mapper prints is turned down.
+
+mod common;
+
+use common::{gate, input, line, text};
+use outside::check::check_output;
+use outside::part::{Part, Table};
+
+/// 01's example: 20 = AND(OR(1, 2), OR(3, 4)), and 21 = NOT AND(20, NOT 5).
+const EXAMPLE: &[&[i64]] = &[&[4, 8], &[20, 3], &[2, 2, 1, 2], &[2, 2, 3, 4], &[1, 2, 1001, 1002], &[-21, 1], &[1, 2, 20, -5]];
+
+fn table(net: u16, inputs: &[u16], truth: u64) -> Table {
+    Table { net, inputs: inputs.to_vec(), truth }
+}
+
+fn list(k: usize, capacity: usize, tables: &[Table]) -> String {
+    Part { k, capacity, tables: tables.to_vec() }.list()
+}
+
+fn first() -> Table {
+    table(20, &[1, 2, 3, 4], 61152)
+}
+
+fn second() -> Table {
+    table(21, &[5, 20], 11)
+}
+
+fn taken(printed: &str) -> bool {
+    check_output(text(EXAMPLE).as_bytes(), printed.as_bytes()).is_ok()
+}
+
+#[test]
+fn the_right_list() {
+    assert!(taken(&list(4, 8, &[first(), second()])));
+}
+
+#[test]
+fn one_table_for_each_gate() {
+    let gates = [table(0, &[1, 2], 14), table(0, &[3, 4], 14), table(20, &[1001, 1002], 8)];
+    assert!(!taken(&list(4, 8, &[&gates[..], &[second()]].concat())));
+}
+
+#[test]
+fn a_used_count_of_its_own() {
+    let good = list(4, 8, &[first(), second()]);
+    for used in ["     0\n", "     1\n", "     3\n"] {
+        assert!(!taken(&good.replacen("     2\n", used, 1)));
+    }
+}
+
+#[test]
+fn copied_tables() {
+    assert!(!taken(&list(4, 8, &[first(), Table { net: 21, ..first() }])));
+    assert!(!taken(&list(4, 8, &[first(), first()])));
+}
+
+#[test]
+fn no_tables() {
+    assert!(!taken(&list(4, 8, &[])));
+    assert!(!taken(&list(4, 8, &[first()])));
+}
+
+#[test]
+fn one_fixed_table() {
+    assert!(!taken(&list(4, 8, &[table(20, &[1, 2], 8), table(21, &[1, 2], 8)])));
+}
+
+#[test]
+fn needless_refusals() {
+    for refusal in [[-23, 1, 0], [-23, 2, 0], [-1, 0, 0], [-1, 1, 1], [-21, 2, 0]] {
+        assert!(!taken(&line(&refusal)));
+    }
+    let full = text(EXAMPLE).replacen("     8\n", "     1\n", 1);
+    assert!(check_output(full.as_bytes(), line(&[-23, 2, 0]).as_bytes()).is_ok());
+    assert!(check_output(full.as_bytes(), list(4, 1, &[first()]).as_bytes()).is_err());
+    for wrong in ["   -23     2     0", "   -23     2     0\n\n", "   -23     1     0\n", "   -22     2     0\n", "   -23     2     1\n"] {
+        assert!(check_output(full.as_bytes(), wrong.as_bytes()).is_err());
+    }
+}
+
+#[test]
+fn another_opening() {
+    assert!(!taken(&list(5, 8, &[first(), second()])));
+    assert!(!taken(&list(4, 9, &[first(), second()])));
+}
+
+#[test]
+fn sheets_in_another_order() {
+    let two = input(4, 8, &text(&[&[20, 1], &[1, 2, 1, 2], &[21, 1], &[1, 2, 3, 4]]));
+    let (one, other) = (table(20, &[1, 2], 8), table(21, &[3, 4], 8));
+    assert!(check_output(two.as_bytes(), list(4, 8, &[one.clone(), other.clone()]).as_bytes()).is_ok());
+    assert!(check_output(two.as_bytes(), list(4, 8, &[other, one]).as_bytes()).is_err());
+}
+
+/// Where the AND's root table takes four inputs, the OR needs a table of its own: three tables in place of two.
+#[test]
+fn the_width_forgotten() {
+    let input = input(4, 8, &(line(&[99, 2]) + &gate(1, &[1, 2, 3, 4, 5]) + &gate(2, &[1001, 6, 7])));
+    let three = [table(0, &[1, 2], 8), table(0, &[3, 4, 5, 1001], 32768), table(99, &[6, 7, 1002], 254)];
+    let two = [table(0, &[1, 2, 3, 4], 32768), table(99, &[5, 6, 7, 1001], 65276)];
+    assert!(check_output(input.as_bytes(), list(4, 8, &three).as_bytes()).is_err());
+    assert_eq!(check_output(input.as_bytes(), list(4, 8, &two).as_bytes()), Ok(()));
+}
+
+/// The OR of five ANDs stays whole at K 5, since it has five fanins: six tables in place of three.
+#[test]
+fn only_wide_gates_split() {
+    let ands = [gate(1, &[1, 2, 3]), gate(1, &[4, 5]), gate(1, &[6, 7]), gate(1, &[8, 9]), gate(1, &[10, 11])].concat();
+    let input = input(5, 8, &(line(&[99, 6]) + &ands + &gate(2, &[1001, 1002, 1003, 1004, 1005])));
+    let two = |a, b| table(0, &[a, b], 8);
+    let or = table(99, &[1001, 1002, 1003, 1004, 1005], 0xffff_fffe);
+    let six = [table(0, &[1, 2, 3], 128), two(4, 5), two(6, 7), two(8, 9), two(10, 11), or];
+    assert!(check_output(input.as_bytes(), list(5, 8, &six).as_bytes()).is_err());
+}
+
+/// Right values over the right number of tables, with an inner value inverted where it is given and again where it is read.
+#[test]
+fn inverted_twice() {
+    let input = input(2, 8, &(line(&[99, 1]) + &gate(1, &[1, 2, 3])));
+    let upright = [table(0, &[1, 2], 8), table(99, &[3, 1001], 8)];
+    let inverted = [table(0, &[1, 2], 7), table(99, &[3, 1001], 2)];
+    assert_eq!(check_output(input.as_bytes(), list(2, 8, &upright).as_bytes()), Ok(()));
+    assert!(check_output(input.as_bytes(), list(2, 8, &inverted).as_bytes()).is_err());
+}
+
+/// Right values and the right number of tables, but gates of one kind that follow each other are joined.
+#[test]
+fn gates_joined() {
+    let ands = [gate(1, &[1, 2, 3]), gate(1, &[4, 5, 6]), gate(1, &[7, 8, 9])].concat();
+    let input = input(5, 8, &(line(&[99, 4]) + &ands + &gate(1, &[1001, 1002, 1003])));
+    let two = [table(0, &[1, 2, 3, 4, 5], 1 << 31), table(99, &[6, 7, 8, 9, 1001], 1 << 31)];
+    let across = [table(0, &[1, 4], 8), table(0, &[2, 3, 5, 6, 1001], 1 << 31), table(99, &[7, 8, 9, 1002], 1 << 15)];
+    let drawn = [table(0, &[1, 2, 3], 1 << 7), table(0, &[4, 5, 6], 1 << 7), table(99, &[7, 8, 9, 1001, 1002], 1 << 31)];
+    assert!(check_output(input.as_bytes(), list(5, 8, &two).as_bytes()).is_err());
+    assert!(check_output(input.as_bytes(), list(5, 8, &across).as_bytes()).is_err());
+    assert_eq!(check_output(input.as_bytes(), list(5, 8, &drawn).as_bytes()), Ok(()));
+}
