@@ -2,10 +2,10 @@
 
 use crate::sheet::{Edge, Gate, Kind, Sheet, Source};
 
-/// A chain of gates, AND and OR by turns, all of one fanin count: gate 1 reads the first nets, and each other gate reads the one
-/// before and the next nets.
-pub fn chain(net: u16, gates: usize, fanins: usize) -> Sheet {
-    let mut nets = 1..;
+/// A chain of gates, AND and OR by turns, all of one fanin count: gate 1 reads nets from `first` up, and each other gate reads the
+/// gate before and the next nets.
+pub fn chain(net: u16, first: u16, gates: usize, fanins: usize) -> Sheet {
+    let mut nets = first..;
     let mut chain = Vec::new();
     for index in 0..gates {
         let below = index.checked_sub(1).map(Source::Gate);
@@ -21,8 +21,8 @@ pub fn input(k: usize, capacity: usize, sheets: &[Sheet]) -> String {
     format!("{k:>6}{capacity:>6}\n") + &sheets.iter().map(Sheet::text).collect::<String>()
 }
 
-/// An input that fills a part of K 6 and 800 tables: 100 chains of 40 gates, eight tables each.
+/// An input that fills a part of K 6 and 800 tables: 100 chains of 40 gates, eight tables each, no two over the same nets.
 pub fn full_part() -> String {
-    let sheets: Vec<Sheet> = (0..100).map(|index| chain(999 - index, 40, 2)).collect();
+    let sheets: Vec<Sheet> = (0..100).map(|index| chain(999 - index, 1 + 8 * index, 40, 2)).collect();
     input(6, 800, &sheets)
 }

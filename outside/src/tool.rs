@@ -1,6 +1,6 @@
 //! What the tools share: reading standard input, and how they end.
 
-use std::io::Read;
+use std::io::{Read, Write};
 use std::process::ExitCode;
 
 pub fn read_stdin() -> Result<Vec<u8>, String> {
@@ -19,11 +19,9 @@ pub fn write_file(name: &str, bytes: &[u8]) -> Result<(), String> {
 
 /// Prints the text on standard output, or the error on standard error.
 pub fn finish(tool: &str, result: Result<String, String>) -> ExitCode {
-    match result {
-        Ok(text) => {
-            print!("{text}");
-            ExitCode::SUCCESS
-        }
+    let print = |text: String| std::io::stdout().write_all(text.as_bytes()).map_err(|error| format!("standard output: {error}"));
+    match result.and_then(print) {
+        Ok(()) => ExitCode::SUCCESS,
         Err(error) => {
             eprintln!("{tool}: {error}");
             ExitCode::FAILURE

@@ -29,7 +29,7 @@ pub fn gate(kind: i64, fanins: &[i64]) -> String {
 
 /// A chain of gates of two fanins over nets 1 up, as text.
 pub fn chain(net: u16, gates: usize) -> String {
-    outside::samples::chain(net, gates, 2).text()
+    outside::samples::chain(net, 1, gates, 2).text()
 }
 
 pub fn refused(input: &str) -> Refusal {
