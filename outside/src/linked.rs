@@ -9,7 +9,7 @@ extern "C" {
 }
 
 /// The bytes of the longest list: line 0 of three fields, and 800 lines of nine fields, 21 columns and a line feed.
-pub const LONGEST: usize = 19 + crate::TABLES * (9 * 6 + 21 + 1);
+pub const LONGEST: usize = 19 + 800 * (9 * 6 + 21 + 1);
 
 /// What the mapping program prints for `input`, written to the front of `output`; `output` has `LONGEST` bytes or more.
 pub fn map<'a>(input: &[u8], output: &'a mut [u8]) -> &'a [u8] {
