@@ -243,8 +243,16 @@ fn good(rng: &mut Rng) -> Input {
     input(k, capacity(rng, wanted), &sheets)
 }
 
-/// Inputs at the limits.
+/// Inputs at the limits and beyond.
 fn large(rng: &mut Rng) -> Case {
+    match rng.below(10) {
+        0 => long_line(rng),
+        1 => longest(rng),
+        _ => at_a_limit(rng),
+    }
+}
+
+fn at_a_limit(rng: &mut Rng) -> Case {
     let k = rng.between(2, 6);
     let (name, sheets) = match rng.below(6) {
         0 => ("chain", limit(rng, LEAVES, Style::Chain)),
@@ -257,6 +265,38 @@ fn large(rng: &mut Rng) -> Case {
     let wanted = sheets.iter().map(|sheet| least(sheet, k)).sum();
     let capacity = if rng.once_in(2) { TABLES } else { capacity(rng, wanted) };
     Case { name, input: text(&input(k, capacity, &sheets)).into_bytes() }
+}
+
+/// The longest input that can be accepted: 800 sheets of five gates, each one table of six inputs. Now and then one sheet more, which is
+/// as long as can be and is read to its end before it is refused, or bytes that begin one.
+fn longest(rng: &mut Rng) -> Case {
+    let mut nets = Nets::new(rng, 150);
+    let mut sheets = Vec::new();
+    for _ in 0..TABLES {
+        let tree = tree(rng, 6, Style::Binary);
+        sheets.extend(nets.sheet(rng, &tree));
+    }
+    let mut input = text(&input(6, TABLES, &sheets));
+    match rng.below(4) {
+        0 => {
+            let tree = tree(rng, LEAVES, Style::Binary);
+            input += &nets.sheet(rng, &tree).map_or(String::new(), |sheet| sheet.text());
+        }
+        1 => input += *rng.pick(&["x", "\n", "     1", "     1     1\n"][..]),
+        _ => (),
+    }
+    Case { name: "longest input", input: input.into_bytes() }
+}
+
+/// A good input with one very long line in the place of one of its lines, or at its end.
+fn long_line(rng: &mut Rng) -> Case {
+    let mut input = text(&good(rng)).into_bytes();
+    let field: [u8; 6] = *rng.pick(&[*b"     1", *b"      ", *b"111111", [0; 6]]);
+    let fields = *rng.pick(&[13, 100, 11_000, 22_000, 44_000]);
+    let starts: Vec<usize> = (0..=input.len()).filter(|&at| at == 0 || input[at - 1] == b'\n').collect();
+    let at = *rng.pick(&starts);
+    input.splice(at..at, field.repeat(fields));
+    Case { name: "long line", input }
 }
 
 /// One sheet at the limit of leaves.

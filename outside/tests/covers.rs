@@ -82,10 +82,10 @@ fn small_shapes() {
     assert_eq!(splittings(&flat).len(), 236);
 }
 
-/// On every tree of up to six leaves and at every K, the search finds the least number over all splittings and covers.
+/// On every tree of up to seven leaves and at every K, the search finds the least number over all splittings and covers.
 #[test]
 fn the_search_is_right_on_small_trees() {
-    for leaves in 2..=6 {
+    for leaves in 2..=7 {
         for shape in shapes(leaves) {
             let sheet = sheet(&shape, 0);
             let splittings = splittings(&sheet);

@@ -1,0 +1,76 @@
+//! The five points of a sound part, each broken by hand, and the layout of lists.
+
+use outside::part::{read_list, Part, Table};
+
+fn table(net: u16, inputs: &[u16], truth: u64) -> Table {
+    Table { net, inputs: inputs.to_vec(), truth }
+}
+
+fn sound(k: usize, capacity: usize, tables: &[Table]) -> bool {
+    Part { k, capacity, tables: tables.to_vec() }.sound().is_ok()
+}
+
+#[test]
+fn ranges() {
+    assert!(sound(2, 1, &[]) && sound(6, 800, &[]));
+    assert!(!sound(1, 1, &[]) && !sound(7, 1, &[]) && !sound(2, 0, &[]) && !sound(2, 801, &[]));
+    let two = [table(9, &[1, 2], 8), table(8, &[1, 2], 8)];
+    assert!(sound(2, 2, &two) && !sound(2, 1, &two));
+}
+
+#[test]
+fn one_record() {
+    assert!(sound(4, 8, &[table(0, &[1, 2], 15)]));
+    assert!(!sound(4, 8, &[table(0, &[1, 2], 16)]));
+    assert!(sound(4, 8, &[table(999, &[1, 2, 3, 4], 65535)]));
+    assert!(!sound(4, 8, &[table(999, &[1, 2, 3, 4], 65536)]));
+    assert!(sound(6, 8, &[table(0, &[1, 2, 3, 4, 5, 6], u64::MAX)]));
+    assert!(!sound(5, 8, &[table(0, &[1, 2, 3, 4, 5, 6], 1)]));
+    assert!(!sound(4, 8, &[table(1000, &[1, 2], 8)]));
+    assert!(!sound(4, 8, &[table(0, &[1], 1)]));
+    assert!(!sound(4, 8, &[table(0, &[], 0)]));
+    assert!(!sound(4, 8, &[table(0, &[2, 1], 8)]));
+    assert!(!sound(4, 8, &[table(0, &[1, 1], 8)]));
+    assert!(!sound(4, 8, &[table(0, &[0, 1], 8)]));
+    assert!(!sound(4, 8, &[table(0, &[1, 1000], 8)]));
+}
+
+#[test]
+fn table_inputs() {
+    assert!(sound(4, 8, &[table(0, &[1, 2], 8), table(0, &[1, 1001], 8)]));
+    assert!(!sound(4, 8, &[table(9, &[1, 2], 8), table(0, &[1, 1001], 8)]));
+    assert!(!sound(4, 8, &[table(0, &[1, 1001], 8)]));
+    assert!(!sound(4, 8, &[table(0, &[1, 1002], 8), table(0, &[1, 2], 8)]));
+}
+
+#[test]
+fn nets() {
+    assert!(sound(4, 8, &[table(9, &[1, 2], 8), table(8, &[1, 9], 8)]));
+    assert!(!sound(4, 8, &[table(9, &[1, 2], 8), table(9, &[3, 4], 8)]));
+    assert!(!sound(4, 8, &[table(9, &[1, 9], 8)]));
+    assert!(!sound(4, 8, &[table(8, &[1, 9], 8), table(9, &[1, 2], 8)]));
+    assert!(sound(4, 8, &[table(0, &[1, 2], 8), table(0, &[1, 2], 8)]));
+}
+
+#[test]
+fn layout() {
+    let good = "     2     8     1\n     1     9     2     1     2                    8\n";
+    assert_eq!(read_list(good.as_bytes()).unwrap().list(), good);
+    let bad = [
+        "",
+        "     2     8\n",
+        "     2     8     1\n",
+        "     2     8     0\n     1     9     2     1     2                    8\n",
+        "     2     8     1\n     2     9     2     1     2                    8\n",
+        "     2     8     1\n     1     9     3     1     2                    8\n",
+        "     2     8     1\n     1     9     2     1     2                   8\n",
+        "     2     8     1\n     1     9     2     1     2                    8",
+        "     2     8     1\n     1     9     2     1     2                   08\n",
+        "     2     8     1\n     1     9     2     1     2                   -8\n",
+        "     2     8     1\n     1 65545     2     1     2                    8\n     ",
+        "     2     8     1\n     1     9     2     1     2 18446744073709551616\n",
+    ];
+    for list in bad {
+        assert!(read_list(list.as_bytes()).is_err(), "{list:?}");
+    }
+}
