@@ -1,15 +1,19 @@
 //! Times the independent mapper, and with the feature `linked` the proved one beside it, on the same inputs in one run.
 //!
 //!     bench [ROUNDS]
+//!     bench once INPUT none | own | proved
 //!
 //! Each figure is the least time of the rounds for one whole input, in microseconds; the ratio is the proved mapper's time over the
-//! independent one's. The two are measured by turns, so that both meet the same load.
+//! independent one's. The two are measured by turns, so that both meet the same load. `once` maps one input (a row, from 1) one time,
+//! for a count of instructions, and with `none` does all but that.
 
 use std::hint::black_box;
+use std::process::ExitCode;
 use std::time::Instant;
 
 use outside::program;
 use outside::samples::{chain, full_part, input};
+use outside::tool::finish;
 
 /// A named input.
 struct Sample {
@@ -73,10 +77,34 @@ fn measure(rounds: usize, sample: &Sample) {
     println!("{:<34}{ours:>14.1}", sample.name);
 }
 
-fn main() {
-    let rounds = std::env::args().nth(1).and_then(|rounds| rounds.parse().ok()).unwrap_or(50);
+/// Maps one input one time.
+fn once(row: &str, mapper: &str) -> Result<(), String> {
+    let row = row.parse::<usize>().ok().and_then(|row| row.checked_sub(1));
+    let samples = samples();
+    let sample = row.and_then(|row| samples.get(row)).ok_or("no such input")?;
+    match mapper {
+        "none" => (),
+        "own" => own(&sample.text),
+        #[cfg(feature = "linked")]
+        "proved" => proved(&sample.text, &mut vec![0; outside::linked::LONGEST]),
+        _ => return Err(format!("no mapper {mapper:?}")),
+    }
+    Ok(())
+}
+
+fn run() -> Result<(), String> {
+    let arguments: Vec<String> = std::env::args().skip(1).collect();
+    if let [_, row, mapper] = &arguments[..] {
+        return once(row, mapper);
+    }
+    let rounds = arguments.first().map_or(Ok(50), |rounds| rounds.parse().map_err(|_| format!("{rounds:?} is no number")))?;
     println!("{:<34}{:>14}{:>14}{:>10}", "input", "independent", "proved", "ratio");
     for sample in samples() {
         measure(rounds, &sample);
     }
+    Ok(())
+}
+
+fn main() -> ExitCode {
+    finish("bench", run().map(|()| String::new()))
 }
