@@ -4,6 +4,7 @@ pub mod SoundTest
 pub mod Sheets
 pub mod Adds
 pub mod Openings
+pub mod Adding
 pub mod Calls
 pub mod Demands
 pub mod Settled
@@ -11,6 +12,7 @@ pub mod Listing
 pub mod SoundLaws
 pub mod ExtendLaws
 pub mod AddLaws
+pub mod AddingLaws
 pub mod CountLaws
 pub mod ValueLaws
 pub mod LeafLaws
@@ -19,5 +21,7 @@ pub mod PossibleLaws
 pub mod FreeLaws
 pub mod ListingLaws
 pub mod Theorems
+pub mod Promises
 pub mod Examples
 pub mod ChainExample
+pub mod AddingExamples

@@ -1,4 +1,6 @@
 // Parts of the row module: a device that holds lookup tables.
+mod add;
+
 ghost use mathlib.Core.Path.{_≡_};
 ghost use mathlib.Core.List.{[]};
 ghost use Prim.Native.Nat.{_≤_};
@@ -10,6 +12,7 @@ ghost use Rattle.part.specs.Adds.{empty as emptyPart, opened};
 ghost use Rattle.part.specs.Openings.{openedResult};
 ghost use Rattle.part.specs.Parts.{Shaped, inUse};
 ghost use Rattle.part.specs.SoundTest.{sound as isSound};
+use sheet::Refusal;
 use table::INPUT_ROOM;
 use table::TABLE_ROOM;
 use table::Table;
@@ -46,6 +49,22 @@ pub enum Opening {
 pub struct Opened {
     pub part: Part,
     pub answer: Opening,
+}
+
+// What an add answers. Adding in specs/ gives the refusals' numbers and places.
+pub enum Adding {
+    Accepted,
+    Unsound,
+    Misread(Refusal, u16),
+    OutputDriven,
+    OutputRead,
+    Full,
+}
+
+// The part that an add hands back, the one it got where it is refused, and the answer.
+pub struct Added {
+    pub part: Part,
+    pub answer: Adding,
 }
 
 // A part with this K and this capacity that holds no table.

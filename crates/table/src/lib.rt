@@ -1,5 +1,5 @@
 // Lookup tables as records of a part.
-mod inputs;
+pub mod inputs;
 pub mod rules;
 pub mod run;
 

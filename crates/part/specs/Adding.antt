@@ -1,0 +1,58 @@
+-- What the code's add reads and answers, in the words of Adds. Definitions only: the laws are in AddingLaws.
+use Prim.Native.Nat.{ℕ, _+_, _≤_}
+use mathlib.Core.Path.{_≡_}
+use mathlib.Core.List.{List}
+use lib.ListN.{length}
+use lib.Seq.{paste}
+use Rattle.sheet.specs.declared.Sheet.{Sheet as CodeSheet}
+use Rattle.sheet.specs.Sheet.{Outcome, sheet as read, refused as unread}
+use Rattle.sheet.specs.Read.{readSheet}
+use Rattle.sheet.specs.Answers.{numberOf, drawnSheet}
+use Rattle.sheet.specs.Trees.{drawn}
+use Rattle.cover.specs.Added.{Sheet}
+use Rattle.table.specs.Limits.{tableRoom}
+use Rattle.mapper.specs.declared.map.Mapping.{Mapping}
+use Rattle.part.specs.Sheets.{Reading, sheet, refused as turnedDown}
+use Rattle.part.specs.Adds.{Answer, accepted, refused, Result}
+use Rattle.part.specs.declared.Part.{Part}
+use Rattle.part.specs.declared.Added.{Added}
+use Rattle.part.specs.declared.Adding.{Adding}
+use Rattle.part.specs.declared.Adding.the-variants.{Accepted, Unsound, Misread, OutputDriven, OutputRead, Full}
+
+-- 01's number and place for each answer
+abbrev pub addingAnswer : Adding → Answer
+addingAnswer Accepted = accepted
+addingAnswer Unsound = refused 20 0
+addingAnswer (Misread why line) = refused (numberOf why) line
+addingAnswer OutputDriven = refused 21 0
+addingAnswer OutputRead = refused 22 0
+addingAnswer Full = refused 23 0
+
+-- the part and the answer that an add hands back
+abbrev pub addedResult : Added → Result
+addedResult r = record { part = r .part; answer = addingAnswer (r .answer) }
+
+-- the sheet that is drawn, or the refusal as it is
+abbrev pub readingOf : Outcome → Reading
+readingOf (read s) = sheet (drawn s)
+readingOf (unread number line) = turnedDown number line
+
+-- THE READING that an add goes by: 01's, of a text that is one sheet
+unfoldable pub readOf : List ℕ → Reading
+readOf text = readingOf (readSheet text)
+
+-- the tree of the code's sheet
+abbrev pub sheetOf : CodeSheet → Sheet
+sheetOf s = drawn (drawnSheet s)
+
+-- ---- storing
+
+-- a mapping that the part has room for
+pub record Storable (p : Part) (m : Mapping) : Type 0 where
+  pub room : p .used + m .count ≤ tableRoom
+  pub few : m .count ≤ 256
+  pub records : length (m .tables) ≡ 256
+
+-- the part with the mapping's records after those in use
+abbrev pub stored : Part → Mapping → Part
+stored p m = record { k = p .k; capacity = p .capacity; used = p .used + m .count; tables = paste (p .tables) (p .used) (m .tables) (m .count) }
