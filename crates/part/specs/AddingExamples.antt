@@ -1,38 +1,39 @@
--- The reading of an add run on texts: the two sheets of 01's example, and some that are turned down. Each is a computation.
-use mathlib.Core.Path.{_≡_, refl}
-use mathlib.Core.Bool.{Bool, true, false}
-use mathlib.Core.List.{List, [], _∷_, map}
+-- Answers of adds, computed: a text for each condition of the part, in its order after the sheet's own.
+use Prim.Native.Nat.{ℕ}
 use Prim.Native.String.{String}
-use Rattle.tree.specs.declared.Kind.the-variants.{And, Or}
-use Rattle.tree.specs.Tree.{Node, Edges}
+use mathlib.Core.Path.{_≡_, refl}
+use mathlib.Core.List.{List, [], _∷_, map}
+use Rattle.cover.specs.Key.{pack}
+use Rattle.cover.specs.Subsets.{least-of}
 use Rattle.sheet.specs.Step.{_>>=_, require, given}
 use Rattle.sheet.specs.Checks.{bytes}
-use Rattle.part.specs.Sheets.{Reading, sheet, refused}
+use Rattle.part.specs.Parts.{blanks}
+use Rattle.part.specs.SoundTest.{sound}
+use Rattle.part.specs.Adds.{Answer, accepted, refused}
+use Rattle.part.specs.Demands.{leastNumber}
+use Rattle.part.specs.Settled.{answerOf}
 use Rattle.part.specs.Adding.{readOf}
+use Rattle.part.specs.Examples.{part}
+use Rattle.part.specs.declared.Part.{Part}
 
--- two fanins, the second inverted or not
-abbrev pair : Bool → Node → Node → Edges
-pair i s t = Edges.edge false s (Edges.edge i t Edges.none)
+-- the part of 01's list, which drives 20 and 21 and reads 1 to 5 and 20, with another capacity and used count
+abbrev with : (capacity used : ℕ) → Part
+with capacity used = record { k = part .k; capacity = capacity; used = used; tables = part .tables }
 
 abbrev Case : Type 0
-Case = String × Reading
+Case = Part × String × Answer
 
 abbrev cases : List Case
-cases = (
-  "    20     3\n     2     2     1     2\n     2     2     3     4\n     1     2  1001  1002\n",
-  sheet (record {
-    tree = Node.gate And
-        (pair false (Node.gate Or (pair false (Node.leaf 1) (Node.leaf 2))) (Node.gate Or (pair false (Node.leaf 3) (Node.leaf 4))));
-    out = 20;
-    inverted = false;
-  }),
-)
-    ∷ ("   -21     1\n     1     2    20    -5\n", sheet (record { tree = Node.gate And (pair true (Node.leaf 20) (Node.leaf 5)); out = 21; inverted = true }))
-    ∷ ("", refused 1 1)
-    ∷ ("    20     1\n     1    11     1     2     3     4     5     6     7     8     9    10\n", refused 7 2)
-    ∷ ("    20     2\n     1     2     1     2\n     1     2     3     4\n", refused 13 2)
+cases =
+    (with 8 1, "", refused 20 0)
+    ∷ (with 8 2, "", refused 1 1)
+    ∷ (with 8 2, "    22     1\n     1     2     6    22\n", refused 11 2)
+    ∷ (with 2 2, "    20     1\n     1     2     6     7\n", refused 21 0)
+    ∷ (with 2 2, "    -5     1\n     1     2     6     7\n", refused 22 0)
+    ∷ (with 2 2, "    22     1\n     1     2     6     7\n", refused 23 0)
+    ∷ (with 3 2, "    22     1\n     1     2     6     7\n", accepted)
     ∷ []
 
-reads-cases : map (λ (c : Case). readOf (bytes (c .0))) cases ≡ map (λ (c : Case). c .1) cases
-unfolding readOf _>>=_ require given
-reads-cases = refl
+answers-right : map (λ (c : Case). answerOf (c .0) (readOf (bytes (c .1)))) cases ≡ map (λ (c : Case). c .2) cases
+unfolding readOf sound blanks leastNumber pack least-of _>>=_ require given
+answers-right = refl

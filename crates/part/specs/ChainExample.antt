@@ -1,5 +1,5 @@
 -- The two adds of 01's example, "List", one after the other on the part that an opening gave: the promises can be kept, and the part
--- that they leave behind is the one whose list 01 prints (Examples). The texts are stood for by [] and 0 ∷ [].
+-- that they leave behind is the one whose list 01 prints (Examples).
 use Prim.Native.Nat.{ℕ, _≤_}
 use native.Mathlib.Omega.{arith}
 use mathlib.Core.Path.{_≡_, refl}
@@ -12,10 +12,13 @@ use Rattle.tree.specs.Tree.{leaf, gate, none, edge}
 use Rattle.cover.specs.Cover.{Cover, net, top, end, old, Rooted, rooted, tables, CoverOf, Least, same, split, done, match}
 use Rattle.cover.specs.Tables.{Table as LookupTable}
 use Rattle.cover.specs.Added.{Sheet, AddedLeast}
+use Rattle.sheet.specs.Step.{_>>=_, require, given}
+use Rattle.sheet.specs.Checks.{bytes}
 use Rattle.part.specs.Parts.{blanks}
 use Rattle.part.specs.SoundTest.{sound}
-use Rattle.part.specs.Sheets.{Reading, sheet}
+use Rattle.part.specs.Sheets.{sheet}
 use Rattle.part.specs.Adds.{accepted, Result, opened, extended, Add}
+use Rattle.part.specs.Adding.{readOf}
 use Rattle.part.specs.Calls.{add, final, Chain, call}
 use Rattle.part.specs.Examples.{part}
 use Rattle.part.specs.declared.Part.{Part}
@@ -32,9 +35,20 @@ first = record {
 abbrev second : Sheet
 second = record { tree = gate and (edge false (leaf 20) (edge true (leaf 5) none)); out = 21; inverted = true }
 
-abbrev readSheet : List ℕ → Reading
-readSheet [] = sheet first
-readSheet (x ∷ xs) = sheet second
+abbrev first-text : List ℕ
+first-text = bytes "    20     3\n     2     2     1     2\n     2     2     3     4\n     1     2  1001  1002\n"
+
+abbrev second-text : List ℕ
+second-text = bytes "   -21     1\n     1     2    20    -5\n"
+
+-- the texts read as the sheets
+first-read : readOf first-text ≡ sheet first
+unfolding readOf _>>=_ require given
+first-read = refl
+
+second-read : readOf second-text ≡ sheet second
+unfolding readOf _>>=_ require given
+second-read = refl
 
 abbrev table-1 : List LookupTable
 table-1 = record { drives = 20; inputs = 1 ∷ 2 ∷ 3 ∷ 4 ∷ []; truth = 61152 } ∷ []
@@ -111,19 +125,19 @@ added-2 = record {
   fewest = least-2;
 }
 
-add-1 : Add readSheet start [] middle accepted
+add-1 : Add readOf start first-text middle accepted
 unfolding Add sound blanks
-add-1 = (1, least-1, record { new = table-1; least = added-1; part = refl; answer = refl })
+add-1 = rw first-read (1, least-1, record { new = table-1; least = added-1; part = refl; answer = refl })
 
-add-2 : Add readSheet middle (0 ∷ []) end-part accepted
+add-2 : Add readOf middle second-text end-part accepted
 unfolding Add sound blanks
-add-2 = (1, least-2, record { new = table-2; least = added-2; part = refl; answer = refl })
+add-2 = rw second-read (1, least-2, record { new = table-2; least = added-2; part = refl; answer = refl })
 
 abbrev results : List Result
 results = record { part = middle; answer = accepted } ∷ record { part = end-part; answer = accepted } ∷ []
 
 -- the promises can be kept
-chain : Chain readSheet start (add [] ∷ add (0 ∷ []) ∷ []) results
+chain : Chain readOf start (add first-text ∷ add second-text ∷ []) results
 chain = call add-1 (call add-2 calls.done)
 
 -- and the part is the one in 01
