@@ -1,14 +1,17 @@
+-- Mapping a sheet. First on lists: Run (the run of a gate's plan on tables) and Mapping (a sheet gate by gate); their laws are RunLaws,
+-- SafeLaws, CountLaws and MappingLaws. Then what the code does, as that: Pendings, Merging, CodeRun and CodeMap, which has THE PROMISE
+-- OF THE MAPPING, `SheetMapped`; their laws are MergeLaws, CodeRunLaws, CodeMapLaws and SheetLaws.
 pub mod Run
+pub mod Mapping
 pub mod Pendings
 pub mod Merging
-pub mod Runs
-pub mod Mapping
-pub mod Maps
-pub mod MergeLaws
+pub mod CodeRun
+pub mod CodeMap
 pub mod RunLaws
 pub mod SafeLaws
-pub mod RunsLaws
 pub mod CountLaws
 pub mod MappingLaws
-pub mod MapsLaws
+pub mod MergeLaws
+pub mod CodeRunLaws
+pub mod CodeMapLaws
 pub mod SheetLaws

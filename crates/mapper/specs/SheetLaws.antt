@@ -43,7 +43,7 @@ use Rattle.table.specs.Limits.{inputRoom, tableRoom}
 use Rattle.table.specs.Records.{tableOf, recordOf}
 use Rattle.table.specs.RecordLaws.{read-back}
 use Rattle.table.specs.RuleLaws.{map-append}
-use Rattle.mapper.specs.RunsLaws.{map-at, stack-length, placed-length}
+use Rattle.mapper.specs.CodeRunLaws.{map-at, stack-length, placed-length}
 use Rattle.mapper.specs.declared.run.Run.{Run}
 use Rattle.mapper.specs.declared.run.Operands.{Operands}
 use Rattle.mapper.specs.declared.map.Held.{Held}
@@ -51,9 +51,9 @@ use Rattle.mapper.specs.declared.map.MappedGate.{MappedGate}
 use Rattle.mapper.specs.declared.map.Mapping.{Mapping}
 use Rattle.mapper.specs.Run.{run}
 use Rattle.mapper.specs.Pendings.{operandOf, Kept, Neat}
-use Rattle.mapper.specs.Runs.{noTable, noPending, operandAt, stackOf, placedOf, stateOf, begun, faninsOf}
+use Rattle.mapper.specs.CodeRun.{noTable, noPending, operandAt, stackOf, placedOf, stateOf, begun, faninsOf}
 use Rattle.mapper.specs.Mapping.{Mapped, unmapped, mappedAt, keyOf, keysOf, heldTable, operandsOf, Progress, Next}
-use Rattle.mapper.specs.Maps.{keysIn, Mappable, GateMapped, HeldIs, noHeld, HeldAll, Gathered, Gathering, Staged, Reaches, Gathers, tablesIn, Sheetable, SheetMapped, Going, flipped, driving, rooted}
+use Rattle.mapper.specs.CodeMap.{keysIn, Mappable, GateMapped, HeldIs, noHeld, HeldAll, Gathered, Gathering, Staged, Reaches, Gathers, tablesIn, Sheetable, SheetMapped, Going, flipped, driving, rooted}
 use Rattle.mapper.specs.MappingLaws.{source-standing, mapping-start, mapping-next, mapping-added, done-count}
 use Rattle.mapper.specs.Merging.{Tabled}
 use Rattle.mapper.specs.MergeLaws.{tabled-record, tabled-inverted}

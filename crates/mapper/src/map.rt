@@ -3,7 +3,7 @@ ghost use mathlib.Core.Path.{_≡_};
 ghost use Prim.Native.Nat.{_+_, _<_, _≤_};
 ghost use lib.ListN.{length};
 ghost use Rattle.sheet.specs.Answers.{drawnGate};
-ghost use Rattle.mapper.specs.Maps.{Begun, withFanin, leafOf, Mappable, GateMapped, Reaches, Gathers, Staged, Sheetable, SheetMapped, flipped, rooted};
+ghost use Rattle.mapper.specs.CodeMap.{Begun, withFanin, leafOf, Mappable, GateMapped, Reaches, Gathers, Staged, Sheetable, SheetMapped, flipped, rooted};
 ghost use Rattle.mapper.specs.Merging.{Tabled};
 use crate::Pending;
 use crate::merge::inverted;

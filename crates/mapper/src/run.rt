@@ -1,7 +1,7 @@
 // The run of a gate's plan on pending tables.
 ghost use mathlib.Core.Path.{_≡_};
 ghost use Prim.Native.Nat.{_+_, _<_, _≤_};
-ghost use Rattle.mapper.specs.Runs.{pushed, placedIf, operandAt, replaced, heldIf, joined, Joins, Holds, Advances, Advanced, Runnable, Ran};
+ghost use Rattle.mapper.specs.CodeRun.{pushed, placedIf, operandAt, replaced, heldIf, joined, Joins, Holds, Advances, Advanced, Runnable, Ran};
 use crate::Pending;
 use crate::merge::merge;
 use crate::merge::single;

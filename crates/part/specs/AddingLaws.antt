@@ -28,8 +28,8 @@ use Rattle.table.specs.declared.Table.{Table}
 use Rattle.table.specs.Limits.{tableBase}
 use Rattle.table.specs.Records.{reads, tableOf, recordOf}
 use Rattle.mapper.specs.declared.map.Mapping.{Mapping}
-use Rattle.mapper.specs.Runs.{noTable}
-use Rattle.mapper.specs.Maps.{tablesIn, SheetMapped}
+use Rattle.mapper.specs.CodeRun.{noTable}
+use Rattle.mapper.specs.CodeMap.{tablesIn, SheetMapped}
 use Rattle.part.specs.Parts.{inUse, tablesOf, Shaped}
 use Rattle.part.specs.Sound.{Sound}
 use Rattle.part.specs.SoundTest.{sound}

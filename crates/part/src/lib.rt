@@ -10,7 +10,7 @@ ghost use Rattle.table.specs.Limits.{tableRoom};
 ghost use Rattle.table.specs.RecordTest.{isBlank, isNone, walk};
 ghost use Rattle.part.specs.Adds.{empty as emptyPart, opened};
 ghost use Rattle.part.specs.Openings.{openedResult};
-ghost use Rattle.part.specs.Parts.{Shaped, inUse};
+ghost use Rattle.part.specs.Parts.{inUse};
 ghost use Rattle.part.specs.SoundTest.{sound as isSound};
 use sheet::Refusal;
 use table::INPUT_ROOM;
@@ -29,13 +29,6 @@ pub struct Part {
     pub capacity: u16,
     pub used: u16,
     pub tables: [Table; 800],
-}
-
-// The used count. That the part has its type's shape holds of every part.
-pub fn used(p: Part) -> u16
-    ensures { λ r. ⌜ (r ≡ p .used) × Shaped p ⌝ }
-{
-    p.used
 }
 
 // What an opening answers. Openings in specs/ gives the refusals' numbers.

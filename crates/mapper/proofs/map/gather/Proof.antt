@@ -6,8 +6,8 @@ use borrow.Author.Needs.{needs}
 use Rattle.sheet.specs.declared.Source.the-variants.{Gate}
 use Rattle.sheet.specs.Limits.{mostGates}
 use Rattle.sheet.specs.Answers.{drawnGate}
-use Rattle.mapper.specs.Maps.{withFanin, Gathering}
-use Rattle.mapper.specs.MapsLaws.{noEdge, gathering-start, gather-net, gather-gate, gate-reached}
+use Rattle.mapper.specs.CodeMap.{withFanin, Gathering}
+use Rattle.mapper.specs.CodeMapLaws.{noEdge, gathering-start, gather-net, gather-gate, gate-reached}
 use Rattle.mapper.proofs.map.gather.Statement.{statement}
 use Rattle.mapper.proofs.map.gather.Tie as tie
 

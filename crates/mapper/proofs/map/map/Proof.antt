@@ -6,7 +6,7 @@ use borrow.Author.Needs.{needs}
 use Rattle.sheet.proofs.Gate.{the-field}
 use Rattle.sheet.specs.Limits.{mostGates}
 use Rattle.sheet.specs.Answers.{drawnSheet}
-use Rattle.mapper.specs.Maps.{Going}
+use Rattle.mapper.specs.CodeMap.{Going}
 use Rattle.mapper.specs.SheetLaws.{going-start, some-gates, step-reaches, step-mappable, step-room, step-next, end-room, end-mapped}
 use Rattle.mapper.proofs.map.map.Statement.{statement}
 use Rattle.mapper.proofs.map.map.Tie as tie

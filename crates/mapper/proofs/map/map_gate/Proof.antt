@@ -1,5 +1,5 @@
 use mathlib.Core.Path.{ap}
-use Rattle.mapper.specs.MapsLaws.{gate-runnable, gate-mapped}
+use Rattle.mapper.specs.CodeMapLaws.{gate-runnable, gate-mapped}
 use borrow.Author.Needs.{needs}
 use Rattle.mapper.proofs.map.map_gate.Statement.{statement}
 use Rattle.mapper.proofs.map.map_gate.Tie as tie

@@ -4,8 +4,8 @@ use lib.ListN.{length, length-map}
 use Rattle.table.proofs.Table.{the-field}
 use Prim.Native.Nat.{_-_}
 use borrow.Author.Needs.{needs}
-use Rattle.mapper.specs.Maps.{Staging}
-use Rattle.mapper.specs.MapsLaws.{staging-start, staging-next, staging-end}
+use Rattle.mapper.specs.CodeMap.{Staging}
+use Rattle.mapper.specs.CodeMapLaws.{staging-start, staging-next, staging-end}
 use Rattle.mapper.proofs.map.stage.Statement.{statement}
 use Rattle.mapper.proofs.map.stage.Tie as tie
 

@@ -1,7 +1,7 @@
 use Prim.Native.Nat.{_+_}
 use mathlib.Core.Path.{ap}
 use lib.ListN.{set}
-use Rattle.mapper.specs.Maps.{driving}
+use Rattle.mapper.specs.CodeMap.{driving}
 use borrow.Author.Needs.{needs}
 use Rattle.mapper.proofs.map.with_root.Statement.{statement}
 use Rattle.mapper.proofs.map.with_root.Tie as tie

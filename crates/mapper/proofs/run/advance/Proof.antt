@@ -1,4 +1,4 @@
-use Rattle.mapper.specs.RunsLaws.{push-room, push-advanced, join-fits, join-advanced}
+use Rattle.mapper.specs.CodeRunLaws.{push-room, push-advanced, join-fits, join-advanced}
 use borrow.Author.Needs.{needs}
 use Rattle.mapper.proofs.run.advance.Statement.{statement}
 use Rattle.mapper.proofs.run.advance.Tie as tie

@@ -3,8 +3,8 @@ use mathlib.Core.Path.{_≡_, sym, _∙_}
 use lib.ListN.{length, length-map}
 use Rattle.cover.proofs.Step.{the-field}
 use borrow.Author.Needs.{needs}
-use Rattle.mapper.specs.Runs.{Following}
-use Rattle.mapper.specs.RunsLaws.{following-start, following-advances, following-next, following-end}
+use Rattle.mapper.specs.CodeRun.{Following}
+use Rattle.mapper.specs.CodeRunLaws.{following-start, following-advances, following-next, following-end}
 use Rattle.mapper.proofs.run.follow.Statement.{statement}
 use Rattle.mapper.proofs.run.follow.Tie as tie
 

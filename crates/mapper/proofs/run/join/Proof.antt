@@ -1,8 +1,8 @@
 use mathlib.Core.Path.{_≡_, ap, _∙_, subst₂}
 use native.Mathlib.Omega.{arith}
 use Rattle.mapper.specs.Pendings.{Mergeable}
-use Rattle.mapper.specs.Runs.{leftOf, rightOf}
-use Rattle.mapper.specs.RunsLaws.{placed-depth, placed-count, joined-by}
+use Rattle.mapper.specs.CodeRun.{leftOf, rightOf}
+use Rattle.mapper.specs.CodeRunLaws.{placed-depth, placed-count, joined-by}
 use borrow.Author.Needs.{needs}
 use Rattle.mapper.proofs.run.join.Statement.{statement}
 use Rattle.mapper.proofs.run.join.Tie as tie

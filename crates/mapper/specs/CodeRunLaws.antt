@@ -29,7 +29,7 @@ use Rattle.mapper.specs.declared.run.Operands.{Operands}
 use Rattle.mapper.specs.Run.{Operand, single, merged, merge, operand, tables, joinTop, step, run, SafeJoin, SafeStep, SafeRun}
 use Rattle.mapper.specs.SafeLaws.{merged-length}
 use Rattle.mapper.specs.Pendings.{operandOf, Kept, Neat, Mergeable}
-use Rattle.mapper.specs.Runs.{pushed, placedIf, noTable, noPending, operandAt, replaced, heldIf, leftOf, leftPlaced, rightOf, joined, Joins, stackOf, placedOf, stateOf, Holds, faninsOf, Good, Advances, Advanced, begun, Runnable, Ran, Following}
+use Rattle.mapper.specs.CodeRun.{pushed, placedIf, noTable, noPending, operandAt, replaced, heldIf, leftOf, leftPlaced, rightOf, joined, Joins, stackOf, placedOf, stateOf, Holds, faninsOf, Good, Advances, Advanced, begun, Runnable, Ran, Following}
 
 -- ---- the code's steps
 

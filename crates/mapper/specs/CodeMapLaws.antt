@@ -43,11 +43,11 @@ use Rattle.mapper.specs.declared.map.Mapping.{Mapping}
 use Rattle.mapper.specs.Run.{Operand, single}
 use Rattle.mapper.specs.declared.Pending.{Pending}
 use Rattle.mapper.specs.Pendings.{operandOf, Kept, Neat}
-use Rattle.mapper.specs.Runs.{noTable, noPending, operandAt, faninsOf, Good, Runnable, Ran}
-use Rattle.mapper.specs.RunsLaws.{map-at, kept-count, fanin-count, record-neat, stored-all}
+use Rattle.mapper.specs.CodeRun.{noTable, noPending, operandAt, faninsOf, Good, Runnable, Ran}
+use Rattle.mapper.specs.CodeRunLaws.{map-at, kept-count, fanin-count, record-neat, stored-all}
 use Rattle.mapper.specs.SafeLaws.{safe-planned}
 use Rattle.mapper.specs.Mapping.{Mapped as MappedOnList, unmapped, mappedAt, keyOf, keysOf, heldTable, sourceTable, operandsOf}
-use Rattle.mapper.specs.Maps.{leafOf, Begun, withFanin, keysIn, Mappable, GateMapped, HeldIs, noHeld, HeldAll, Reaches, Gathered, Gathering, Gathers, Staging, Staged}
+use Rattle.mapper.specs.CodeMap.{leafOf, Begun, withFanin, keysIn, Mappable, GateMapped, HeldIs, noHeld, HeldAll, Reaches, Gathered, Gathering, Gathers, Staging, Staged}
 
 -- ---- one gate
 

@@ -1,4 +1,4 @@
--- The code's mapping of a sheet, as the mapping on lists. Definitions only: the laws are in MapsLaws.
+-- The code's mapping of a sheet, as the mapping on lists. Definitions only: the laws are in CodeMapLaws.
 use Prim.Native.Nat.{ℕ, _+_, _<_, _≤_}
 use mathlib.Core.Path.{_≡_}
 use mathlib.Core.Bool.{Bool, true, false}
@@ -35,7 +35,7 @@ use Rattle.mapper.specs.declared.run.Operands.{Operands}
 use Rattle.mapper.specs.declared.map.Held.{Held}
 use Rattle.mapper.specs.declared.map.MappedGate.{MappedGate}
 use Rattle.mapper.specs.Run.{single, run}
-use Rattle.mapper.specs.Runs.{noTable, noPending, operandAt, faninsOf, Good, begun, stateOf, Holds}
+use Rattle.mapper.specs.CodeRun.{noTable, noPending, operandAt, faninsOf, Good, begun, stateOf, Holds}
 use mathlib.Core.List.{List, _++_, map}
 
 -- a net as a fanin
