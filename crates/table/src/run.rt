@@ -2,7 +2,8 @@
 // The borrow checker covers no function that has a `&[Table]`, so `first_bad` alone is proved by hand. It holds a loop and no
 // decision: `begin`, `step` and `finish`, which take everything by value and are covered, decide.
 ghost use mathlib.Core.Path.{_≡_};
-ghost use Prim.Native.Nat.{_<_};
+ghost use Prim.Native.Nat.{_<_, _≤_};
+ghost use lib.ListN.{take};
 ghost use Rattle.table.specs.RecordTest.{tested};
 ghost use Rattle.table.specs.RunTest.{beginOf, stepOf, stoppedOf, finishOf, verdictOf};
 use crate::INPUT_ROOM;
@@ -135,4 +136,23 @@ pub fn first_bad(run: &[Table], k: u32, capacity: u32) -> Found
         w = step(w, run[w.at], n);
     }
     finish(w)
+}
+
+// The first `count` of 16 records, lent to `first_bad`. It has a `&[Table]` too, so it is proved by hand.
+fn first_bad_of_prefix(records: [Table; 16], count: usize, k: u32, capacity: u32) -> Found
+    requires { ⌜ count ≤ 16 ⌝ }
+    ensures { λ r. ⌜ verdictOf r ≡ tested k capacity (take count records) ⌝ }
+{
+    first_bad(&records[..count], k, capacity)
+}
+
+// The first bad record of the first `count` records, or of all where there are no more: for callers that have no `&[Table]`, which
+// need no proof by hand.
+pub fn first_bad_of(records: [Table; 16], count: usize, k: u32, capacity: u32) -> Found
+    ensures { λ r. ⌜ verdictOf r ≡ tested k capacity (take count records) ⌝ }
+{
+    if count < 16 {
+        return first_bad_of_prefix(records, count, k, capacity);
+    }
+    first_bad_of_prefix(records, 16, k, capacity)
 }
