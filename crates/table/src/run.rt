@@ -1,6 +1,6 @@
 // The rules of a run of records that is lent: a walk that copies each record out and tests it by value.
-// The borrow checker covers no function that has a `&[Table]`, so `first_bad` alone is proved by hand. It holds a loop and no
-// decision: `begin`, `step` and `finish`, which take everything by value and are covered, decide.
+// The borrow checker covers no function that has a `&[Table]`, so `first_bad` and `first_bad_of_prefix` are proved by hand. They
+// hold a loop and a call, and no decision: `begin`, `step` and `finish`, which take everything by value and are covered, decide.
 ghost use mathlib.Core.Path.{_≡_};
 ghost use Prim.Native.Nat.{_<_, _≤_};
 ghost use lib.ListN.{take};
@@ -138,7 +138,7 @@ pub fn first_bad(run: &[Table], k: u32, capacity: u32) -> Found
     finish(w)
 }
 
-// The first `count` of 16 records, lent to `first_bad`. It has a `&[Table]` too, so it is proved by hand.
+// The first `count` of 16 records, lent to `first_bad`.
 fn first_bad_of_prefix(records: [Table; 16], count: usize, k: u32, capacity: u32) -> Found
     requires { ⌜ count ≤ 16 ⌝ }
     ensures { λ r. ⌜ verdictOf r ≡ tested k capacity (take count records) ⌝ }
