@@ -47,7 +47,7 @@ empty-shaped k capacity = record {
 }
 
 -- what an opening gives, by its tests
-opened-cases : (k capacity : ℕ) (P : Result → Type 0) →
+pub opened-cases : (k capacity : ℕ) (P : Result → Type 0) →
     (KRange k → CapacityRange capacity → P (record { part = empty k capacity; answer = accepted })) →
     ((¬ KRange k) → P (record { part = empty 0 0; answer = refused 2 0 })) →
     (KRange k → (¬ CapacityRange capacity) → P (record { part = empty 0 0; answer = refused 3 0 })) → P (opened k capacity)

@@ -1,0 +1,207 @@
+-- DEMAND 1, of each entry point that can turn something down: `Part::open`, `Part::add`, `write_line` and `write_list`, each about what its
+-- contract says. The results are `opening-told`, `add-told`, `line-told` and `list-told`; Conditions has what they say.
+use Prim.Native.Nat.{ℕ, _+_, _-_, _≤_}
+use native.Mathlib.Omega.{arith}
+use mathlib.Core.Path.{_≡_, refl, sym, ap, _∙_, subst}
+use mathlib.Core.Bool.{Bool, true, false, cond}
+use mathlib.Core.List.{List}
+use lib.Dec.{leb}
+use lib.ListN.{length}
+use Rattle.lists.specs.TestLaws.{Reflects, reflects-le, reflects-true, by-reflects}
+use Rattle.cover.specs.Cover.{Least}
+use Rattle.cover.specs.Least.{least-unique}
+use Rattle.cover.specs.Added.{Sheet, Fresh}
+use Rattle.table.specs.Limits.{KRange, CapacityRange}
+use Rattle.part.specs.declared.Part.{Part}
+use Rattle.part.specs.Parts.{tablesOf}
+use Rattle.part.specs.Sound.{Sound}
+use Rattle.part.specs.SoundTest.{sound}
+use Rattle.part.specs.SoundLaws.{sound-reflects}
+use Rattle.part.specs.Sheets.{Reading, sheet}
+use Rattle.part.specs.Adds.{Answer, accepted, refused, opened, isDriven, isRead, Add}
+use Rattle.part.specs.AddLaws.{driven-reflects, read-reflects, opened-cases, Outcome, unsound, misread, driven, read, full, taken}
+use Rattle.part.specs.Adding.{readOf}
+use Rattle.part.specs.CountLaws.{least-number, not-refused}
+use Rattle.part.specs.Demands.{leastNumber}
+use Rattle.part.specs.Settled as Settled
+use Rattle.part.specs.Settled.{offered, answerOf}
+use Rattle.part.specs.Promises.{reading, add-outcome, answer-settled, refused-stays}
+use Rattle.part.specs.Listing.{lineOf, listOf}
+use Rattle.listing.specs.Lines as Lines
+use Rattle.listing.specs.Lines.{wrote, pasted, turnedDown, fitted, lineWritten, listWritten}
+use Rattle.listing.specs.Conditions.{OpeningCondition, bad-k, bad-capacity, OpeningTold, AddCondition, not-sound, out-driven, out-read, no-room, not-read, Addable, AddTold}
+use Rattle.listing.specs.Conditions.{WriteCondition, part-unsound, not-there, too-short, WriteTold}
+
+reflects-false : {b : Bool} {P : Type 0} → Reflects b P → ¬ P → b ≡ false
+reflects-false r n = by-reflects (λ c. c ≡ false) r (λ h. absurd (n h)) (λ m. refl)
+
+-- a condition of the number and the place that were given
+moved : (C : ℕ → ℕ → Type 0) {m l number place : ℕ} → C m l → m ≡ number → l ≡ place → C number place
+moved C {m} {l} {number} {place} c e f = subst (λ x. C x place) e (subst (C m) f c)
+
+-- ---- opening
+
+module _ (k capacity : ℕ) where
+  pub opening-told : OpeningTold k capacity (opened k capacity)
+  opening-told =
+      opened-cases k capacity (OpeningTold k capacity)
+      (λ g h. record {
+        refuses = λ m l. (λ e. absurd (not-refused e refl), λ c. absurd (in-range g h c));
+        accepts = (λ e. (g, h), λ x. refl);
+        zeros = λ m l e. absurd (not-refused e refl);
+      })
+      (λ n. record {
+        refuses = λ m l. (λ e. moved (OpeningCondition k capacity) (bad-k n) (cc) (cc), λ c. no-k n c);
+        accepts = (λ e. absurd (not-refused refl e), λ x. absurd (n (x .0)));
+        zeros = λ m l e. refl;
+      })
+      (λ g n. record {
+        refuses = λ m l. (λ e. moved (OpeningCondition k capacity) (bad-capacity g n) (cc) (cc), λ c. no-capacity g c);
+        accepts = (λ e. absurd (not-refused refl e), λ x. absurd (n (x .1)));
+        zeros = λ m l e. refl;
+      })
+    where
+      in-range : {m l : ℕ} → KRange k → CapacityRange capacity → OpeningCondition k capacity m l → ⊥
+      in-range g h (bad-k n) = n g
+      in-range g h (bad-capacity i n) = n h
+
+      no-k : {m l : ℕ} → ¬ (KRange k) → OpeningCondition k capacity m l → refused 2 0 ≡ refused m l
+      no-k n (bad-k i) = refl
+      no-k n (bad-capacity g i) = absurd (n g)
+
+      no-capacity : {m l : ℕ} → KRange k → OpeningCondition k capacity m l → refused 3 0 ≡ refused m l
+      no-capacity g (bad-k n) = absurd (n g)
+      no-capacity g (bad-capacity i n) = refl
+
+-- ---- adding
+
+module _ (p : Part) (text : List ℕ) where
+  abbrev fits : Sheet → Bool
+  fits s = leb (leastNumber (p .k) s) (p .capacity - p .used)
+
+  fits-reflects : (s : Sheet) (n : ℕ) → Sound p → readOf text ≡ sheet s → Least (p .k) (s .tree) n → Reflects (fits s) (n ≤ p .capacity - p .used)
+  fits-reflects s n h e l =
+      subst (λ m. Reflects (fits s) (m ≤ p .capacity - p .used)) (least-unique (least-number (p .k) (h .k-range .0) s (reading text s e)) l)
+      (reflects-le (leastNumber (p .k) s) (p .capacity - p .used))
+
+  -- the answer of a sound part to what is read, and by the last three tests
+  read-answer : Sound p → {v : Reading} → readOf text ≡ v → answerOf p (readOf text) ≡ Settled.taken p v
+  read-answer h e = ap (λ b. cond b (Settled.taken p (readOf text)) (refused 20 0)) (reflects-true (sound-reflects p) h) ∙ ap (Settled.taken p) e
+
+  tests-answer : (s : Sheet) {d r f : Bool} → Sound p → readOf text ≡ sheet s → isDriven (s .out) (tablesOf p) ≡ d → isRead (s .out) (tablesOf p) ≡ r →
+      fits s ≡ f → answerOf p (readOf text) ≡ cond d (refused 21 0) (cond r (refused 22 0) (cond f accepted (refused 23 0)))
+  tests-answer s h e x y z = read-answer h e ∙ (λ i. cond (x i) (refused 21 0) (cond (y i) (refused 22 0) (cond (z i) accepted (refused 23 0))))
+
+  fresh-answer : (s : Sheet) {f : Bool} → Sound p → readOf text ≡ sheet s → Fresh s (tablesOf p) → fits s ≡ f →
+      answerOf p (readOf text) ≡ cond f accepted (refused 23 0)
+  fresh-answer s h e g =
+      tests-answer s h e (reflects-false (driven-reflects (s .out) (tablesOf p)) (λ d. g (d .0) (d .1) .0 (d .2)))
+      (reflects-false (read-reflects (s .out) (tablesOf p)) (λ r. g (r .0) (r .1) .1 (r .2)))
+
+  condition-answer : {number place : ℕ} → AddCondition p text number place → answerOf p (readOf text) ≡ refused number place
+  condition-answer (not-sound n) = ap (λ b. cond b (Settled.taken p (readOf text)) (refused 20 0)) (reflects-false (sound-reflects p) n)
+  condition-answer (not-read number place h e) = read-answer h e
+  condition-answer (out-driven s h e d) = tests-answer s h e (reflects-true (driven-reflects (s .out) (tablesOf p)) d) refl refl
+  condition-answer (out-read s h e n r) =
+      tests-answer s h e (reflects-false (driven-reflects (s .out) (tablesOf p)) n) (reflects-true (read-reflects (s .out) (tablesOf p)) r) refl
+  condition-answer (no-room s n h e f l m) = fresh-answer s h e f (reflects-false (fits-reflects s n h e l) (λ x. omega (arith, m, x)))
+
+  addable-answer : Addable p text → answerOf p (readOf text) ≡ accepted
+  addable-answer g =
+      fresh-answer (g .drawn) (g .sound) (g .read) (g .fresh)
+      (reflects-true (fits-reflects (g .drawn) (g .number) (g .sound) (g .read) (g .least)) (g .room))
+
+  told : {a : Answer} {m l number place : ℕ} → a ≡ refused m l → a ≡ refused number place → AddCondition p text m l → AddCondition p text number place
+  told e f c = moved (AddCondition p text) c (cc) (cc)
+
+  found : {q : Part} {a : Answer} {number place : ℕ} → Outcome readOf p text q a → a ≡ refused number place → AddCondition p text number place
+  found (unsound n r) e = told (r .1) e (not-sound n)
+  found (misread m l h g r) e = told (r .1) e (not-read m l h g)
+  found (driven s h g d r) e = told (r .1) e (out-driven s h g d)
+  found (read s h g d i r) e = told (r .1) e (out-read s h g d i)
+  found (full s n h g f l m r) e = told (r .1) e (no-room s n h g f l m)
+  found (taken s h g f t room) e = absurd (not-refused e (t .answer))
+
+  passed : {q : Part} {a : Answer} → Outcome readOf p text q a → a ≡ accepted → Addable p text
+  passed (unsound n r) e = absurd (not-refused (r .1) e)
+  passed (misread m l h g r) e = absurd (not-refused (r .1) e)
+  passed (driven s h g d r) e = absurd (not-refused (r .1) e)
+  passed (read s h g d i r) e = absurd (not-refused (r .1) e)
+  passed (full s n h g f l m r) e = absurd (not-refused (r .1) e)
+  passed (taken s h g f t room) e = record {
+    drawn = s;
+    number = length (t .new);
+    sound = h;
+    read = g;
+    fresh = f;
+    least = t .least .fewest;
+    room = omega (arith, room);
+  }
+
+  pub add-told : (q : Part) (a : Answer) → Add readOf p text q a → AddTold p text q a
+  add-told q a h =
+      let o = add-outcome p text q a h in
+      let e = answer-settled p text q a h in
+      record {
+        refuses = λ m l. (found o, λ c. e ∙ condition-answer c);
+        accepts = (passed o, λ g. e ∙ addable-answer g);
+        stays = λ m l r. refused-stays p text q a m l h r;
+      }
+
+-- ---- writing a line, and the list
+
+module _ (p : Part) (There : Type 0) (old : List ℕ) (at : ℕ) (new : List ℕ) where
+  -- no two of the conditions hold
+  one-only : {m l number place : ℕ} → WriteCondition p There old at new m l → WriteCondition p There old at new number place →
+      Lines.refused m l ≡ Lines.refused number place
+  one-only (part-unsound n) (part-unsound i) = refl
+  one-only (part-unsound n) (not-there h i) = absurd (n h)
+  one-only (part-unsound n) (too-short h t l) = absurd (n h)
+  one-only (not-there h n) (part-unsound i) = absurd (i h)
+  one-only (not-there h n) (not-there g i) = refl
+  one-only (not-there h n) (too-short g t l) = absurd (n t)
+  one-only (too-short h t l) (part-unsound i) = absurd (i h)
+  one-only (too-short h t l) (not-there g i) = absurd (i t)
+  one-only (too-short h t l) (too-short g u m) = refl
+
+  none-holds : {number place : ℕ} → Sound p → There → at + length new ≤ length old → WriteCondition p There old at new number place → ⊥
+  none-holds h t l (part-unsound n) = n h
+  none-holds h t l (not-there g n) = n t
+  none-holds h t l (too-short g u m) = omega (arith, l, m)
+
+  not-written : {number place count : ℕ} → Lines.refused number place ≡ wrote count → ⊥
+  not-written e = let z : _≡_ {A = ℕ} 0 1 = cc in omega arith
+
+  turned-told : (number : ℕ) → WriteCondition p There old at new number 0 → WriteTold p There old at new (turnedDown number old)
+  turned-told number c = record {
+    refuses = λ m l. (λ e. moved (WriteCondition p There old at new) c (cc) (cc), λ d. one-only c d);
+    writes = λ n. (λ e. absurd (not-written e), λ g. absurd (none-holds (g .0) (g .1) (g .2) c));
+    stays = λ m l e. refl;
+    bytes = λ n e. absurd (not-written e);
+  }
+
+  written-told : Sound p → There → at + length new ≤ length old → WriteTold p There old at new (record { result = wrote (length new); bytes = pasted old at new })
+  written-told h t l = record {
+    refuses = λ m k. (λ e. absurd (not-written (sym e)), λ c. absurd (none-holds h t l c));
+    writes = λ n. (λ e. (h, t, l, (let i : length new ≡ n = cc in sym i)), λ g. ap wrote (sym (g .3)));
+    stays = λ m k e. absurd (not-written (sym e));
+    bytes = λ n e. refl;
+  }
+
+  write-told : {b : Bool} → Reflects b There → WriteTold p There old at new (cond (sound p) (cond b (fitted old at new) (turnedDown 15 old)) (turnedDown 20 old))
+  write-told {b} r =
+      by-reflects (λ x. WriteTold p There old at new (cond x (cond b (fitted old at new) (turnedDown 15 old)) (turnedDown 20 old))) (sound-reflects p)
+      (λ h. by-reflects (λ x. WriteTold p There old at new (cond x (fitted old at new) (turnedDown 15 old))) r
+      (λ t. by-reflects
+      (λ x. WriteTold p There old at new (cond x (record { result = wrote (length new); bytes = pasted old at new }) (turnedDown 14 old)))
+      (reflects-le (at + length new) (length old)) (written-told h t) (λ l. turned-told 14 (too-short h t (omega arith))))
+      (λ n. turned-told 15 (not-there h n)))
+      (λ n. turned-told 20 (part-unsound n))
+
+module _ (p : Part) (old : List ℕ) (at : ℕ) where
+  pub line-told : (line : ℕ) → WriteTold p (line ≤ p .used) old at (lineOf p line) (lineWritten p line old at)
+  line-told line = write-told p (line ≤ p .used) old at (lineOf p line) (reflects-le line (p .used))
+
+  -- the list is always there
+  pub list-told : WriteTold p (Unit {0}) old at (listOf p) (listWritten p old at)
+  list-told = write-told p (Unit {0}) old at (listOf p) {b = true} (record { to = λ t. tt; from = λ t. tt })
