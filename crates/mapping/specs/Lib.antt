@@ -1,0 +1,3 @@
+pub mod Program
+pub mod ProgramLaws
+pub mod OpeningLaws

@@ -1,0 +1,251 @@
+// What the mapping program prints for an input: the list of the part that its sheets make, or the line of the first refusal.
+ghost use mathlib.Core.Path.{_≡_};
+ghost use Prim.Native.Nat.{_<_};
+ghost use lib.ListN.{length, drop};
+ghost use Rattle.part.specs.Adds.{opened};
+ghost use Rattle.part.specs.Adding.{addingAnswer};
+ghost use Rattle.part.specs.Openings.{openingAnswer};
+ghost use Rattle.part.specs.Sound.{Sound};
+ghost use Rattle.part.specs.Listing.{listOf};
+ghost use mathlib.Core.Option.{none};
+ghost use Rattle.mapping.specs.Program.{count as countOf, openingNumbers, openedBy, refusalLine, told as toldAnswer, startResult, WrittenAs, Answered, Stepped, Ended};
+use decimal::Field;
+use part::Adding;
+use part::Opening;
+use part::Part;
+use sheet::Answer;
+
+// The bytes of the opening line with its line feed, and of a field.
+const OPENING: usize = 13;
+
+const FIELD: usize = 6;
+
+// The bytes of a refusal's line: three fields and the line feed.
+const REFUSAL: usize = 19;
+
+// How many bytes are printed, or that the buffer is too short for them.
+pub enum Printed {
+    Wrote(usize),
+    NoRoom,
+}
+
+// A refusal's number and place; the number 0 stands for acceptance.
+struct Told {
+    number: u8,
+    line: u16,
+}
+
+// The part that the opening line gives.
+struct Start {
+    part: Part,
+    told: Told,
+}
+
+// The part after one sheet, and the place after the sheet.
+struct Step {
+    part: Part,
+    told: Told,
+    end: usize,
+}
+
+// The part after the sheets, and the number of the last one.
+struct End {
+    part: Part,
+    told: Told,
+    sheet: u16,
+}
+
+fn tell_opening(a: Opening) -> Told
+    ensures { λ r. ⌜ toldAnswer r ≡ openingAnswer a ⌝ }
+{
+    match a {
+        Opening::Accepted => Told { number: 0, line: 0 },
+        Opening::KOutOfRange => Told { number: 2, line: 0 },
+        Opening::CapacityOutOfRange => Told { number: 3, line: 0 },
+    }
+}
+
+fn tell_adding(a: Adding) -> Told
+    ensures { λ r. ⌜ toldAnswer r ≡ addingAnswer a ⌝ }
+{
+    match a {
+        Adding::Accepted => Told { number: 0, line: 0 },
+        Adding::Unsound => Told {
+            number: 20,
+            line: 0,
+        },
+        Adding::Misread(why, line) => Told {
+            number: sheet::number(why),
+            line,
+        },
+        Adding::OutputDriven => Told {
+            number: 21,
+            line: 0,
+        },
+        Adding::OutputRead => Told {
+            number: 22,
+            line: 0,
+        },
+        Adding::Full => Told {
+            number: 23,
+            line: 0,
+        },
+    }
+}
+
+// The number, or 0 for one with a minus sign.
+fn count(negative: bool, magnitude: u32) -> u32
+    ensures { λ r. ⌜ r ≡ countOf (record { negative = negative; magnitude = magnitude }) ⌝ }
+{
+    if negative {
+        return 0;
+    }
+    magnitude
+}
+
+fn open(k: u32, capacity: u32) -> Start
+    ensures { λ r. ⌜ startResult r ≡ opened k capacity ⌝ }
+{
+    let o = Part::open(k, capacity);
+    let part = o.part;
+    let answer = o.answer;
+    let told = tell_opening(answer);
+    Start { part, told }
+}
+
+// An opening line that is not laid out as such.
+fn no_opening() -> Start
+    ensures { λ r. ⌜ startResult r ≡ openedBy none ⌝ }
+{
+    let o = Part::open(0, 0);
+    let part = o.part;
+    Start {
+        part,
+        told: Told { number: 1, line: 0 },
+    }
+}
+
+// The part that the input's opening line opens.
+fn read_opening(input: &[u8]) -> Start
+    ensures { λ r. ⌜ startResult r ≡ openedBy (openingNumbers (now (input .entry))) ⌝ }
+{
+    if input.len() < OPENING {
+        return no_opening();
+    }
+    if input[12] != b'\n' {
+        return no_opening();
+    }
+    let first = decimal::read(&input[0..6]);
+    let second = decimal::read(&input[6..12]);
+    let Field::Value(k) = first else {
+        return no_opening();
+    };
+    let Field::Value(capacity) = second else {
+        return no_opening();
+    };
+    let most = count(decimal::negative(k), decimal::magnitude(k));
+    let tables = count(decimal::negative(capacity), decimal::magnitude(capacity));
+    open(most, tables)
+}
+
+// Adds the sheet at the place.
+fn add_sheet(part: Part, input: &[u8], at: usize) -> Step
+    requires { ⌜ Sound part × (at < length (now input)) ⌝ }
+    ensures { λ r. ⌜ Stepped (now (input .entry)) part at r ⌝ }
+{
+    let next = sheet::read_next(input, at);
+    let answer = next.answer;
+    let end = next.end;
+    match answer {
+        Answer::Refused(why, line) => Step {
+            part,
+            told: Told {
+                number: sheet::number(why),
+                line,
+            },
+            end,
+        },
+        Answer::Accepted => {
+            let added = part.add(&input[at..end]);
+            let part = added.part;
+            let answer = added.answer;
+            let told = tell_adding(answer);
+            Step { part, told, end }
+        }
+    }
+}
+
+// Adds the sheets from the place to the input's end, up to the first that is refused. An accepted one takes a table or more, so the
+// capacity bounds their number.
+fn add_sheets(opened: Part, input: &[u8], start: usize) -> End
+    requires { ⌜ Sound opened ⌝ }
+    ensures { λ r. ⌜ Ended opened (drop start (now (input .entry))) r ⌝ }
+{
+    let mut part = opened;
+    let mut at = start;
+    let mut sheet: u16 = 0;
+    while at < input.len() {
+        let step = add_sheet(part, input, at);
+        sheet += 1;
+        part = step.part;
+        let told = step.told;
+        if told.number != 0 {
+            return End { part, told, sheet };
+        }
+        at = step.end;
+    }
+    End {
+        part,
+        told: Told { number: 0, line: 0 },
+        sheet,
+    }
+}
+
+// The line of a refusal.
+fn print_refusal(output: &mut [u8], number: u8, sheet: u16, place: u16) -> Printed
+    requires { ⌜ 0 < number ⌝ }
+    ensures { λ r. ⌜ WrittenAs (refusalLine number sheet place) r (now (output .exit)) (now (output .entry)) ⌝ }
+{
+    if output.len() < REFUSAL {
+        return Printed::NoRoom;
+    }
+    decimal::write_signed_at(output, 0, FIELD, -(number as i32));
+    decimal::write_at(output, 6, FIELD, sheet as u64);
+    decimal::write_at(output, 12, FIELD, place as u64);
+    output[18] = b'\n';
+    Printed::Wrote(REFUSAL)
+}
+
+// The list of a sound part. For want of room is the only way in which it is refused.
+fn print_list(output: &mut [u8], part: Part) -> Printed
+    requires { ⌜ Sound part ⌝ }
+    ensures { λ r. ⌜ WrittenAs (listOf part) r (now (output .exit)) (now (output .entry)) ⌝ }
+{
+    let a = listing::write_list(part, output, 0);
+    match a {
+        listing::Answer::Wrote(n) => Printed::Wrote(n),
+        listing::Answer::NotSound => Printed::NoRoom,
+        listing::Answer::NoLine => Printed::NoRoom,
+        listing::Answer::NoRoom => Printed::NoRoom,
+    }
+}
+
+// Maps the input and prints into the buffer, from its start: the list, or one line for the first refusal. A buffer that is too short
+// is left as it is.
+pub fn run(input: &[u8], output: &mut [u8]) -> Printed
+    ensures { λ r. ⌜ Answered (now (input .entry)) r (now (output .exit)) (now (output .entry)) ⌝ }
+{
+    let start = read_opening(input);
+    let told = start.told;
+    if told.number != 0 {
+        return print_refusal(output, told.number, 0, told.line);
+    }
+    let part = start.part;
+    let end = add_sheets(part, input, OPENING);
+    let told = end.told;
+    if told.number != 0 {
+        return print_refusal(output, told.number, end.sheet, told.line);
+    }
+    let part = end.part;
+    print_list(output, part)
+}
