@@ -1,3 +1,4 @@
 pub mod Program
 pub mod ProgramLaws
 pub mod OpeningLaws
+pub mod ChainLaws

@@ -13,6 +13,7 @@ use Rattle.sheet.specs.Cut.{sheetText}
 use Rattle.part.specs.Sound.{Sound}
 use Rattle.part.specs.Adds.{Answer, accepted, refused, Result, empty, opened, Add}
 use Rattle.part.specs.Adding.{readOf}
+use Rattle.part.specs.Calls.{Call, add}
 use Rattle.part.specs.Listing.{listOf}
 use Rattle.part.specs.declared.Part.{Part}
 use Rattle.listing.specs.Lines as lines
@@ -65,6 +66,18 @@ After r text out = elim (r .answer) [ accepted ↦ Mapped (r .part) 0 text out |
 abbrev pub Prints : List ℕ → List ℕ → Type 0
 Prints input out = After (openedBy (openingNumbers input)) (drop 13 input) out
 
+-- ---- the same as a list of adds, of which demands 2 and 3 speak: ChainLaws
+
+-- the calls add the sheets of a text, from the first on
+pub data Texts : List ℕ → List Call → Type 0 where
+  end : {text : List ℕ} → Texts text []
+  next : {text : List ℕ} {cs : List Call} → Texts (sheetText text .1) cs → Texts text (add (sheetText text .0) ∷ cs)
+
+-- what is printed after these results: the first refusal, else the list of the last part
+abbrev pub printedBy : Part → ℕ → List Result → List ℕ
+printedBy p n [] = listOf p
+printedBy p n (r ∷ rs) = elim (r .answer) [ accepted ↦ printedBy (r .part) (suc n) rs | refused number place ↦ refusalLine number (suc n) place ]
+
 -- ---- what the code's values stand for
 
 abbrev pub printedResult : Printed → lines.Result
@@ -76,8 +89,10 @@ abbrev pub WrittenAs : List ℕ → Printed → List ℕ → List ℕ → Type 0
 WrittenAs line r new old = record { result = printedResult r; bytes = new } ≡ lines.fitted old 0 line
 
 -- THE PROMISE of the program
-abbrev pub Answered : List ℕ → Printed → List ℕ → List ℕ → Type 0
-Answered input r new old = (line : List ℕ) × Prints input line × WrittenAs line r new old
+pub record Answered (input : List ℕ) (r : Printed) (new old : List ℕ) : Type 0 where
+  pub line : List ℕ
+  pub prints : Prints input line
+  pub written : WrittenAs line r new old
 
 abbrev pub told : Told → Answer
 told t = cond (eqb (t .number) 0) accepted (refused (t .number) (t .line))

@@ -32,7 +32,7 @@ same-length c = search needs
 returns : tie.Need-returns
 returns c =
     let r = c .before .before .before .before .before .before .before in
-    (_, opening-refused (r .before .before .before .args .input .now) (r .read-opening .result) (r .read-opening .ensures) (c .before .before .before .before .if1 .taken), c .before .before .print-refusal .ensures)
+    record { line = _; prints = opening-refused (r .before .before .before .args .input .now) (r .read-opening .result) (r .read-opening .ensures) (c .before .before .before .before .if1 .taken); written = c .before .before .print-refusal .ensures }
 
 add-sheets-requires : tie.Need-add-sheets-requires
 add-sheets-requires c κs =
@@ -49,7 +49,7 @@ returns-2 : tie.Need-returns-2
 returns-2 c =
     let m = c .before .before .before .before .before .before .before in
     let p = c .before .before .print-refusal2 in
-    (_, mapped m (refused-line (m .add-sheets .result) (m .add-sheets .ensures .mapped) (c .before .before .before .before .if2 .taken)), p .ensures)
+    record { line = _; prints = mapped m (refused-line (m .add-sheets .result) (m .add-sheets .ensures .mapped) (c .before .before .before .before .if2 .taken)); written = p .ensures }
 
 print-list-requires : tie.Need-print-list-requires
 print-list-requires c κs = c .before .before .before .before .before .add-sheets .ensures .sound
@@ -60,7 +60,7 @@ same-length-3 c = search needs
 returns-3 : tie.Need-returns-3
 returns-3 c =
     let m = c .before .before .before .before .before .before .before .before in
-    (_, mapped m (accepted-list (m .add-sheets .result) (m .add-sheets .ensures .mapped) (c .before .before .before .before .before .if2 .left)), c .before .before .print-list .ensures)
+    record { line = _; prints = mapped m (accepted-list (m .add-sheets .result) (m .add-sheets .ensures .mapped) (c .before .before .before .before .before .if2 .left)); written = c .before .before .print-list .ensures }
 
 pub run-spec : {M : Type 1} → statement M
 run-spec =
