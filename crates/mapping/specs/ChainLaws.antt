@@ -12,7 +12,7 @@ use Rattle.cover.specs.Added.{Sheet}
 use Rattle.part.specs.Adds.{accepted, refused, Result, opened}
 use Rattle.part.specs.AddLaws.{opened-shaped}
 use Rattle.part.specs.Adding.{readOf}
-use Rattle.part.specs.Calls.{Call, add, final, Chain, done, call, Link}
+use Rattle.part.specs.Calls.{Call, final, Chain, done, call, Link}
 use Rattle.part.specs.Demands.{Counted, CallServed}
 use Rattle.part.specs.Promises.{demand-2, demand-3}
 use Rattle.part.specs.declared.Part.{Part}

@@ -1,14 +1,13 @@
 -- Worked examples of the definitions, by computation: the opening line, how an input is cut, and the line of a refusal.
 use Prim.Native.Nat.{ℕ}
 use mathlib.Core.Path.{_≡_, refl}
-use mathlib.Core.Bool.{true, false}
-use mathlib.Core.Option.{none, some}
+use mathlib.Core.Bool.{false}
+use mathlib.Core.Option.{some}
 use mathlib.Core.List.{List, [], _∷_, _++_, map}
-use lib.ListN.{drop}
 use Rattle.sheet.specs.Step.{_>>=_, require, given}
 use Rattle.sheet.specs.Checks.{bytes}
 use Rattle.sheet.specs.Cut.{sheetText}
-use Rattle.part.specs.Adds.{Answer, accepted, refused, Result}
+use Rattle.part.specs.Adds.{accepted, refused}
 use Rattle.mapping.specs.Program.{openingNumbers, openedBy, refusalLine}
 
 -- 01's example

@@ -1,5 +1,5 @@
 use mathlib.Core.Path.{ap}
-use Rattle.part.specs.Adds.{refused, Result}
+use Rattle.part.specs.Adds.{refused}
 use borrow.Author.Needs.{needs}
 use Rattle.mapping.proofs.no_opening.Statement.{statement}
 use Rattle.mapping.proofs.no_opening.Tie as tie

@@ -1,5 +1,4 @@
-use mathlib.Core.Path.{sym, ap, _∙_}
-use Rattle.part.specs.Adds.{Result}
+use mathlib.Core.Path.{ap, _∙_}
 use borrow.Author.Needs.{needs}
 use Rattle.mapping.proofs.open.Statement.{statement}
 use Rattle.mapping.proofs.open.Tie as tie

@@ -1,6 +1,5 @@
-use Prim.Native.Nat.{ℕ, zero, suc, _<_}
-use native.Mathlib.Omega.{arith}
-use mathlib.Core.Path.{_≡_, refl}
+use Prim.Native.Nat.{ℕ}
+use native.Mathlib.Nat.{pos-of-ne-zero}
 use mathlib.Core.List.{List}
 use lib.ListN.{drop}
 use Rattle.mapping.specs.Program.{Mapped, Prints}
@@ -8,10 +7,6 @@ use Rattle.mapping.specs.ProgramLaws.{opening-refused, opening-accepted,
 use borrow.Author.Needs.{needs}
 use Rattle.mapping.proofs.run.Statement.{statement}
 use Rattle.mapping.proofs.run.Tie as tie
-
-some : (n : ℕ) → (n ≡ 0 → ⊥) → 0 < n
-some zero d = absurd (d refl)
-some (suc n) d = omega arith
 
 -- what comes of the sheets is what is printed
 mapped : (c : tie.After-add-sheets) {out : List ℕ} → let r = c .before .before .before .before .before in let input = r .before .before .before .args .input .now in
@@ -24,7 +19,7 @@ read-opening-requires : tie.Need-read-opening-requires
 read-opening-requires c κs = search needs
 
 print-refusal-requires : tie.Need-print-refusal-requires
-print-refusal-requires c κs = some _ (c .before .if1 .taken)
+print-refusal-requires c κs = pos-of-ne-zero (c .before .if1 .taken)
 
 same-length : tie.Need-same-length
 same-length c = search needs
@@ -40,7 +35,7 @@ add-sheets-requires c κs =
     opening-sound (r .before .before .before .args .input .now) (r .read-opening .result) (r .read-opening .ensures) (c .before .if1 .left)
 
 print-refusal-requires-2 : tie.Need-print-refusal-requires-2
-print-refusal-requires-2 c κs = some _ (c .before .if2 .taken)
+print-refusal-requires-2 c κs = pos-of-ne-zero (c .before .if2 .taken)
 
 same-length-2 : tie.Need-same-length-2
 same-length-2 c = search needs
