@@ -6,8 +6,8 @@ use libc::STDIN_FILENO;
 use libc::STDOUT_FILENO;
 use mapping::Printed;
 
-// An accepted sheet of t tables has at most 5 t gates and 5 t + 1 leaves, so at most 13 + 125 t bytes; 800 tables, the opening line and one
-// more sheet of 256 lines are less than this, so a longer input is refused for what stands in its first bytes.
+// By arithmetic that is not proved: an accepted sheet of t tables has at most 13 + 125 t bytes, so 800 tables, the opening line and one more
+// sheet are less than this, and a longer input is refused for what stands in its first bytes. A list is never printed for such an input.
 const ROOM: usize = 131072;
 
 // The bytes of a refusal's line, and of a list without tables.
