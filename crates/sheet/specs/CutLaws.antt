@@ -26,7 +26,7 @@ pub record Cut (text : List ℕ) (p : List ℕ × List ℕ) : Type 0 where
   pub whole : text ≡ p .0 ++ (10 ∷ p .1)
   pub again : (rest : List ℕ) → line (p .0 ++ (10 ∷ rest)) ≡ some (p .0, rest)
 
-line-cut : (text : List ℕ) (p : List ℕ × List ℕ) → line text ≡ some p → Cut text p
+pub line-cut : (text : List ℕ) (p : List ℕ × List ℕ) → line text ≡ some p → Cut text p
 line-cut [] p e = let z : _≡_ {A = ℕ} 0 1 = cc in absurd (omega arith)
 line-cut (b ∷ bs) p e =
     line-step (λ o. o ≡ some p → Cut (b ∷ bs) p) b bs
@@ -253,7 +253,7 @@ left-on out (suc n) g seen text =
     lines-some n (text ++ rest) (p .0, p .1 ++ rest) (line-on text p rest e)
     ∙ (ap (λ (x : List ℕ × List ℕ). (p .0 ++ (10 ∷ x .0), x .1)) (f z rest) ∙ ap (λ l. (l, rest)) (sym (line-cut text p e .whole)))))))
 
-empty-is : {A : Type 0} (xs : List A) → T (empty xs) → xs ≡ []
+pub empty-is : {A : Type 0} (xs : List A) → T (empty xs) → xs ≡ []
 empty-is [] t = refl
 empty-is (x ∷ xs) t = absurd t
 

@@ -17,4 +17,5 @@ pub mod RefusalLaws
 pub mod TreeLaws
 pub mod ValueLaws
 pub mod CutLaws
+pub mod SizeLaws
 pub mod Checks
