@@ -18,7 +18,7 @@ use Rattle.sheet.specs.Cut.{lines, gatesOf, sheetText, readNext}
 
 -- ---- a line
 
-line-step : (P : Option (List ℕ × List ℕ) → Type 0) (b : ℕ) (bs : List ℕ) → (b ≡ 10 → P (some ([], bs))) → (b ≢ 10 → P (after b (line bs))) → P (line (b ∷ bs))
+pub line-step : (P : Option (List ℕ × List ℕ) → Type 0) (b : ℕ) (bs : List ℕ) → (b ≡ 10 → P (some ([], bs))) → (b ≢ 10 → P (after b (line bs))) → P (line (b ∷ bs))
 line-step P b bs = by-eqb (λ c. P (elim c [ true ↦ some ([], bs) | false ↦ after b (line bs) ])) b 10
 
 -- what is cut off is the bytes and the line feed, whatever follows
@@ -54,11 +54,11 @@ lines-some : (n : ℕ) (text : List ℕ) (p : List ℕ × List ℕ) → line tex
     lines (suc n) text ≡ (p .0 ++ (10 ∷ lines n (p .1) .0), lines n (p .1) .1)
 lines-some n text p e = rw (e, lines)
 
-left-none : (out n g : ℕ) (seen : Seen) (text : List ℕ) → line text ≡ none → readLeft out (suc n) g seen text ≡ bad 1 (suc g)
+pub left-none : (out n g : ℕ) (seen : Seen) (text : List ℕ) → line text ≡ none → readLeft out (suc n) g seen text ≡ bad 1 (suc g)
 unfolding _>>=_ given
 left-none out n g seen text e = rw (e, readLeft)
 
-left-some : (out n g : ℕ) (seen : Seen) (text : List ℕ) (p : List ℕ × List ℕ) → line text ≡ some p →
+pub left-some : (out n g : ℕ) (seen : Seen) (text : List ℕ) (p : List ℕ × List ℕ) → line text ≡ some p →
     readLeft out (suc n) g seen text
     ≡ (readGate out g seen (p .0) >>= λ q. readLeft out n (suc g) (q .1) (p .1) >>= λ r. good (q .0 ∷ r .0, r .1, r .2))
 unfolding _>>=_ given
@@ -78,14 +78,14 @@ lines-whole (suc n) text = of (line text) refl (λ rest. lines-whole n rest)
 
 -- ---- gates read off the front of a text, and off their lines alone
 
-abbrev Gates : Type 0
+abbrev pub Gates : Type 0
 Gates = List DrawnGate × Seen × List ℕ
 
 -- the one reading is the other with a rest, where that has none
 abbrev Fronted : List ℕ → Step Gates → Step Gates → Type 0
 Fronted rest f k = (f ≡ (k >>= λ r. good (r .0, r .1, rest))) × Meets (λ r. r .2 ≡ []) k
 
-abbrev added : DrawnGate → Step Gates → Step Gates
+abbrev pub added : DrawnGate → Step Gates → Step Gates
 added x f = f >>= λ r. good (x ∷ r .0, r .1, r .2)
 
 fronted-more : (rest : List ℕ) (x : DrawnGate) (f k : Step Gates) → Fronted rest f k → Fronted rest (added x f) (added x k)
@@ -132,21 +132,21 @@ text-good : (text : List ℕ) (p : List ℕ × List ℕ) (h : Head) → line tex
     sheetText text ≡ lines (suc (h .count)) text
 text-good text p h e g = rw (e, sheetText) (ap (λ (m : Step Head). elim (gatesOf m) as (λ x. List ℕ × List ℕ) [ none ↦ (text, []) | some n ↦ lines (suc n) text ]) g)
 
-abbrev sheetOf : Head → List DrawnGate → DrawnSheet
+abbrev pub sheetOf : Head → List DrawnGate → DrawnSheet
 sheetOf h gs = record { out = h .out; inverted = h .inverted; gates = gs }
 
 -- what comes after the gates, with a rest and without
-abbrev withRest : Head → Step Gates → Step (DrawnSheet × List ℕ)
+abbrev pub withRest : Head → Step Gates → Step (DrawnSheet × List ℕ)
 withRest h f = f >>= λ r. readUnread (from 1 (h .count - 1)) (r .1 .gates) >>= λ _. good (sheetOf h (r .0), r .2)
 
 abbrev withNone : Head → Step Gates → Step DrawnSheet
 withNone h k = k >>= λ r. require (empty (r .2)) 1 (h .count + 2) >>= λ _. readUnread (from 1 (h .count - 1)) (r .1 .gates) >>= λ _. good (sheetOf h (r .0))
 
-next-none : (text : List ℕ) → line text ≡ none → (readNext text ≡ bad 1 1) × (readAll text ≡ bad 1 1)
+pub next-none : (text : List ℕ) → line text ≡ none → (readNext text ≡ bad 1 1) × (readAll text ≡ bad 1 1)
 unfolding _>>=_ given
 next-none text e = (rw e, rw e)
 
-next-some : (text : List ℕ) (p : List ℕ × List ℕ) → line text ≡ some p →
+pub next-some : (text : List ℕ) (p : List ℕ × List ℕ) → line text ≡ some p →
     (readNext text ≡ (readHead (p .0) >>= λ h. withRest h (readLeft (h .out) (h .count) 1 nothing (p .1))))
     × (readAll text ≡ (readHead (p .0) >>= λ h. withNone h (readLeft (h .out) (h .count) 1 nothing (p .1))))
 unfolding _>>=_ given
@@ -238,7 +238,7 @@ text-less text l = of (way text)
 
 -- ---- a text that was read is cut off whole, whatever follows
 
-line-on : (text : List ℕ) (p : List ℕ × List ℕ) (rest : List ℕ) → line text ≡ some p → line (text ++ rest) ≡ some (p .0, p .1 ++ rest)
+pub line-on : (text : List ℕ) (p : List ℕ × List ℕ) (rest : List ℕ) → line text ≡ some p → line (text ++ rest) ≡ some (p .0, p .1 ++ rest)
 line-on text p rest e =
     let c = line-cut text p e in
     ap (λ l. line (l ++ rest)) (c .whole) ∙ (ap line (append-assoc (p .0) (10 ∷ p .1) rest) ∙ c .again (p .1 ++ rest))

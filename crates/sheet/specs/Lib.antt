@@ -18,4 +18,5 @@ pub mod TreeLaws
 pub mod ValueLaws
 pub mod CutLaws
 pub mod SizeLaws
+pub mod FrontLaws
 pub mod Checks
