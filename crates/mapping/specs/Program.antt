@@ -66,6 +66,10 @@ After r text out = elim (r .answer) [ accepted ↦ Mapped (r .part) 0 text out |
 abbrev pub Prints : List ℕ → List ℕ → Type 0
 Prints input out = After (openedBy (openingNumbers input)) (drop 13 input) out
 
+-- how many bytes of an input decide what is printed for it: `front-decides` in FrontLaws
+unfoldable pub room : ℕ
+room = 131072
+
 -- ---- the same as a list of adds, of which demands 2 and 3 speak: ChainLaws
 
 -- the calls add the sheets of a text, from the first on
