@@ -1,17 +1,16 @@
 // The mapping program: standard input is a line with K and the capacity, then sheets; it prints the part's list, or one line for the first
-// refusal. What it prints is `mapping::run` of the bytes read.
+// refusal. What it prints is `mapping::run` of the bytes read, which are the whole input, or as much of it as decides what is printed.
+ghost use mathlib.Core.Path.{_≡_};
+ghost use lib.ListN.{length};
 ghost use Rattle.io.specs.Counts.{Counts};
+ghost use Rattle.mapping.specs.Program.{room};
 use libc::STDERR_FILENO;
 use libc::STDIN_FILENO;
 use libc::STDOUT_FILENO;
 use mapping::Printed;
 
-// By arithmetic that is not proved: an accepted sheet of t tables has at most 13 + 125 t bytes, so 800 tables, the opening line and one more
-// sheet are less than this, and a longer input is refused for what stands in its first bytes. A list is never printed for such an input.
+// So many bytes of an input decide what is printed for it: `front-decides` in mapping/specs/FrontLaws. No more are read.
 const ROOM: usize = 131072;
-
-// The bytes of a refusal's line, and of a list without tables.
-const LINE: usize = 19;
 
 // How many bytes were read, and whether a read failed.
 struct Got {
@@ -35,8 +34,9 @@ fn read_some(fd: i32, part: &mut [u8]) -> Got
     }
 }
 
-// Reads until the buffer is full or the input ends.
+// Reads until the buffer, which has room for all the bytes that decide, is full or the input ends.
 fn read_all(fd: i32, buf: &mut [u8]) -> Got
+    requires { ⌜ length (now buf) ≡ room ⌝ }
     ensures { λ r. ⌜ Counts (r .count) (now (buf .exit)) ⌝ }
 {
     let mut done: usize = 0;
@@ -62,18 +62,11 @@ fn read_all(fd: i32, buf: &mut [u8]) -> Got
     }
 }
 
-// Prints what comes of the input. Of one that is longer than was read, only a refusal.
-fn print(input: &[u8], longer: bool) {
+fn print(input: &[u8]) {
     let mut output = io::large_buffer();
     let printed = mapping::run(input, &mut output);
     match printed {
         Printed::Wrote(n) => {
-            if longer {
-                if n > LINE {
-                    say(b"map: standard input is too long\n");
-                    return;
-                }
-            }
             if !io::write_all(STDOUT_FILENO, &output[..n]) {
                 say(b"map: standard output cannot be written\n");
             }
@@ -90,15 +83,5 @@ fn main() {
         return;
     }
     let n = got.count;
-    if n < ROOM {
-        print(&input[..n], false);
-        return;
-    }
-    let mut next = [0u8; 1];
-    let more = read_some(STDIN_FILENO, &mut next);
-    if more.failed {
-        say(b"map: standard input cannot be read\n");
-        return;
-    }
-    print(&input[..n], more.count > 0);
+    print(&input[..n]);
 }

@@ -23,23 +23,23 @@ run-requires c κs = search needs
 enum-known-printed : tie.Need-enum-known-printed
 enum-known-printed c = search needs
 
+array-share-prefix-output : tie.Need-array-share-prefix-output
+array-share-prefix-output c = within (c .before)
+
+slice-aggregate-write-all : tie.Need-slice-aggregate-write-all
+slice-aggregate-write-all c = sym (length-take-le _ _ (within (c .before .before)))
+
+write-all-requires : tie.Need-write-all-requires
+write-all-requires c κs = search needs
+
 slice-aggregate-say : tie.Need-slice-aggregate-say
 slice-aggregate-say c = search needs
 
 say-requires : tie.Need-say-requires
 say-requires c κs = search needs
 
-returns : tie.Need-returns
-returns c = search needs
-
-array-share-prefix-output : tie.Need-array-share-prefix-output
-array-share-prefix-output c = within (c .before .before)
-
-slice-aggregate-write-all : tie.Need-slice-aggregate-write-all
-slice-aggregate-write-all c = sym (length-take-le _ _ (within (c .before .before .before)))
-
-write-all-requires : tie.Need-write-all-requires
-write-all-requires c κs = search needs
+enum-told : tie.Need-enum-told
+enum-told c = search needs
 
 slice-aggregate-say-2 : tie.Need-slice-aggregate-say-2
 slice-aggregate-say-2 c = search needs
@@ -47,23 +47,14 @@ slice-aggregate-say-2 c = search needs
 say-requires-2 : tie.Need-say-requires-2
 say-requires-2 c κs = search needs
 
-enum-told : tie.Need-enum-told
-enum-told c = search needs
-
-slice-aggregate-say-3 : tie.Need-slice-aggregate-say-3
-slice-aggregate-say-3 c = search needs
-
-say-requires-3 : tie.Need-say-requires-3
-say-requires-3 c κs = search needs
+returns : tie.Need-returns
+returns c = search needs
 
 returns-2 : tie.Need-returns-2
 returns-2 c = search needs
 
 returns-3 : tie.Need-returns-3
 returns-3 c = search needs
-
-returns-4 : tie.Need-returns-4
-returns-4 c = search needs
 
 pub print-spec : {M : Type 1} → statement M
 print-spec =
@@ -73,17 +64,14 @@ print-spec =
     slice-aggregate-run
     run-requires
     enum-known-printed
-    slice-aggregate-say
-    say-requires
-    returns
     array-share-prefix-output
     slice-aggregate-write-all
     write-all-requires
+    slice-aggregate-say
+    say-requires
+    enum-told
     slice-aggregate-say-2
     say-requires-2
-    enum-told
-    slice-aggregate-say-3
-    say-requires-3
+    returns
     returns-2
-    returns-3
-    returns-4)
+    returns-3)
