@@ -4,7 +4,7 @@ ghost use mathlib.Core.Path.{_≡_};
 ghost use mathlib.Core.Bool.{true, false};
 ghost use Prim.Native.Nat.{min, _≤_, _<_, _^_};
 ghost use lib.ListN.{take};
-ghost use Rattle.cover.specs.Key.{join as joinOf, _≼_};
+ghost use Rattle.cover.specs.Key.{join as joinOf, cuts, _≼_};
 ghost use Rattle.lists.specs.Tests.{all};
 ghost use Rattle.cover.specs.Limits.{mostFanins, masks, mostSteps};
 ghost use Rattle.cover.specs.PlanOf.{faninTest, goodInput, blank as blankOf, PlanOf};
@@ -63,7 +63,7 @@ fn lesser(a: u8, b: u8) -> u8
 }
 
 // The key of two operands under one gate: both held by its table; or the wider one placed; or both.
-fn join(k: u8, a: Key, b: Key) -> Key
+pub fn join(k: u8, a: Key, b: Key) -> Key
     requires { ⌜ Joinable k a b ⌝ }
     ensures { λ r. ⌜ r ≡ joinOf k a b ⌝ }
 {
@@ -86,21 +86,47 @@ fn join(k: u8, a: Key, b: Key) -> Key
     }
 }
 
-// The token of that join: which operands are placed.
+// Which operands of that join are placed.
+pub struct Cuts {
+    pub left: bool,
+    pub right: bool,
+}
+
+pub fn cuts_of(k: u8, a: Key, b: Key) -> Cuts
+    requires { ⌜ Joinable k a b ⌝ }
+    ensures { λ r. ⌜ r ≡ record { left = cuts k a b .0; right = cuts k a b .1 } ⌝ }
+{
+    if a.width + b.width <= k {
+        return Cuts {
+            left: false,
+            right: false,
+        };
+    }
+    if lesser(a.width, b.width) >= k {
+        Cuts {
+            left: true,
+            right: true,
+        }
+    } else if a.width <= b.width {
+        Cuts {
+            left: false,
+            right: true,
+        }
+    } else {
+        Cuts {
+            left: true,
+            right: false,
+        }
+    }
+}
+
+// The token of that join.
 fn join_token(k: u8, a: Key, b: Key) -> Token
     requires { ⌜ Joinable k a b ⌝ }
     ensures { λ r. ⌜ r ≡ joinToken k a b ⌝ }
 {
-    if a.width + b.width <= k {
-        return Token::Join(false, false);
-    }
-    if lesser(a.width, b.width) >= k {
-        Token::Join(true, true)
-    } else if a.width <= b.width {
-        Token::Join(false, true)
-    } else {
-        Token::Join(true, false)
-    }
+    let c = cuts_of(k, a, b);
+    Token::Join(c.left, c.right)
 }
 
 // Whether a key comes before another: fewer tables below, or as many and fewer inputs.

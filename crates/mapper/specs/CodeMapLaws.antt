@@ -69,30 +69,26 @@ module _ {K first : ℕ} {o : Operands} (m : Mappable K first o) where
   pub gate-answer : {p : Plan} → PlanOf K (o .count) (o .keys) p → Answer K (keysIn o) p
   gate-answer = plan-answer K (o .count) (o .keys) key-count (m .keys)
 
-  pub gate-runnable : {p : Plan} → PlanOf K (o .count) (o .keys) p → (k : Kind) → Runnable first k o p
-  gate-runnable w k =
-      let a = gate-answer w in
-      record {
-        before = m .before;
-        good = m .good;
-        len = answer-most a (m .keys);
-        safe = safe-planned codeBase first k (faninsOf o) (m .keys .table .1) (fanin-count o (m .good) ∙ sym key-count) fanin-widths (m .keys .count .1) (a .planned);
-      }
+  pub gate-runnable : {p : Plan} → Answer K (keysIn o) p → (k : Kind) → Runnable first k o p
+  gate-runnable a k = record {
+    before = m .before;
+    good = m .good;
+    len = answer-most a (m .keys);
+    safe = safe-planned codeBase first k (faninsOf o) (m .keys .table .1) (fanin-count o (m .good) ∙ sym key-count) fanin-widths (m .keys .count .1) (a .planned);
+  }
 
-  pub gate-mapped : {p : Plan} {s : Run} → (k : Kind) → PlanOf K (o .count) (o .keys) p → Ran first k o p s → {t : Table} → t ≡ operandAt s 0 .table →
+  pub gate-mapped : {p : Plan} {s : Run} → (k : Kind) → Answer K (keysIn o) p → Ran first k o p s → {t : Table} → t ≡ operandAt s 0 .table →
       GateMapped K first k o (record { held = record { below = p .key .below; table = t }; run = s })
-  gate-mapped {p} k w r e =
-      let a = gate-answer w in
-      record {
-        tokens = tokens p;
-        key = p .key;
-        least = a .least;
-        planned = a .planned;
-        holds = r .holds;
-        state = r .state;
-        below = refl;
-        table = e;
-      }
+  gate-mapped {p} k a r e = record {
+    tokens = tokens p;
+    key = p .key;
+    least = a .least;
+    planned = a .planned;
+    holds = r .holds;
+    state = r .state;
+    below = refl;
+    table = e;
+  }
 
 -- ---- staging
 

@@ -1,12 +1,13 @@
 -- Mapping a sheet. First on lists: Run (the run of a gate's plan on tables) and Mapping (a sheet gate by gate); their laws are RunLaws,
--- SafeLaws, CountLaws and MappingLaws. Then what the code does, as that: Pendings, Merging, CodeRun and CodeMap, which has THE PROMISE
--- OF THE MAPPING, `SheetMapped`; their laws are MergeLaws, CodeRunLaws, CodeMapLaws and SheetLaws.
+-- SafeLaws, CountLaws and MappingLaws. Then what the code does, as that: Pendings, Merging, CodeRun, CodePair (a gate of two fanins) and
+-- CodeMap, which has THE PROMISE OF THE MAPPING, `SheetMapped`; their laws are MergeLaws, CodeRunLaws, CodeMapLaws, PairLaws and SheetLaws.
 pub mod Run
 pub mod Mapping
 pub mod Pendings
 pub mod Merging
 pub mod CodeRun
 pub mod CodeMap
+pub mod CodePair
 pub mod RunLaws
 pub mod SafeLaws
 pub mod CountLaws
@@ -14,4 +15,5 @@ pub mod MappingLaws
 pub mod MergeLaws
 pub mod CodeRunLaws
 pub mod CodeMapLaws
+pub mod PairLaws
 pub mod SheetLaws

@@ -4,16 +4,24 @@ ghost use Prim.Native.Nat.{_+_, _<_, _≤_};
 ghost use lib.ListN.{length};
 ghost use Rattle.sheet.specs.Answers.{drawnGate};
 ghost use Rattle.mapper.specs.CodeMap.{Begun, withFanin, leafOf, Mappable, GateMapped, Reaches, Gathers, Staged, Sheetable, SheetMapped, flipped, rooted};
+ghost use Rattle.mapper.specs.CodePair.{placeIn, readAs, keyIn, countIf, twoTables, pairOf, pairMapped};
 ghost use Rattle.mapper.specs.Merging.{Tabled};
+ghost use Rattle.lists.specs.Lists.{Every};
+ghost use Rattle.sheet.specs.Limits.{mostGates};
+ghost use Rattle.sheet.specs.Sheet.{gateOf};
 use crate::Pending;
 use crate::merge::inverted;
+use crate::merge::merge;
 use crate::merge::single;
 use crate::run::Operands;
 use crate::run::Run;
 use crate::run::follow;
+use crate::run::hold;
 use crate::run::operand;
 use cover::Key;
 use cover::best_plan;
+use cover::cuts_of;
+use cover::join;
 use sheet::Gate;
 use sheet::Sheet;
 use sheet::Source;
@@ -201,6 +209,92 @@ fn with_root(mapping: Mapping, out: u16, flip: bool, table: Table) -> Mapping
     m
 }
 
+// The place of the gate that a fanin reads among the mapped ones; 0 for a net.
+fn place_of(source: Source) -> usize
+    requires { ⌜ Every (λ j. (1 ≤ j) × (j ≤ mostGates)) (gateOf source) ⌝ }
+    ensures { λ r. ⌜ (r ≡ placeIn source) × (r < mostGates) ⌝ }
+{
+    match source {
+        Source::Net(_) => 0,
+        Source::Gate(g) => g as usize - 1,
+    }
+}
+
+// What a fanin reads, where `held` is the gate, if it is one.
+fn read_from(source: Source, held: Held) -> Held
+    ensures { λ r. ⌜ r ≡ readAs source held ⌝ }
+{
+    match source {
+        Source::Net(n) => leaf(n),
+        Source::Gate(_) => held,
+    }
+}
+
+// The key of what a fanin reads.
+fn key_of(held: Held) -> Key
+    ensures { λ r. ⌜ r ≡ keyIn held ⌝ }
+{
+    let table = held.table;
+    Key {
+        below: held.below,
+        width: table.count,
+    }
+}
+
+// A gate of two fanins mapped: what holds it, and the tables placed. What stands past their count is of no matter.
+struct MappedPair {
+    held: Held,
+    placed: u8,
+    tables: [Table; 2],
+}
+
+fn count_if(flag: bool) -> u8
+    ensures { λ r. ⌜ (r ≡ countIf flag) × (r ≤ 1) ⌝ }
+{
+    if flag { 1 } else { 0 }
+}
+
+// The tables of two operands, of which the left one may not be placed.
+fn two_tables(left: bool, x: Table, y: Table) -> [Table; 2]
+    ensures { λ r. ⌜ r ≡ twoTables left x y ⌝ }
+{
+    if left { [x, y] } else { [y, y] }
+}
+
+// Maps a gate of those two fanins without a search: there is one way to join them.
+fn map_pair(k: u8, first: u16, kind: Kind, i: bool, low: Held, j: bool, high: Held) -> MappedPair
+    requires { ⌜ Mappable k first (pairOf i low j high) ⌝ }
+    ensures { λ r. ⌜ r ≡ pairMapped k first kind i low j high ⌝ }
+{
+    let a = key_of(high);
+    let b = key_of(low);
+    let key = join(k, a, b);
+    let cuts = cuts_of(k, a, b);
+    let left = cuts.left;
+    let right = cuts.right;
+    let table = high.table;
+    let other = low.table;
+    let x = hold(first, 0, left, Pending { inverted: j, table });
+    let y = hold(
+        first,
+        count_if(left),
+        right,
+        Pending {
+            inverted: i,
+            table: other,
+        },
+    );
+    let merged = merge(kind, x, y);
+    MappedPair {
+        held: Held {
+            below: key.below,
+            table: merged,
+        },
+        placed: count_if(left) + count_if(right),
+        tables: two_tables(left, table, other),
+    }
+}
+
 // Maps a sheet to tables of at most k inputs, gate by gate, where so many tables stand before them.
 pub fn map(sheet: Sheet, k: u8, used: u16) -> Mapping
     requires { ⌜ Sheetable k used sheet ⌝ }
@@ -213,13 +307,40 @@ pub fn map(sheet: Sheet, k: u8, used: u16) -> Mapping
     while g < gates {
         let gate = sheet.gates[g];
         let kind = gate.kind;
-        let operands = gather(gate, held);
-        let x = map_gate(k, used + m.count, kind, operands);
-        let h = x.held;
-        held[g] = h;
-        let run = x.run;
-        m = stage(m, run);
-        g += 1;
+        let first = used + m.count;
+        if fanin_count(gate) == 2 {
+            let low = gate.fanins[0];
+            let high = gate.fanins[1];
+            let low_source = low.source;
+            let high_source = high.source;
+            let low_at = place_of(low_source);
+            let high_at = place_of(high_source);
+            let x = read_from(low_source, held[low_at]);
+            let y = read_from(high_source, held[high_at]);
+            let pair = map_pair(k, first, kind, low.inverted, x, high.inverted, y);
+            let h = pair.held;
+            held[g] = h;
+            let placed = pair.placed as usize;
+            let staged = m.count;
+            let start = staged as usize;
+            let mut i: usize = 0;
+            while i < placed {
+                let t = pair.tables[i];
+                let at = start + i;
+                m.tables[at] = t;
+                i += 1;
+            }
+            m.count = staged + pair.placed as u16;
+            g += 1;
+        } else {
+            let operands = gather(gate, held);
+            let x = map_gate(k, first, kind, operands);
+            let h = x.held;
+            held[g] = h;
+            let run = x.run;
+            m = stage(m, run);
+            g += 1;
+        }
     }
     let at = gates - 1;
     let root = held[at];

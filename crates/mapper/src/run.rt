@@ -80,7 +80,7 @@ fn replace(run: Run, t: Table) -> Run
 
 // An operand held; or, where the flag says so, the code of the table in which it is placed, the next one after those before the run and
 // those placed.
-fn hold(first: u16, placed: u8, cut: bool, x: Pending) -> Pending
+pub fn hold(first: u16, placed: u8, cut: bool, x: Pending) -> Pending
     requires { ⌜ (first < 2000) × (placed < 18) ⌝ }
     ensures { λ r. ⌜ r ≡ heldIf cut first placed x ⌝ }
 {

@@ -1,5 +1,5 @@
 use mathlib.Core.Path.{ap}
-use Rattle.mapper.specs.CodeMapLaws.{gate-runnable, gate-mapped}
+use Rattle.mapper.specs.CodeMapLaws.{gate-answer, gate-runnable, gate-mapped}
 use borrow.Author.Needs.{needs}
 use Rattle.mapper.proofs.map.map_gate.Statement.{statement}
 use Rattle.mapper.proofs.map.map_gate.Tie as tie
@@ -8,7 +8,7 @@ best-plan-requires : tie.Need-best-plan-requires
 best-plan-requires c κs = search needs
 
 follow-requires : tie.Need-follow-requires
-follow-requires c κs = gate-runnable (c .before .before .pre) (c .best-plan .ensures) (c .before .before .args .kind)
+follow-requires c κs = gate-runnable (c .before .before .pre) (gate-answer (c .before .before .pre) (c .best-plan .ensures)) (c .before .before .args .kind)
 
 operand-requires : tie.Need-operand-requires
 operand-requires c κs = search needs
@@ -16,7 +16,7 @@ operand-requires c κs = search needs
 returns : tie.Need-returns
 returns c =
     let s = c .before .before .before .before .before .before in
-    gate-mapped (s .pre) (s .args .kind) (c .before .before .before .before .best-plan .ensures) (c .before .before .before .follow .ensures)
+    gate-mapped (s .pre) (s .args .kind) (gate-answer (s .pre) (c .before .before .before .before .best-plan .ensures)) (c .before .before .before .follow .ensures)
     (ap (λ x. x .table) (c .before .before .operand .ensures))
 
 pub map-gate-spec : {M : Type 1} → statement M
