@@ -48,7 +48,7 @@ better-cases a b P f g =
     if-leb P (suc (b .below)) (a .below) (λ k. g (omega arith)) λ k.
     if-leb P (a .width) (b .width) (λ l. f (omega arith)) (λ l. g (omega arith))
 
-pack-cases : (K c w m : ℕ) (P : Key → Type 0) →
+pub pack-cases : (K c w m : ℕ) (P : Key → Type 0) →
     (w ≤ K → P (key c w)) → (K < w → 1 + m ≤ K → P (key (c + 1) (1 + m))) → (K < w → K < 1 + m → P (key (c + 2) 2)) →
     P (pack K c w m)
 unfolding pack

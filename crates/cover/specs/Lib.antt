@@ -6,6 +6,7 @@ pub mod Reach
 pub mod ReachLaws
 pub mod Limits
 pub mod Masks
+pub mod Volume
 pub mod Entries
 pub mod Bits
 pub mod Tables
@@ -21,6 +22,7 @@ pub mod SubsetLaws
 pub mod Least
 pub mod MaskLaws
 pub mod ReachBounds
+pub mod VolumeLaws
 pub mod MaskSearch
 pub mod EntryLaws
 pub mod MaskPlans

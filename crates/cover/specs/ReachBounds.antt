@@ -1,13 +1,13 @@
 -- How large a key can be that a list of keys reaches: its inputs, and the tables below it.
 use Prim.Native.Nat.{ℕ, zero, suc, _+_, _*_, _/_, _%_, _≤_}
 use native.Mathlib.Omega.{arith}
-use mathlib.Core.Path.{_≡_, sym, _∙_}
+use mathlib.Core.Path.{_≡_}
 use mathlib.Core.List.{List, [], _∷_}
 use lib.ListN.{length}
-use Rattle.lists.specs.Lists.{Every, Mix, sum}
+use Rattle.lists.specs.Lists.{Every, sum}
 use Rattle.lists.specs.ListLaws.{every-head, every-tail}
-use Rattle.lists.specs.MixLaws.{mix-append, mix-every}
-use Rattle.lists.specs.NumberLaws.{sum-append, sum-permuted}
+use Rattle.lists.specs.MixLaws.{mix-every}
+use Rattle.lists.specs.NumberLaws.{sum-mix}
 use Rattle.cover.specs.declared.Key.{Key}
 use Rattle.cover.specs.KeyLaws.{join-width, join-below}
 use Rattle.cover.specs.Cover.{pick}
@@ -22,13 +22,10 @@ use Rattle.cover.specs.Limits.{mostFanins, mostBelow}
 abbrev cost : Key → ℕ
 cost a = a .below + 2
 
-sum-mix : {xs ys zs : List Key} → Mix xs ys zs → sum cost zs ≡ sum cost xs + sum cost ys
-sum-mix {xs} {ys} m = sym (sum-permuted cost (mix-append m)) ∙ sum-append cost xs ys
-
 -- each fanin adds its own tables and two, the first its own alone
 pub reach-below : (K : ℕ) {zs : List Key} {r : Key} → Reach K zs r → r .below + 2 ≤ sum (λ a. a .below + 2) zs
 reach-below K (one {x = x}) = omega arith
-reach-below K (both {a = a} {b = b} m p q) = omega (arith, sum-mix m, reach-below K p, reach-below K q, join-below K a b)
+reach-below K (both {a = a} {b = b} m p q) = omega (arith, sum-mix cost m, reach-below K p, reach-below K q, join-below K a b)
 
 module _ (K : ℕ) (two : 2 ≤ K) where
   pub reach-width : {zs : List Key} {r : Key} → Reach K zs r → Wide zs → Every (λ a. a .width ≤ K) zs → r .width ≤ K

@@ -9,7 +9,7 @@ use mathlib.Core.List.{List, [], _∷_, _++_, map, Memᴰ·cast}
 use lib.Dec.{eqb}
 use lib.ListN.{length, length-map, getD}
 use Rattle.lists.specs.Cases.{by-eqb, if-leb}
-use Rattle.lists.specs.Lists.{_∈_, first, later, Every, Sorted, Rising, Distinct, Inserted, here, there, Permuted, empty, more, insert, sorted, upto, sum}
+use Rattle.lists.specs.Lists.{_∈_, first, later, Every, Sorted, Rising, Distinct, Inserted, here, there, Permuted, empty, more, Mix, neither, left, right, insert, sorted, upto, sum}
 use Rattle.lists.specs.ListLaws.{every-none, every-cons, every-head, every-tail, inserted-to, inserted-from}
 
 -- ---- sums
@@ -26,6 +26,11 @@ module _ {A : Type 0} (f : A → ℕ) where
   pub sum-permuted : {ys zs : List A} → Permuted ys zs → sum f ys ≡ sum f zs
   sum-permuted empty = refl
   sum-permuted (more i p) = omega (arith, sum-inserted i, sum-permuted p)
+
+  pub sum-mix : {xs ys zs : List A} → Mix xs ys zs → sum f zs ≡ sum f xs + sum f ys
+  sum-mix neither = refl
+  sum-mix (left m) = omega (arith, sum-mix m)
+  sum-mix (right m) = omega (arith, sum-mix m)
 
 pub sum-same : {A : Type 0} (f g : A → ℕ) (xs : List A) → Every (λ x. f x ≡ g x) xs → sum f xs ≡ sum g xs
 sum-same f g [] h = refl
