@@ -9,10 +9,12 @@ use mathlib.Core.List.{List}
 use lib.Bits.{bitAnd, and-self}
 use Rattle.cover.specs.declared.Key.{Key}
 use Rattle.cover.specs.Key.{_≼_, join}
-use Rattle.cover.specs.KeyLaws.{≼-refl, ≼-trans}
+use Rattle.cover.specs.KeyLaws.{≼-refl, ≼-trans, join-below, join-width}
 use Rattle.cover.specs.Masks.{Within}
 use Rattle.cover.specs.MaskLaws.{within-le, next-within, next-greatest}
-use Rattle.cover.specs.Entries.{entry, JoinableAt, Split, Made, BestJoin}
+use Rattle.cover.specs.Entries.{entry, JoinableAt, Joined, Split, Made, BestJoin}
+use Rattle.cover.specs.Volume.{volume}
+use Rattle.cover.specs.VolumeLaws.{volume-first}
 
 -- the key `a`, made by w, is no worse than the join by any submask above u, which is the next to be tried
 pub record Passed (K : ℕ) (bs ws : List ℕ) (top r : ℕ) (a : Key) (w u : ℕ) : Type 0 where
@@ -26,12 +28,18 @@ module _ (K : ℕ) (bs ws : List ℕ) (top r : ℕ) where
   abbrev by : ℕ → Key
   by u = join K (entry bs ws (top + r - u)) (entry bs ws u)
 
-  pub joinable-at : Split K top r bs ws → (u : ℕ) → 0 < u → u ≤ r → JoinableAt K bs ws (top + r - u) u
+  pub joinable-at : {least : ℕ} → Split K top r least bs ws → (u : ℕ) → 0 < u → u ≤ r → JoinableAt K bs ws (top + r - u) u
   joinable-at h u p l = record {
     places = (omega arith, omega arith);
     keys =
         record { table = h .table; left = h .keys (top + r - u) (omega arith) (omega arith); right = h .keys u p (omega arith) };
   }
+
+  -- that join has from 2 to K inputs
+  by-width : {least : ℕ} → Split K top r least bs ws → (u : ℕ) → 0 < u → Within u r → (2 ≤ (by u) .width) × ((by u) .width ≤ K)
+  by-width h u p w =
+      let j = joinable-at h u p (within-le u r w) .keys in
+      join-width K (h .table .0) _ _ (j .left .some) (j .right .some)
 
   -- a submask above the next one is u or above u
   above-next : (u : ℕ) → Within u r → (P : ℕ → Type 0) → P u → ((v : ℕ) → u < v → Within v r → P v) →
@@ -69,5 +77,29 @@ module _ (K : ℕ) (bs ws : List ℕ) (top r : ℕ) where
     low = above-next u (p .at) (λ v. b ≼ by v) (rw (sym e) (≼-refl b)) (λ v h w. ≼-trans l (p .low v h w));
   }
 
+  -- the volume of a join can be asked for
+  pub made-joined : {least : ℕ} {a : Key} {w : ℕ} → Split K top r least bs ws → Made K bs ws top r a w → Joined K a
+  made-joined {w = w} h m =
+      let j = joinable-at h w (m .some) (within-le w r (m .part)) .keys in
+      rw (m .is)
+      (record {
+        table = h .table;
+        most = by-width h w (m .some) (m .part) .1;
+        few = omega (arith, join-below K (entry bs ws (top + r - w)) (entry bs ws w));
+      })
+
+  -- no submask is left
   pub passed-last : {a : Key} {w u : ℕ} → Passed K bs ws top r a w u → u ≡ 0 → BestJoin K bs ws top r a w
   passed-last p z = record { made = p .made; low = λ v h. p .low v (omega arith) }
+
+  -- or the bound is met: no join has a lesser volume, so none is better
+  pub made-least : {least : ℕ} {a : Key} {w : ℕ} → Split K top r least bs ws → Made K bs ws top r a w → volume K a ≡ least →
+      BestJoin K bs ws top r a w
+  made-least {w = w} h m e = record {
+    made = m;
+    low = λ v p i.
+        let l = rw (m .is) at e in
+        let b = h .bound v p i in
+        rw (m .is)
+        (volume-first K (h .table .0) (by-width h w (m .some) (m .part) .0) (by-width h v p i .1) (omega arith));
+  }

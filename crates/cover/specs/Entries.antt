@@ -1,15 +1,16 @@
--- The arrays that the search for one gate fills, indexed by masks: tables below, inputs, and the submask that a mask is
--- split by. Definitions only: the laws are in EntryLaws.
+-- The arrays that the search for one gate fills, indexed by masks: tables below, inputs, the submask that a mask is split by,
+-- and the sum of the selected fanins' volumes. Definitions only: the laws are in EntryLaws.
 use Prim.Native.Nat.{ℕ, _+_, _-_, _^_, _≤_, _<_}
 use mathlib.Core.Path.{_≡_}
 use mathlib.Core.List.{List}
 use lib.ListN.{length, getD, take}
-use Rattle.lists.specs.Lists.{Every}
+use Rattle.lists.specs.Lists.{Every, sum}
 use Rattle.cover.specs.declared.Key.{Key}
 use Rattle.cover.specs.Key.{key, leaf-key, _≼_, join}
-use Rattle.cover.specs.Limits.{leastInputs, mostInputs, leastFanins, mostFanins, mostBelow, mostReached, masks}
+use Rattle.cover.specs.Limits.{leastInputs, mostInputs, leastFanins, mostFanins, mostBelow, mostReached, mostJoined, masks}
 use Rattle.cover.specs.Masks.{select, Within}
 use Rattle.cover.specs.Reach.{LeastReach}
+use Rattle.cover.specs.Volume.{volume}
 
 -- the key at a mask
 abbrev pub entry : List ℕ → List ℕ → ℕ → Key
@@ -32,17 +33,25 @@ pub record JoinableAt (K : ℕ) (bs ws : List ℕ) (x y : ℕ) : Type 0 where
   pub places : (x < masks) × (y < masks)
   pub keys : Joinable K (entry bs ws x) (entry bs ws y)
 
+-- a small key, or a join of two
+pub record Joined (K : ℕ) (a : Key) : Type 0 where
+  pub table : (leastInputs ≤ K) × (K ≤ mostInputs)
+  pub most : a .width ≤ K
+  pub few : a .below ≤ mostJoined
+
 -- at each mask below n
 abbrev pub Smalls : ℕ → List ℕ → List ℕ → ℕ → Type 0
 Smalls K bs ws n = (s : ℕ) → 0 < s → s < n → Small K (entry bs ws s)
 
--- a mask of two bits or more: its highest, and r below it; with keys at all smaller masks
-pub record Split (K top r : ℕ) (bs ws : List ℕ) : Type 0 where
+-- a mask of two bits or more: its highest, and r below it; with keys at all smaller masks, of which no join by a submask of r
+-- has a volume below `least`
+pub record Split (K top r least : ℕ) (bs ws : List ℕ) : Type 0 where
   pub table : (leastInputs ≤ K) × (K ≤ mostInputs)
   pub some : 0 < r
   pub below : r < top
   pub within : top + r < masks
   pub keys : Smalls K bs ws (top + r)
+  pub bound : (v : ℕ) → 0 < v → Within v r → least ≤ volume K (join K (entry bs ws (top + r - v)) (entry bs ws v))
 
 -- `a` is the join of the keys at u, a submask of r, and at the rest of top + r
 pub record Made (K : ℕ) (bs ws : List ℕ) (top r : ℕ) (a : Key) (u : ℕ) : Type 0 where
@@ -66,6 +75,10 @@ pub record Entered (K : ℕ) (ks : List Key) (bs ws : List ℕ) (s : ℕ) (a : K
 pub record Entries (K : ℕ) (ks : List Key) (bs ws us : List ℕ) (n : ℕ) : Type 0 where
   pub at : (s : ℕ) → 0 < s → s < n → Entered K ks bs ws s (entry bs ws s) (getD us s 0)
 
+-- the volume at each mask below n is the sum of the selected keys' volumes
+pub record Volumes (K : ℕ) (ks : List Key) (vs : List ℕ) (n : ℕ) : Type 0 where
+  pub at : (s : ℕ) → 0 < s → s < n → getD vs s 0 ≡ sum (volume K) (select s ks)
+
 -- the key of a fanin: at least one input and at most K, with few tables below
 pub record Fanin (K : ℕ) (a : Key) : Type 0 where
   pub some : 1 ≤ a .width
@@ -79,10 +92,10 @@ pub record Good (K : ℕ) (ks : List Key) : Type 0 where
   pub keys : Every (Fanin K) ks
 
 -- and the arrays for it: one place for each mask of ten fanins
-pub record Fillable (K count : ℕ) (keys : List Key) (bs ws us : List ℕ) : Type 0 where
+pub record Fillable (K count : ℕ) (keys : List Key) (bs ws us vs : List ℕ) : Type 0 where
   pub good : Good K (take count keys)
   pub size : length (take count keys) ≡ count
-  pub rooms : (length bs ≡ masks) × (length ws ≡ masks) × (length us ≡ masks)
+  pub rooms : (length bs ≡ masks) × (length ws ≡ masks) × (length us ≡ masks) × (length vs ≡ masks)
 
 -- a mask of one bit of at most ten
 abbrev pub OneBit : ℕ → Type 0

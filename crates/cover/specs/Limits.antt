@@ -22,6 +22,10 @@ mostBelow = 255
 abbrev pub mostReached : ℕ
 mostReached = mostFanins * (mostBelow + 2) - 2
 
+-- and below a join of two such
+abbrev pub mostJoined : ℕ
+mostJoined = 2 * mostReached + 2
+
 -- the sets of at most that many fanins
 abbrev pub masks : ℕ
 masks = 1024

@@ -5,11 +5,12 @@ ghost use mathlib.Core.Bool.{true, false};
 ghost use Prim.Native.Nat.{min, _≤_, _<_, _^_};
 ghost use lib.ListN.{take};
 ghost use Rattle.cover.specs.Key.{join as joinOf, cuts, _≼_};
+ghost use Rattle.cover.specs.Volume.{volume as volumeOf};
 ghost use Rattle.lists.specs.Tests.{all};
 ghost use Rattle.cover.specs.Limits.{mostFanins, masks, mostSteps};
 ghost use Rattle.cover.specs.PlanOf.{faninTest, goodInput, blank as blankOf, PlanOf};
 ghost use Rattle.cover.specs.Steps.{stepped, joinToken, Took, Writable, Writes};
-ghost use Rattle.cover.specs.Entries.{Joinable, JoinableAt, Split, BestJoin, Fillable, Entries, OneBit, entry};
+ghost use Rattle.cover.specs.Entries.{Joinable, JoinableAt, Joined, Split, BestJoin, Fillable, Entries, OneBit, entry};
 
 // The inputs of a table.
 pub const LEAST_INPUTS: u8 = 2;
@@ -161,28 +162,38 @@ fn join_at<'a>(k: u8, x: usize, y: usize, below: &'a [u16; MASKS], width: &'a [u
     join(k, a, b)
 }
 
+// The most leaves that a cover with that key can have: each table below stands for one input and brings k.
+fn volume(k: u8, a: Key) -> u16
+    requires { ⌜ Joined k a ⌝ }
+    ensures { λ r. ⌜ r ≡ volumeOf k a ⌝ }
+{
+    (k as u16 - 1) * a.below + a.width as u16
+}
+
 // A key, and the submask by which it was made.
 struct Choice {
     key: Key,
     sub: u16,
 }
 
-// The best key for the mask top + r, top being its highest bit: the least join over the submasks of r, greatest first.
+// The best key for the mask top + r, top being its highest bit: the least join over the submasks of r, greatest first. No join
+// has a volume below least, so the first one that has it is the best.
 fn best_join<'a>(
     k: u8,
     top: usize,
     r: usize,
+    least: u16,
     below: &'a [u16; MASKS],
     width: &'a [u8; MASKS],
 ) -> Choice
-    requires { ⌜ Split k top r (now below) (now width) ⌝ }
+    requires { ⌜ Split k top r least (now below) (now width) ⌝ }
     ensures { λ c. ⌜ BestJoin k (now (below .entry)) (now (width .entry)) top r (c .key) (c .sub) ⌝ }
 {
     let s = top + r;
     let mut sub = r;
     let mut key = join_at(k, s - r, r, below, width);
     let mut u = (r - 1) & r;
-    while u > 0 {
+    while u > 0 && volume(k, key) != least {
         let x = join_at(k, s - u, u, below, width);
         if precedes(x, key) {
             key = x;
@@ -204,8 +215,9 @@ fn fill(
     below: &mut [u16; MASKS],
     width: &mut [u8; MASKS],
     split: &mut [u16; MASKS],
+    volumes: &mut [u16; MASKS],
 ) -> usize
-    requires { ⌜ Fillable k count keys (now below) (now width) (now split) ⌝ }
+    requires { ⌜ Fillable k count keys (now below) (now width) (now split) (now volumes) ⌝ }
     ensures { λ r. ⌜ (r ≡ 2 ^ count) × Entries k (take count keys) (now (below .exit)) (now (width .exit)) (now (split .exit)) r ⌝ }
 {
     // h fanins have come: next is the bit of the one to come, and top the highest bit of a mask below it
@@ -222,12 +234,15 @@ fn fill(
             below[s] = key.below;
             width[s] = key.width;
             split[s] = 0;
+            volumes[s] = volume(k, key);
             h += 1;
             top = s;
             next = s + s;
             s += 1;
         } else {
-            let c = best_join(k, top, s - top, below, width);
+            let least = volumes[top] + volumes[s - top];
+            volumes[s] = least;
+            let c = best_join(k, top, s - top, least, below, width);
             let key = c.key;
             below[s] = key.below;
             width[s] = key.width;
@@ -390,7 +405,16 @@ pub fn best_plan(k: u8, count: u8, keys: [Key; MOST_FANINS]) -> Plan
     let mut below = [0u16; MASKS];
     let mut width = [0u8; MASKS];
     let mut split = [0u16; MASKS];
-    let end = fill(k, count as usize, keys, &mut below, &mut width, &mut split);
+    let mut volumes = [0u16; MASKS];
+    let end = fill(
+        k,
+        count as usize,
+        keys,
+        &mut below,
+        &mut width,
+        &mut split,
+        &mut volumes,
+    );
     let all = end - 1;
     let key = key_at(all, &below, &width);
     with_steps(k, all, &below, &width, &split, blank(true, key))

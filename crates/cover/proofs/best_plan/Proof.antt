@@ -25,7 +25,7 @@ found c =
 
 -- the arrays are full
 abbrev at-else : tie.After-fill → tie.Else1
-at-else c = c .before .before .before .before
+at-else c = c .before .before .before .before .before
 
 ended : (c : tie.After-fill) → let a = at-else c .before .before .args in c .fill .result ≡ 2 ^ length (take (a .count) (a .keys))
 ended c = c .fill .ensures .0 ∙ ap (λ n. 2 ^ n) (sym (found (at-else c) .0))
@@ -43,8 +43,8 @@ returns c =
 
 fill-requires : tie.Need-fill-requires
 fill-requires c κs =
-    let f = found (c .before .before .before) in
-    record { good = f .1; size = f .0; rooms = (refl, refl, refl) }
+    let f = found (c .before .before .before .before) in
+    record { good = f .1; size = f .0; rooms = (refl, refl, refl, refl) }
 
 sub-all : tie.Need-sub-all
 sub-all c = omega (arith, whole-place (found (at-else c) .1) (ended c))
