@@ -192,12 +192,14 @@ fn best_join<'a>(
     let s = top + r;
     let mut sub = r;
     let mut key = join_at(k, s - r, r, below, width);
+    let mut met = volume(k, key) == least;
     let mut u = (r - 1) & r;
-    while u > 0 && volume(k, key) != least {
+    while u > 0 && !met {
         let x = join_at(k, s - u, u, below, width);
         if precedes(x, key) {
             key = x;
             sub = u;
+            met = volume(k, x) == least;
         }
         u = (u - 1) & r;
     }
