@@ -1,0 +1,28 @@
+"""The expected output of the program table_test: the first bad record of a run, as the user's scope paper (01, "Part") has it. The rules
+are those of model.py.
+
+Run: python3 tests/part/runs.py > crates/table_test/stdout
+"""
+
+import pathlib
+
+from model import Record, keeps_rules, opened
+
+CRATE = pathlib.Path(__file__).parents[2] / "crates/table_test"
+
+
+def first_bad(k, capacity, tables):
+    """The first record at which the run up to and including it breaks a rule or is longer than the capacity; 0 for none."""
+    refused, _ = opened(k, capacity)
+    if refused:
+        return refused
+    for n in range(1, len(tables) + 1):
+        if n > capacity or not keeps_rules(tables[:n], k):
+            return n
+    return 0
+
+
+for name in (CRATE / "args").read_text().split("\n")[:-1]:
+    head, *rows = ([int(word) for word in line.split()] for line in (CRATE / "data" / name).read_text().splitlines())
+    tables = [Record(net, u, inputs, truth) for net, u, *inputs, truth in rows]
+    print(f"{name}\n{first_bad(*head, tables):6}")
