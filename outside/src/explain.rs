@@ -13,6 +13,7 @@ pub fn explain(input: &[u8], printed: &[u8]) -> Result<String, String> {
     if program::read(input).err() != Some(refusal) {
         return Err("this line is not what the input gives".into());
     }
+    let reason = reason(refusal.number).expect("a number that an input gives");
     let number = line_number(input, &refusal);
     let place = match (refusal.sheet, refusal.place) {
         (0, _) => "The opening line".into(),
@@ -23,7 +24,7 @@ pub fn explain(input: &[u8], printed: &[u8]) -> Result<String, String> {
         Some(line) => line.strip_suffix(b"\n").unwrap_or(line).escape_ascii().to_string(),
         None => "(the input ends before this line)".into(),
     };
-    Ok(format!("{place}: {} (refusal {}).\n{number:>6} | {shown}\n", reason(refusal.number), refusal.number))
+    Ok(format!("{place}: {reason} (refusal {}).\n{number:>6} | {shown}\n", refusal.number))
 }
 
 /// Three fields and nothing else, the first below 0.
@@ -49,10 +50,12 @@ fn line_number(input: &[u8], refusal: &Refusal) -> usize {
     first + refusal.place.saturating_sub(1)
 }
 
-/// What a refusal's number says (01, "Turned down because of the input" and "of the part").
-pub fn reason(number: u32) -> &'static str {
-    match number {
-        1 => "the line is missing, has no line feed, has the wrong number of fields, or a field of six columns that holds no right-justified number",
+/// What a refusal's number says (01, "Turned down because of the input" and "of the part"); the words are those of crates/refusals.
+pub fn reason(number: u32) -> Option<&'static str> {
+    Some(match number {
+        1 => {
+            "the line is missing, has no line feed, has a wrong number of fields or a field that is not laid out, or follows the last line"
+        }
         2 => "K must be from 2 to 6",
         3 => "the capacity must be from 1 to 800",
         4 => "the output net must be from 1 to 999, with or without a minus sign",
@@ -64,13 +67,13 @@ pub fn reason(number: u32) -> &'static str {
         10 => "a net stands at a second leaf",
         11 => "the sheet's output net is one of its leaves",
         12 => "the sheet has more than 256 leaves",
-        13 => "this gate is not the last one, and nothing reads it",
-        14 => "the buffer has too little room for the line",
+        13 => "a gate other than the last is never read",
+        14 => "the buffer has too little room from the place on",
         15 => "the part has no such line",
         20 => "the part is not sound",
-        21 => "another sheet already drives the output net",
+        21 => "the output net is already driven",
         22 => "a table already reads the output net",
         23 => "the sheet needs more tables than the part has left",
-        _ => "the number is not one of 01's",
-    }
+        _ => return None,
+    })
 }

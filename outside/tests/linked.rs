@@ -5,8 +5,9 @@ mod common;
 
 use common::text;
 use outside::check::check_output;
+use outside::explain::reason;
 use outside::generate::case;
-use outside::linked::{map, LONGEST};
+use outside::linked::{map, refusal, LONGEST};
 
 /// 01's example has one table for each sheet, so its list leaves nothing free.
 #[test]
@@ -32,4 +33,26 @@ fn generated_inputs() {
 fn the_longest_list() {
     let input = outside::samples::full_part();
     assert_eq!(check_output(input.as_bytes(), map(input.as_bytes(), &mut vec![0; LONGEST])), Ok(()));
+}
+
+/// Each of 01's numbers has a sentence, the one that `explain` prints; no other number has one.
+#[test]
+fn the_refusals() {
+    for number in (0..=1000).chain([65536 + 1, u32::MAX]) {
+        let mut output = [b'.'; 200];
+        let sentence = String::from_utf8(refusal(number, &mut output).to_vec()).expect("plain words");
+        assert_eq!(sentence, reason(number).unwrap_or(""));
+        assert_eq!(sentence.is_empty(), !matches!(number, 1..=15 | 20..=23), "{number}");
+        assert!(sentence.len() <= 128 && output[sentence.len()..].iter().all(|&byte| byte == b'.'));
+    }
+}
+
+/// A buffer that is one byte too short is left as it is.
+#[test]
+fn a_short_buffer() {
+    let length = refusal(20, &mut [0; 128]).len();
+    let mut output = vec![b'.'; length];
+    assert!(refusal(20, &mut output[1..]).is_empty());
+    assert!(output.iter().all(|&byte| byte == b'.'));
+    assert_eq!(refusal(20, &mut output).len(), length);
 }

@@ -23,8 +23,7 @@ fn a_refusal_in_words() {
         "Sheet 2, line 3 (line 6 of the input): the kind must be 1 (AND) or 2 (OR) (refusal 6).\n     6 |      3     2     5     6\n";
     assert_eq!(explained(&second), wanted);
     let driven = input(2, 8, &(one_gate(99, 1, &[1, 2]) + &one_gate(-99, 1, &[3, 4])));
-    let wanted =
-        "Sheet 2, which begins at line 4 of the input: another sheet already drives the output net (refusal 21).\n     4 |    -99     1\n";
+    let wanted = "Sheet 2, which begins at line 4 of the input: the output net is already driven (refusal 21).\n     4 |    -99     1\n";
     assert_eq!(explained(&driven), wanted);
     assert_eq!(explained("     7     8\n"), "The opening line: K must be from 2 to 6 (refusal 2).\n     1 |      7     8\n");
     assert!(explained("     4     8\n    99     1\n").ends_with("(refusal 1).\n     3 | (the input ends before this line)\n"));
@@ -37,7 +36,6 @@ fn every_generated_refusal_has_words() {
     for index in 0..1500 {
         let input = case(3, index).input;
         let sentence = explain(&input, print(&input).as_bytes()).expect("an explanation");
-        assert!(!sentence.contains("not one of 01's"));
         if let Err(refusal) = read(&input) {
             assert!(sentence.contains(&format!("(refusal {}).\n", refusal.number)));
         }

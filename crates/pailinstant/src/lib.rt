@@ -1,4 +1,6 @@
 // The mapper for programs in other languages: `rt staticlib pailinstant` writes the archive.
+ghost use mathlib.Core.Path.{_≡_};
+ghost use Rattle.refusals.specs.Sentences.{refusalText, fitted};
 ghost use Rattle.pailinstant.specs.Calls.{PrintedInto};
 use mapping::Printed;
 use mapping::run;
@@ -13,4 +15,13 @@ pub extern "C" fn pailinstant_map(input: &[u8], output: &mut [u8]) -> usize
         Printed::Wrote(n) => n,
         Printed::NoRoom => 0,
     }
+}
+
+// The list of refusals: writes what a refusal's number means, as a plain sentence, into the buffer, and gives how many bytes that is. A
+// buffer that is too short, or a number that is no refusal, leaves the buffer as it is and gives 0.
+#[no_mangle]
+pub extern "C" fn pailinstant_refusal(number: u32, output: &mut [u8]) -> usize
+    ensures { λ r. ⌜ record { count = r; bytes = now (output .exit) } ≡ fitted (refusalText number) (now (output .entry)) ⌝ }
+{
+    refusals::write(number, output)
 }
