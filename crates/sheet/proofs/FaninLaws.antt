@@ -12,12 +12,13 @@ use lib.ListN.{length, getD, set, replicate, length-replicate, getD-replicate, l
 use lib.Seq.{getD-set-same, getD-set-other}
 use Rattle.lists.specs.Cases.{by-eqb}
 use Rattle.lists.specs.ListLaws.{every-head}
+use Rattle.lists.specs.Tests.{elem}
 use Rattle.sheet.specs.declared.Source.{Source}
 use Rattle.sheet.specs.declared.Source.the-variants.{Net as net, Gate as gate}
 use Rattle.sheet.specs.Limits.{gateBase, mostGates, mostLeaves}
 use Rattle.sheet.specs.Sheet.{netOf}
 use Rattle.sheet.specs.Step.{good, bad, _>>=_, require, given}
-use Rattle.sheet.specs.Read.{member, Seen, nothing, sourceOf, readFanin}
+use Rattle.sheet.specs.Read.{Seen, nothing, sourceOf, readFanin}
 use Rattle.sheet.specs.ReadLaws.{source-named}
 use Rattle.sheet.specs.Inside.{Flagged, codes, Marked, saw}
 
@@ -29,28 +30,28 @@ module _ (out g : ℕ) (seen : Seen) (n : ℕ) where
   fanin-none e = rw e
 
   module _ (j : ℕ) (e : sourceOf g n ≡ some (gate j)) where
-    pub gate-twice : member j (seen .gates) ≡ true → readFanin out g seen n ≡ bad 9 (suc g)
+    pub gate-twice : elem j (seen .gates) ≡ true → readFanin out g seen n ≡ bad 9 (suc g)
     unfolding _>>=_ given require
     gate-twice m = rw (e, m)
 
-    pub gate-once : member j (seen .gates) ≡ false → readFanin out g seen n ≡ good (gate j, saw seen (gate j))
+    pub gate-once : elem j (seen .gates) ≡ false → readFanin out g seen n ≡ good (gate j, saw seen (gate j))
     unfolding _>>=_ given require
     gate-once m = rw (e, m)
 
   module _ (m : ℕ) (e : sourceOf g n ≡ some (net m)) where
-    pub net-twice : member m (seen .nets) ≡ true → readFanin out g seen n ≡ bad 10 (suc g)
+    pub net-twice : elem m (seen .nets) ≡ true → readFanin out g seen n ≡ bad 10 (suc g)
     unfolding _>>=_ given require
     net-twice a = rw (e, a)
 
-    pub net-out : member m (seen .nets) ≡ false → eqb m out ≡ true → readFanin out g seen n ≡ bad 11 (suc g)
+    pub net-out : elem m (seen .nets) ≡ false → eqb m out ≡ true → readFanin out g seen n ≡ bad 11 (suc g)
     unfolding _>>=_ given require
     net-out a b = rw (e, a, b)
 
-    pub net-many : member m (seen .nets) ≡ false → eqb m out ≡ false → ltb (length (seen .nets)) mostLeaves ≡ false → readFanin out g seen n ≡ bad 12 (suc g)
+    pub net-many : elem m (seen .nets) ≡ false → eqb m out ≡ false → ltb (length (seen .nets)) mostLeaves ≡ false → readFanin out g seen n ≡ bad 12 (suc g)
     unfolding _>>=_ given require
     net-many a b d = rw (e, a, b, d)
 
-    pub net-once : member m (seen .nets) ≡ false → eqb m out ≡ false → ltb (length (seen .nets)) mostLeaves ≡ true →
+    pub net-once : elem m (seen .nets) ≡ false → eqb m out ≡ false → ltb (length (seen .nets)) mostLeaves ≡ true →
         readFanin out g seen n ≡ good (net m, saw seen (net m))
     unfolding _>>=_ given require
     net-once a b d = rw (e, a, b, d)
@@ -65,9 +66,9 @@ or-false : (b : Bool) → (b || false) ≡ b
 or-false true = refl
 or-false false = refl
 
-member-end : (n : ℕ) (xs : List ℕ) (i : ℕ) → member n (xs ++ (i ∷ [])) ≡ (member n xs || eqb n i)
-member-end n [] i = or-false (eqb n i)
-member-end n (x ∷ xs) i = ap (λ b. eqb n x || b) (member-end n xs i) ∙ or-assoc (eqb n x) (member n xs) (eqb n i)
+elem-end : (n : ℕ) (xs : List ℕ) (i : ℕ) → elem n (xs ++ (i ∷ [])) ≡ (elem n xs || eqb n i)
+elem-end n [] i = or-false (eqb n i)
+elem-end n (x ∷ xs) i = ap (λ b. eqb n x || b) (elem-end n xs i) ∙ or-assoc (eqb n x) (elem n xs) (eqb n i)
   where
     or-assoc : (a b c : Bool) → (a || (b || c)) ≡ ((a || b) || c)
     or-assoc true b c = refl
@@ -77,13 +78,13 @@ member-end n (x ∷ xs) i = ap (λ b. eqb n x || b) (member-end n xs i) ∙ or-a
 flag-in : (base size : ℕ) (flags : List Bool) (xs : List ℕ) (i : ℕ) → base + i < length flags → Flagged base size flags xs →
     Flagged base size (set flags (base + i) true) (xs ++ (i ∷ []))
 flag-in base size flags xs i l h n k =
-    by-eqb (λ b. eqb n i ≡ b → getD (set flags (base + i) true) (base + n) false ≡ member n (xs ++ (i ∷ []))) n i
+    by-eqb (λ b. eqb n i ≡ b → getD (set flags (base + i) true) (base + n) false ≡ elem n (xs ++ (i ∷ []))) n i
     (λ e q.
     ap (λ m. getD (set flags (base + i) true) (base + m) false) e
-    ∙ (getD-set-same flags (base + i) true false l ∙ sym (member-end n xs i ∙ (ap (λ b. member n xs || b) q ∙ or-true (member n xs)))))
+    ∙ (getD-set-same flags (base + i) true false l ∙ sym (elem-end n xs i ∙ (ap (λ b. elem n xs || b) q ∙ or-true (elem n xs)))))
     (λ d q.
     getD-set-other flags (base + i) (base + n) true false (λ e. d (omega arith))
-    ∙ (h n k ∙ sym (member-end n xs i ∙ (ap (λ b. member n xs || b) q ∙ or-false (member n xs)))))
+    ∙ (h n k ∙ sym (elem-end n xs i ∙ (ap (λ b. elem n xs || b) q ∙ or-false (elem n xs)))))
     refl
 
 -- and one that is set elsewhere says nothing
@@ -112,13 +113,13 @@ module _ (g n : ℕ) (few : g ≤ mostGates) where
 
   -- the flag at the number of a fanin
   module _ {flags : List Bool} {leaves : ℕ} {seen : Seen} (h : Marked flags leaves seen) where
-    pub net-flag : (m : ℕ) → sourceOf g n ≡ some (net m) → getD flags n false ≡ member m (seen .nets)
+    pub net-flag : (m : ℕ) → sourceOf g n ≡ some (net m) → getD flags n false ≡ elem m (seen .nets)
     net-flag m e =
         let d = source-named g n (net m) e in
         let k = every-head (d .is-net) in
         ap (λ i. getD flags i false) (let q : n ≡ 0 + m = omega (arith, d .code) in q) ∙ h .nets m (omega arith)
 
-    pub gate-flag : (j : ℕ) → sourceOf g n ≡ some (gate j) → getD flags n false ≡ member j (seen .gates)
+    pub gate-flag : (j : ℕ) → sourceOf g n ≡ some (gate j) → getD flags n false ≡ elem j (seen .gates)
     gate-flag j e =
         let d = source-named g n (gate j) e in
         let k = every-head (d .is-before) in

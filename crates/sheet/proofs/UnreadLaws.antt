@@ -6,10 +6,11 @@ use mathlib.Core.Path.{_≡_, refl, sym, ap, _∙_}
 use mathlib.Core.Bool.{Bool, true, false}
 use mathlib.Core.List.{List, _∷_}
 use lib.ListN.{getD}
+use Rattle.lists.specs.Tests.{elem}
 use Rattle.sheet.specs.Limits.{gateBase, mostGates}
 use Rattle.sheet.specs.Sheet.{from}
 use Rattle.sheet.specs.Step.{good, bad, _>>=_, require}
-use Rattle.sheet.specs.Read.{member, readUnread}
+use Rattle.sheet.specs.Read.{readUnread}
 use Rattle.sheet.specs.Inside.{Flagged}
 
 -- what is left to look at is the gates from g on
@@ -21,11 +22,11 @@ pub passed-none : (flags : List Bool) (count : ℕ) → Passed flags count 1
 passed-none flags count = record { least = omega arith; same = λ read h. refl }
 
 module _ (g : ℕ) (gs read : List ℕ) where
-  unread-first : member g read ≡ false → readUnread (g ∷ gs) read ≡ bad 13 (suc g)
+  unread-first : elem g read ≡ false → readUnread (g ∷ gs) read ≡ bad 13 (suc g)
   unfolding _>>=_ require
   unread-first e = rw e
 
-  unread-later : member g read ≡ true → readUnread (g ∷ gs) read ≡ readUnread gs read
+  unread-later : elem g read ≡ true → readUnread (g ∷ gs) read ≡ readUnread gs read
   unfolding _>>=_ require
   unread-later e = rw e
 

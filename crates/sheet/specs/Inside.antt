@@ -6,6 +6,7 @@ use mathlib.Core.Option.{Option, none, some}
 use mathlib.Core.List.{List, [], _∷_, _++_, map}
 use lib.Dec.{ltb}
 use lib.ListN.{length, getD, take, drop}
+use Rattle.lists.specs.Tests.{elem}
 use Rattle.tree.specs.declared.Kind.{Kind}
 use Rattle.decimal.specs.Number.{Number}
 use Rattle.sheet.specs.declared.Source.{Source}
@@ -36,7 +37,7 @@ use Rattle.sheet.specs.Sheet.{DrawnGate, DrawnSheet, netOf, from}
 use Rattle.sheet.specs.Limits.{gateBase, mostFields, mostGates, mostFanins, mostLeaves}
 use Rattle.sheet.specs.Line.{line, fields}
 use Rattle.sheet.specs.Step.{Step, good, bad, _>>=_, require, given}
-use Rattle.sheet.specs.Read.{empty, Head as LineOne, readHead, gateHeadOf, member, Seen, nothing, sourceOf, readFanin, readLeft, readUnread}
+use Rattle.sheet.specs.Read.{empty, Head as LineOne, readHead, gateHeadOf, Seen, nothing, sourceOf, readFanin, readLeft, readUnread}
 use Rattle.sheet.specs.Answers.{numberOf, drawnGates}
 use Rattle.sheet.specs.Promise.{NextRead}
 
@@ -125,7 +126,7 @@ pub record GateLineRead (text : List ℕ) (start : ℕ) (l : GateLine) : Type 0 
 
 -- the flags from `base` on say which numbers below `size` are in the list
 abbrev pub Flagged : (base size : ℕ) → List Bool → List ℕ → Type 0
-Flagged base size flags xs = (n : ℕ) → n < size → getD flags (base + n) false ≡ member n xs
+Flagged base size flags xs = (n : ℕ) → n < size → getD flags (base + n) false ≡ elem n xs
 
 -- how many numbers have a flag: all that a fanin may be written as, and those below
 abbrev pub codes : ℕ

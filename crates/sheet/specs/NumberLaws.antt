@@ -5,13 +5,15 @@ use mathlib.Core.Path.{sym, subst}
 use mathlib.Core.Logic.{_≢_}
 use mathlib.Core.Bool.{Bool, true, false, not, _||_}
 use mathlib.Core.List.{List, [], _∷_, _++_, List·Memᴰ·not-nil}
-use lib.Dec.{T, leb, eqb, leb→le}
+use lib.Dec.{T, eqb}
 use Rattle.lists.specs.Lists.{_∈_, first, later, Every, Distinct, Inserted, here, there, Permuted, empty, more}
 use Rattle.lists.specs.ListLaws.{not-first, every-none, every-cons, every-head, every-tail, every-append, inserted-to, inserted-from, permuted-to}
 use Rattle.lists.specs.Cases.{by-eqb, and-split}
+use Rattle.lists.specs.Tests.{within, elem}
+use Rattle.lists.specs.TestLaws.{reflects-within}
 use Rattle.decimal.specs.Number.{Number}
 use Rattle.sheet.specs.Sheet.{from}
-use Rattle.sheet.specs.Read.{within, counts, member}
+use Rattle.sheet.specs.Read.{counts}
 
 -- ---- tests
 
@@ -19,23 +21,16 @@ pub by-test : (P : Bool → Type 0) (b : Bool) → (T b → P true) → (T (not 
 by-test P true f g = f tt
 by-test P false f g = g tt
 
-pub within-holds : (low high n : ℕ) → T (within low high n) → (low ≤ n) × (n ≤ high)
-within-holds low high n t = let a = and-split (leb low n) (leb n high) t in (leb→le low n (a .0), leb→le n high (a .1))
-
 pub counts-holds : (low high : ℕ) (x : Number) → T (counts low high x) → (low ≤ x .magnitude) × (x .magnitude ≤ high)
-counts-holds low high x t = within-holds low high (x .magnitude) (and-split (not (x .negative)) (within low high (x .magnitude)) t .1)
+counts-holds low high x t = reflects-within low high (x .magnitude) .to (and-split (not (x .negative)) (within low high (x .magnitude)) t .1)
 
 pub not-eqb : (m n : ℕ) → T (not (eqb m n)) → m ≢ n
 not-eqb m n = by-eqb (λ b. T (not b) → m ≢ n) m n (λ e t. absurd t) (λ d t. d)
 
-pub member-holds : (n : ℕ) (ms : List ℕ) → T (member n ms) → n ∈ ms
-member-holds n [] t = absurd t
-member-holds n (m ∷ ms) t = by-eqb (λ b. T (b || member n ms) → n ∈ m ∷ ms) n m (λ e u. first e) (λ d u. later (member-holds n ms u)) t
-
-pub not-member : (n : ℕ) (ms : List ℕ) → T (not (member n ms)) → Every (λ m. n ≢ m) ms
-not-member n [] t = every-none _
-not-member n (m ∷ ms) t =
-    by-eqb (λ b. T (not (b || member n ms)) → Every (λ m. n ≢ m) (m ∷ ms)) n m (λ e u. absurd u) (λ d u. every-cons d (not-member n ms u)) t
+pub not-elem : (n : ℕ) (ms : List ℕ) → T (not (elem n ms)) → Every (λ m. n ≢ m) ms
+not-elem n [] t = every-none _
+not-elem n (m ∷ ms) t =
+    by-eqb (λ b. T (not (b || elem n ms)) → Every (λ m. n ≢ m) (m ∷ ms)) n m (λ e u. absurd u) (λ d u. every-cons d (not-elem n ms u)) t
 
 -- ---- numbers that stand once
 

@@ -1,10 +1,11 @@
 -- The reading of a sheet, with all that turns it down: 1 and 4 to 13, line by line. Definitions only.
 use Prim.Native.Nat.{ℕ, zero, suc, _+_, _-_}
-use mathlib.Core.Bool.{Bool, true, false, not, cond, _&&_, _||_}
+use mathlib.Core.Bool.{Bool, true, false, not, cond, _&&_}
 use mathlib.Core.Option.{Option, none, some}
 use mathlib.Core.List.{List, [], _∷_, _++_}
-use lib.Dec.{leb, ltb, eqb}
+use lib.Dec.{ltb, eqb}
 use lib.ListN.{length}
+use Rattle.lists.specs.Tests.{within, elem}
 use Rattle.tree.specs.declared.Kind.{Kind}
 use Rattle.tree.specs.declared.Kind.the-variants.{And as and, Or as or}
 use Rattle.tree.specs.Limits.{greatestNet}
@@ -19,16 +20,9 @@ use Rattle.sheet.specs.Step.{Step, good, bad, _>>=_, require, given}
 
 -- ---- tests
 
-abbrev pub within : (low high n : ℕ) → Bool
-within low high n = leb low n && leb n high
-
 -- a count has no sign
 abbrev pub counts : (low high : ℕ) → Number → Bool
 counts low high x = not (x .negative) && within low high (x .magnitude)
-
-abbrev pub member : ℕ → List ℕ → Bool
-member n [] = false
-member n (m ∷ ms) = eqb n m || member n ms
 
 abbrev pub empty : {A : Type 0} → List A → Bool
 empty [] = true
@@ -77,10 +71,10 @@ sourceOf g n = cond (within 1 greatestNet n) (some (net n)) (cond (ltb gateBase 
 
 abbrev pub readSource : (out place : ℕ) → Seen → Source → Step Seen
 readSource out place seen (gate g) = do
-  _ ← require (not (member g (seen .gates))) 9 place
+  _ ← require (not (elem g (seen .gates))) 9 place
   good (record { nets = seen .nets; gates = seen .gates ++ (g ∷ []) })
 readSource out place seen (net n) = do
-  _ ← require (not (member n (seen .nets))) 10 place
+  _ ← require (not (elem n (seen .nets))) 10 place
   _ ← require (not (eqb n out)) 11 place
   _ ← require (ltb (length (seen .nets)) mostLeaves) 12 place
   good (record { nets = seen .nets ++ (n ∷ []); gates = seen .gates })
@@ -137,7 +131,7 @@ readLeft out (suc left) g seen text = do
 abbrev pub readUnread : (gs read : List ℕ) → Step (Unit {0})
 readUnread [] read = good tt
 readUnread (g ∷ gs) read = do
-  _ ← require (member g read) 13 (suc g)
+  _ ← require (elem g read) 13 (suc g)
   readUnread gs read
 
 -- ---- a sheet

@@ -10,6 +10,8 @@ use lib.ListN.{length, length-append}
 use Rattle.lists.specs.Lists.{_∈_, Every, Distinct, Permuted}
 use Rattle.lists.specs.ListLaws.{every-none, every-cons, every-head, every-append, permuted-to, permuted-sym}
 use Rattle.lists.specs.Cases.{and-split}
+use Rattle.lists.specs.Tests.{within}
+use Rattle.lists.specs.TestLaws.{reflects-elem, reflects-within}
 use Rattle.tree.specs.Limits.{greatestNet}
 use Rattle.decimal.specs.Number.{Number}
 use Rattle.sheet.specs.Limits.{gateBase, mostGates, fewestFanins, mostFanins, mostLeaves}
@@ -20,9 +22,9 @@ use Rattle.sheet.specs.declared.Edge.{Edge as Fanin}
 use Rattle.sheet.specs.Sheet.{DrawnGate, DrawnSheet, sheet, netOf, gateOf, codeOf, faninNets, faninGates, leafNets, gatesRead, from}
 use Rattle.sheet.specs.Step.{Step}
 use Rattle.sheet.specs.StepLaws.{Meets, on, off, meets-map, meets-bind, meets-require, meets-given}
-use Rattle.sheet.specs.Read.{within, Seen, nothing, readHead, sourceOf, readSource, readFanin, readFanins, gateHeadOf, readGate, readLeft, readUnread, readAll, reading, readSheet}
+use Rattle.sheet.specs.Read.{Seen, nothing, readHead, sourceOf, readSource, readFanin, readFanins, gateHeadOf, readGate, readLeft, readUnread, readAll, reading, readSheet}
 use Rattle.sheet.specs.Formed.{Net, LeafNet, FaninCount, Before, Earlier, WellFormed}
-use Rattle.sheet.specs.NumberLaws.{by-test, within-holds, counts-holds, not-eqb, member-holds, not-member, distinct-end, distinct-permuted, same-numbers, from-once, in-from}
+use Rattle.sheet.specs.NumberLaws.{by-test, counts-holds, not-eqb, not-elem, distinct-end, distinct-permuted, same-numbers, from-once, in-from}
 
 -- what holds of the nets and gates read so far
 pub record Sound (out : ℕ) (seen : Seen) : Type 0 where
@@ -54,7 +56,7 @@ head-meets bytes =
     meets-given _ _ _ _ (λ xs d. meets-given _ _ _ _ (λ x e.
     meets-require _ _ _ _ (λ t. meets-require _ _ _ _ (λ u. meets-require _ _ _ _ (λ v.
     let c = counts-holds 1 mostGates (x .1) v in
-    on (within-holds 1 greatestNet (x .0 .magnitude) u, c .0, c .1))))))
+    on (reflects-within 1 greatestNet (x .0 .magnitude) .to u, c .0, c .1))))))
 
 -- ---- fanins
 
@@ -70,7 +72,7 @@ source-named g n =
     (within 1 greatestNet n)
     (λ t s e.
     let q : net n ≡ s = cc in
-    subst (Named g n) q (record { is-net = every-cons (within-holds 1 greatestNet n t) (every-none _); is-before = every-none _; code = refl }))
+    subst (Named g n) q (record { is-net = every-cons (reflects-within 1 greatestNet n .to t) (every-none _); is-before = every-none _; code = refl }))
     (λ f. by-test (λ b. (s : Source) → cond b (some (gate (n - gateBase))) none ≡ some s → Named g n s) (ltb gateBase n && ltb n (gateBase + g))
     (λ t s e.
     let q : gate (n - gateBase) ≡ s = cc in
@@ -88,7 +90,7 @@ source-meets out place seen (net n) h i =
     on (record {
       sound = record {
         leaf-nets = every-append _ _ (h .leaf-nets) (every-cons (r .0, r .1, not-eqb n out u) (every-none _));
-        leaf-once = distinct-end (seen .nets) n (h .leaf-once) (not-member n (seen .nets) t);
+        leaf-once = distinct-end (seen .nets) n (h .leaf-once) (not-elem n (seen .nets) t);
         leaf-count = simp length-append (omega (arith, ltb→lt (length (seen .nets)) mostLeaves v));
         gate-once = h .gate-once;
       };
@@ -101,7 +103,7 @@ source-meets out place seen (gate g) h i =
         leaf-nets = h .leaf-nets;
         leaf-once = h .leaf-once;
         leaf-count = h .leaf-count;
-        gate-once = distinct-end (seen .gates) g (h .gate-once) (not-member g (seen .gates) t);
+        gate-once = distinct-end (seen .gates) g (h .gate-once) (not-elem g (seen .gates) t);
       };
       nets = sym (append-nil _);
       gates = refl;
@@ -175,7 +177,7 @@ left-meets out (suc left) g seen text h =
 unread-meets : (gs read : List ℕ) → Meets (λ u. Every (λ g. g ∈ read) gs) (readUnread gs read)
 unread-meets [] read = on (every-none _)
 unread-meets (g ∷ gs) read =
-    meets-require _ _ _ _ (λ t. meets-map (λ u f. every-cons (member-holds g read t) f) (unread-meets gs read))
+    meets-require _ _ _ _ (λ t. meets-map (λ u f. every-cons (reflects-elem g read .to t) f) (unread-meets gs read))
 
 -- what the gates from gate g on read lies before the last of them
 earlier-below : (g : ℕ) (xs : List DrawnGate) → Earlier g xs → Every (λ j. (1 ≤ j) × (suc j < g + length xs)) (gatesRead xs)

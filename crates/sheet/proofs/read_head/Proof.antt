@@ -6,11 +6,13 @@ use mathlib.Core.Option.{some}
 use mathlib.Core.List.{[], _∷_}
 use lib.Dec.{T}
 use borrow.Author.Tests.{not-true, not-false}
+use Rattle.lists.specs.Tests.{within}
+use Rattle.lists.specs.TestLaws.{reflects-within}
 use Rattle.tree.specs.Limits.{greatestNet}
 use Rattle.sheet.specs.Limits.{mostGates}
-use Rattle.sheet.specs.Read.{within, counts, headOf}
+use Rattle.sheet.specs.Read.{counts, headOf}
 use Rattle.sheet.specs.Inside.{valuesOf, fieldsOf}
-use Rattle.sheet.specs.NumberLaws.{within-holds, counts-holds}
+use Rattle.sheet.specs.NumberLaws.{counts-holds}
 use Rattle.sheet.proofs.HeadLaws.{fieldAt, fields-none, fields-some, values-count, values-pair, head-none, head-other, head-net, head-count, head-good}
 use borrow.Author.Needs.{needs}
 use Rattle.sheet.proofs.read_head.Statement.{statement}
@@ -72,7 +74,7 @@ returns-4 c =
 cast-t21 : tie.Need-cast-t21
 cast-t21 c =
     let x = fieldAt (c .before .before .before .before .before .before .before .before .args .t1) 0 in
-    omega (arith, within-holds 1 greatestNet (x .magnitude) (T-of (net-good (c .before .before))))
+    omega (arith, reflects-within 1 greatestNet (x .magnitude) .to (T-of (net-good (c .before .before))))
 
 cast-t22 : tie.Need-cast-t22
 cast-t22 c =

@@ -4,9 +4,9 @@ use mathlib.Core.Path.{_≡_, sym, _∙_, subst}
 use mathlib.Core.Bool.{Bool}
 use lib.Dec.{T}
 use borrow.Author.Tests.{lt-ltb, le-ltb}
+use Rattle.lists.specs.Tests.{within}
+use Rattle.lists.specs.TestLaws.{reflects-within}
 use Rattle.tree.specs.Limits.{greatestNet}
-use Rattle.sheet.specs.Read.{within}
-use Rattle.sheet.specs.NumberLaws.{within-holds}
 use borrow.Author.Needs.{needs}
 use Rattle.sheet.proofs.source_of.Statement.{statement}
 use Rattle.sheet.proofs.source_of.Tie as tie
@@ -22,7 +22,7 @@ within-requires : tie.Need-within-requires
 within-requires c κs = search needs
 
 cast-t6 : tie.Need-cast-t6
-cast-t6 c = omega (arith, within-holds 1 greatestNet (c .before .before .args .code) (subst T (sym (is-net (c .before) (c .if1 .taken))) tt))
+cast-t6 c = omega (arith, reflects-within 1 greatestNet (c .before .before .args .code) .to (subst T (sym (is-net (c .before) (c .if1 .taken))) tt))
 
 returns : tie.Need-returns
 returns c = rw (is-net (c .before) (c .if1 .taken))
