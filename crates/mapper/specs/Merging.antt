@@ -3,54 +3,51 @@ use Prim.Native.Nat.{ℕ, _+_, _-_, _^_, _≤_, _<_}
 use mathlib.Core.Path.{_≡_}
 use mathlib.Core.Bool.{Bool, not}
 use mathlib.Core.List.{List, _++_, map}
-use lib.ListN.{length, take, replicate}
-use Rattle.lists.specs.Lists.{Every, Sorted}
-use Rattle.tree.specs.declared.Kind.{Kind}
-use Rattle.tree.specs.Tree.{turned, meet}
+use lib.ListN.{length, getD, take, replicate}
+use Rattle.lists.specs.Lists.{Sorted}
 use Rattle.cover.specs.Bits.{bit, index, place, truthOf}
 use Rattle.table.specs.declared.Table.{Table}
 use Rattle.table.specs.Limits.{inputRoom}
-use Rattle.mapper.specs.declared.Pending.{Pending}
 
 -- the inputs of a record, its unused ones zero
 abbrev pub padded : List ℕ → List ℕ
 padded xs = xs ++ replicate (inputRoom - length xs) 0
 
--- the places of the codes `cs` among the inputs `xs`
-abbrev pub placesOf : List ℕ → List ℕ → List ℕ
-placesOf cs xs = map (λ c. place c xs) cs
+-- the 64 rows' bits at a place
+unfoldable pub columnOf : ℕ → ℕ
+columnOf p = truthOf (λ row. bit row p) 64
 
--- the index that a row's bits at some places make
-abbrev pub indexAt : ℕ → List ℕ → ℕ
-indexAt row ps = index (map (bit row) ps)
+-- and those at the places of the codes `cs` among the inputs `xs`
+abbrev pub columnsOf : List ℕ → List ℕ → List ℕ
+columnsOf cs xs = map (λ c. columnOf (place c xs)) cs
 
--- the value of a pending table in a row, where its inputs have the bits at the first of the places `ps`
-abbrev pub valueAt : Pending → List ℕ → ℕ → Bool
-valueAt x ps row = turned (x .inverted) (bit (x .table .truth) (indexAt row (take (x .table .count) ps)))
+-- the value of a truth table in a row, where the inputs have the row's bits of the words `ms`
+abbrev pub valueAt : ℕ → List ℕ → ℕ → Bool
+valueAt truth ms row = bit truth (index (map (λ m. bit m row) ms))
 
--- the value of a gate of two fanins in a row
-abbrev pub gateAt : Kind → Pending → List ℕ → Pending → List ℕ → ℕ → Bool
-gateAt k x ps y qs row = meet k (valueAt x ps row) (valueAt y qs row)
+-- the word w has the value `f row` as its bit of each row
+pub record Rows (f : ℕ → Bool) (w : ℕ) : Type 0 where
+  pub bits : (row : ℕ) → row < 64 → bit w row ≡ f row
 
--- the bits `f` of the rows from one on, of n rows
-abbrev pub truthFrom : (ℕ → Bool) → ℕ → ℕ → ℕ
-truthFrom f row n = truthOf (λ i. f (row + i)) (n - row)
+-- there is room for 32 words, and the first of them have the values `f`
+pub record Words (f : ℕ → ℕ → Bool) (size : ℕ) (ws : List ℕ) : Type 0 where
+  pub shape : length ws ≡ 32
+  pub rows : (j : ℕ) → j < size → Rows (f j) (getD ws j 0)
 
 -- `xs` are the inputs of a record, of which the first n are in use
 pub record Room (n : ℕ) (xs : List ℕ) : Type 0 where
   pub fits : n ≤ inputRoom
   pub shape : length xs ≡ inputRoom
 
--- and they are in order, with zeros after them
-pub record Ordered (n : ℕ) (xs : List ℕ) : Type 0 where
+-- with zeros after them
+pub record Filled (n : ℕ) (xs : List ℕ) : Type 0 where
   pub fits : n ≤ inputRoom
   pub zeros : xs ≡ padded (take n xs)
-  pub sorted : Sorted (take n xs)
 
--- the first n of the places `ps` are places of a row's bits
-pub record Places (n : ℕ) (ps : List ℕ) : Type 0 where
-  pub room : Room n ps
-  pub low : Every (λ p. p ≤ inputRoom) (take n ps)
+-- and in order
+pub record Ordered (n : ℕ) (xs : List ℕ) : Type 0 where
+  pub filled : Filled n xs
+  pub sorted : Sorted (take n xs)
 
 -- a record of no more inputs than there is room for, with a bit for each of their rows
 pub record Tabled (t : Table) : Type 0 where

@@ -1,18 +1,30 @@
 // The tables of a plan's run: that of one code, that of a gate of two fanins, and that of the other value.
 ghost use mathlib.Core.Path.{_≡_};
-ghost use Prim.Native.Nat.{_+_, _^_, _<_, _≤_};
-ghost use lib.ListN.{take};
+ghost use Prim.Native.Nat.{_+_, _-_, _^_, _<_, _≤_};
+ghost use lib.ListN.{length, take, getD};
 ghost use mathlib.Core.List.{_++_};
 ghost use Rattle.lists.specs.Lists.{insert as insertOf, sorted};
-ghost use Rattle.tree.specs.Tree.{meet as meetOf};
-ghost use Rattle.cover.specs.Bits.{bit as bitOf, digit as digitOf, place as placeOf, truthOf};
+ghost use Rattle.tree.specs.Tree.{turned, meet as meetOf};
+ghost use Rattle.cover.specs.Bits.{bit as bitOf, digit as digitOf, place as placeOf};
+ghost use Rattle.table.specs.Limits.{inputRoom};
 ghost use Rattle.table.specs.Records.{recordOf};
 ghost use Rattle.mapper.specs.Run.{single as singleOf, merged};
 ghost use Rattle.mapper.specs.Pendings.{operandOf, Mergeable};
-ghost use Rattle.mapper.specs.Merging.{padded, placesOf, indexAt, valueAt, gateAt, Room, Ordered, Places, Tabled, invertedOf};
+ghost use Rattle.mapper.specs.Merging.{padded, columnOf, columnsOf, valueAt, Rows, Words, Room, Filled, Ordered, Tabled, invertedOf};
 use crate::Pending;
 use table::Table;
 use tree::Kind;
+
+// For each place of an input the rows' bits there.
+const COLUMNS: [u64; 7] = [
+    0xAAAA_AAAA_AAAA_AAAA,
+    0xCCCC_CCCC_CCCC_CCCC,
+    0xF0F0_F0F0_F0F0_F0F0,
+    0xFF00_FF00_FF00_FF00,
+    0xFFFF_0000_FFFF_0000,
+    0xFFFF_FFFF_0000_0000,
+    0,
+];
 
 // The table that has the value of one code.
 pub fn single(code: u16) -> Table
@@ -39,13 +51,13 @@ pub fn merge(kind: Kind, x: Pending, y: Pending) -> Table
     let others = b.inputs;
     let inputs = union(&codes, n, others, m);
     let count = n + m;
-    let x_places = places(&codes, n, &inputs, count);
-    let y_places = places(&others, m, &inputs, count);
+    let u = turn(x.inverted, values(a.truth, &codes, n, &inputs, count));
+    let v = turn(y.inverted, values(b.truth, &others, m, &inputs, count));
     Table {
         net: 0,
         count: count as u8,
         inputs,
-        truth: truth(kind, 1u64 << count, x, &x_places, y, &y_places),
+        truth: meet(kind, u, v) & ones(count),
     }
 }
 
@@ -54,26 +66,33 @@ pub fn inverted(mut t: Table) -> Table
     requires { ⌜ Tabled t ⌝ }
     ensures { λ r. ⌜ r ≡ invertedOf t ⌝ }
 {
-    let rows = 1u64 << t.count;
-    let ones = u64::MAX >> (64 - rows);
-    t.truth = ones - t.truth;
+    t.truth = ones(t.count as usize) - t.truth;
     t
 }
 
-// Bit i of n.
-fn bit(n: u64, i: u64) -> bool
-    requires { ⌜ i < 64 ⌝ }
-    ensures { λ r. ⌜ r ≡ bitOf n i ⌝ }
+// A one for each row of n inputs.
+fn ones(n: usize) -> u64
+    requires { ⌜ n ≤ inputRoom ⌝ }
+    ensures { λ r. ⌜ r ≡ 2 ^ 2 ^ n - 1 ⌝ }
 {
-    (n >> i) % 2 == 1
+    u64::MAX >> (64 - (1u64 << n))
 }
 
-// The number whose lowest bit is b and whose bits above it are those of n.
-fn digit(b: bool, n: u64) -> u64
-    requires { ⌜ n < 2 ^ 63 ⌝ }
-    ensures { λ r. ⌜ r ≡ digitOf b n ⌝ }
+// The values in the rows, turned over where the flag says so.
+fn turn(inverted: bool, w: u64) -> u64
+    ensures { λ r. ⌜ Rows (λ row. turned inverted (bitOf w row)) r ⌝ }
 {
-    if b { 1 + 2 * n } else { 2 * n }
+    if inverted { u64::MAX - w } else { w }
+}
+
+// The values of a gate of two fanins in the rows.
+fn meet(kind: Kind, a: u64, b: u64) -> u64
+    ensures { λ r. ⌜ Rows (λ row. meetOf kind (bitOf a row) (bitOf b row)) r ⌝ }
+{
+    match kind {
+        Kind::And => a & b,
+        Kind::Or => a | b,
+    }
 }
 
 // The place of a code among the first inputs, from 0; their count where it is none of them.
@@ -91,75 +110,77 @@ fn place(code: u16, inputs: &[u16; 6], count: usize) -> usize
     i
 }
 
-// The places of the first n codes among the first inputs.
-fn places<'a>(codes: &'a [u16; 6], n: usize, inputs: &'a [u16; 6], count: usize) -> [u64; 6]
+// The rows' bits at a place. No row has a bit at 6.
+fn column(place: usize) -> u64
+    requires { ⌜ place ≤ inputRoom ⌝ }
+    ensures { λ r. ⌜ r ≡ columnOf place ⌝ }
+{
+    COLUMNS[place]
+}
+
+// The columns of the first n codes among the first inputs.
+fn columns<'a>(codes: &'a [u16; 6], n: usize, inputs: &'a [u16; 6], count: usize) -> [u64; 6]
     requires { ⌜ Room n (now codes) × Room count (now inputs) ⌝ }
-    ensures { λ r. ⌜ Room n r × (take n r ≡ placesOf (take n (now (codes .entry))) (take count (now (inputs .entry)))) ⌝ }
+    ensures { λ r. ⌜ r ≡ padded (columnsOf (take n (now (codes .entry))) (take count (now (inputs .entry)))) ⌝ }
 {
     let mut out = [0u64; 6];
     let mut i = 0;
     while i < n {
-        out[i] = place(codes[i], inputs, count) as u64;
+        out[i] = column(place(codes[i], inputs, count));
         i += 1;
     }
     out
 }
 
-// The index that a row's bits at the first n places make, that at the first place the lowest.
-fn index(row: u64, places: &[u64; 6], n: usize) -> u64
-    requires { ⌜ Places n (now places) ⌝ }
-    ensures { λ r. ⌜ (r ≡ indexAt row (take n (now (places .entry)))) × (r < 64) ⌝ }
+// The bits of a truth table made words, two bits a word: the second in the rows where the column has a one, else the first.
+fn pairs(words: &mut [u64; 32], size: usize, truth: u64, column: u64)
+    requires { ⌜ (size ≤ 32) × (length (now words) ≡ 32) ⌝ }
+    ensures { λ r. ⌜ Words (λ j row. bitOf truth (digitOf (bitOf column row) j)) size (now (words .exit)) ⌝ }
 {
-    let mut ix = 0;
-    let mut i = n;
-    while i > 0 {
-        i -= 1;
-        ix = digit(bit(row, places[i]), ix);
-    }
-    ix
-}
-
-// The value of a pending table in a row, where its inputs have the row's bits at the places.
-fn value(x: Pending, places: &[u64; 6], row: u64) -> bool
-    requires { ⌜ Places (x .table .count) (now places) ⌝ }
-    ensures { λ r. ⌜ r ≡ valueAt x (now (places .entry)) row ⌝ }
-{
-    let t = x.table;
-    let b = bit(t.truth, index(row, places, t.count as usize));
-    if x.inverted { !b } else { b }
-}
-
-// The value of a gate of two fanins.
-fn meet(kind: Kind, a: bool, b: bool) -> bool
-    ensures { λ r. ⌜ r ≡ meetOf kind a b ⌝ }
-{
-    match kind {
-        Kind::And => if a { b } else { false },
-        Kind::Or => if a { true } else { b },
+    let cases = [0, u64::MAX - column, column, u64::MAX];
+    let mut j = 0;
+    while j < size {
+        let two = (truth >> (2 * j)) % 4;
+        words[j] = cases[two as usize];
+        j += 1;
     }
 }
 
-// The truth table of a gate of two fanins, whose inputs have the rows' bits at the places.
-fn truth<'a>(
-    kind: Kind,
-    rows: u64,
-    x: Pending,
-    xs: &'a [u64; 6],
-    y: Pending,
-    ys: &'a [u64; 6],
-) -> u64
-    requires { ⌜ (rows ≤ 64) × Places (x .table .count) (now xs) × Places (y .table .count) (now ys) ⌝ }
-    ensures { λ r. ⌜ r ≡ truthOf (gateAt kind x (now (xs .entry)) y (now (ys .entry))) rows ⌝ }
+// Two words made one: the second in the rows where the column has a one, else the first.
+fn fold(words: &mut [u64; 32], size: usize, column: u64)
+    requires { ⌜ (size ≤ 16) × (length (now words) ≡ 32) ⌝ }
+    ensures { λ r. ⌜ Words (λ j row. bitOf (getD (now (words .entry)) (digitOf (bitOf column row) j) 0) row) size (now (words .exit)) ⌝ }
 {
-    let mut t = 0;
-    let mut row = rows;
-    while row > 0 {
-        row -= 1;
-        let a = value(x, xs, row);
-        let b = value(y, ys, row);
-        t = digit(meet(kind, a, b), t);
+    let mut j = 0;
+    while j < size {
+        let w = words[2 * j];
+        words[j] = w ^ ((w ^ words[1 + 2 * j]) & column);
+        j += 1;
     }
-    t
+}
+
+// The values of a table in the rows, by the columns of its first n inputs.
+fn spread(truth: u64, columns: &[u64; 6], n: usize) -> u64
+    requires { ⌜ Filled n (now columns) ⌝ }
+    ensures { λ r. ⌜ Rows (valueAt truth (take n (now (columns .entry)))) r ⌝ }
+{
+    let mut words = [0u64; 32];
+    pairs(&mut words, ((1usize << n) + 1) / 2, truth, columns[0]);
+    let mut i = 1;
+    while i < n {
+        fold(&mut words, 1usize << (n - i - 1), columns[i]);
+        i += 1;
+    }
+    words[0]
+}
+
+// The values of a table in the rows of the first inputs, among which its first n codes are.
+fn values<'a>(truth: u64, codes: &'a [u16; 6], n: usize, inputs: &'a [u16; 6], count: usize) -> u64
+    requires { ⌜ Room n (now codes) × Room count (now inputs) ⌝ }
+    ensures { λ r. ⌜ Rows (valueAt truth (columnsOf (take n (now (codes .entry))) (take count (now (inputs .entry))))) r ⌝ }
+{
+    let cs = columns(codes, n, inputs, count);
+    spread(truth, &cs, n)
 }
 
 // A code put among the first inputs, which are in order.

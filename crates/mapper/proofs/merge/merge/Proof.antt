@@ -1,10 +1,9 @@
 -- `mapper::merge::merge` meets its contract: the laws of the whole are in MergeLaws. Assumes nothing.
 use mathlib.Core.Path.{_≡_}
 use lib.ListN.{length}
-use Rattle.table.specs.Limits.{inputRoom}
-use Rattle.table.specs.Records.{reads}
 use native.Mathlib.Omega.{arith}
-use Rattle.mapper.specs.MergeLaws.{ordered-right, ordered-shape, rows-low, places-are, inputs-room, merged-is}
+use Rattle.table.specs.Limits.{inputRoom}
+use Rattle.mapper.specs.MergeLaws.{ordered-right, ordered-shape, inputs-room, merged-is}
 use borrow.Author.Needs.{needs}
 use Rattle.mapper.proofs.merge.merge.Statement.{statement}
 use Rattle.mapper.proofs.merge.merge.Tie as tie
@@ -12,6 +11,10 @@ use Rattle.mapper.proofs.merge.merge.Tie as tie
 -- the left operand has room for six inputs
 shape : (c : tie.Start) → length (c .args .x .table .inputs) ≡ inputRoom
 shape c = search needs
+
+-- where the function starts
+abbrev start : tie.After-union → tie.Start
+start c = c .before .before .before .before .before .before .before .before
 
 cast-n : tie.Need-cast-n
 cast-n c = search needs
@@ -27,37 +30,38 @@ union-requires c κs =
 add-count : tie.Need-add-count
 add-count c = search needs
 
-places-requires : tie.Need-places-requires
-places-requires c κs = search needs
+values-requires : tie.Need-values-requires
+values-requires c κs = search needs
 
-places-requires-2 : tie.Need-places-requires-2
-places-requires-2 c κs =
-    let m = c .before .before .before .before .before .before .before .before .before .before .before .before .before .pre in
-    (record { fits = m .kept .fits; shape = ordered-shape (ordered-right m) }, search needs)
+turn-requires : tie.Need-turn-requires
+turn-requires c κs = search needs
+
+values-requires-2 : tie.Need-values-requires-2
+values-requires-2 c κs =
+    let u = c .before .before .before .before .before .before in
+    let s = start u in
+    (record { fits = s .pre .kept .fits; shape = ordered-shape (ordered-right (s .pre)) }, inputs-room (s .args .x) (s .args .y) (s .pre) (shape s) _ (u .union .ensures))
+
+turn-requires-2 : tie.Need-turn-requires-2
+turn-requires-2 c κs = search needs
 
 cast-t22 : tie.Need-cast-t22
 cast-t22 c = search needs
 
-shl-truth : tie.Need-shl-truth
-shl-truth c = search needs
+meet-requires : tie.Need-meet-requires
+meet-requires c κs = search needs
 
-truth-requires : tie.Need-truth-requires
-truth-requires c κs =
-    let s = c .before .before .before .before .before .before .before .before .before .before .before .before .before .before .before .before in
-    let x = s .args .x in
-    let y = s .args .y in
-    let u = c .before .before .before .before .before .before .before .before .union .ensures in
-    let r = inputs-room x y (s .pre) (shape s) _ u in
-    let p = c .before .before .before .before .before .places .ensures in
-    let q = c .before .before .places2 .ensures in
-    (rows-low _ (s .pre .fits), places-are (reads (x .table)) (p .0) r (p .1), places-are (reads (y .table)) (q .0) r (q .1))
+ones-requires : tie.Need-ones-requires
+ones-requires c κs = search needs
 
 returns : tie.Need-returns
 returns c =
-    let s = c .before .before .before .before .before .before .before .before .before .before .before .before .before .before .before .before .before in
-    let x = s .args .x in
-    let y = s .args .y in
-    merged-is x y (s .pre) (shape s) _ (c .before .before .before .before .before .before .before .before .before .union .ensures) (s .args .kind) _ _ (c .before .before .before .before .before .before .places .ensures .1) (c .before .before .before .places2 .ensures .1) (c .truth .ensures)
+    let v = c .before .before .before in
+    let w = v .before .before .before .before in
+    let u = w .before .before .before in
+    let s = start u in
+    rw (c .ones .ensures)
+    (merged-is (s .args .x) (s .args .y) (s .pre) (shape s) _ (u .union .ensures) (s .args .kind) (w .values .ensures) (v .values2 .ensures) (v .before .before .before .turn .ensures) (c .before .before .turn2 .ensures) (c .before .meet .ensures))
 
 pub merge-spec : {M : Type 1} → statement M
 merge-spec =
@@ -67,9 +71,11 @@ merge-spec =
     cast-m
     union-requires
     add-count
-    places-requires
-    places-requires-2
+    values-requires
+    turn-requires
+    values-requires-2
+    turn-requires-2
     cast-t22
-    shl-truth
-    truth-requires
+    meet-requires
+    ones-requires
     returns)
