@@ -10,12 +10,12 @@ ghost use Rattle.table.specs.Limits.{inputRoom};
 ghost use Rattle.table.specs.Records.{recordOf};
 ghost use Rattle.mapper.specs.Run.{single as singleOf, merged};
 ghost use Rattle.mapper.specs.Pendings.{operandOf, Mergeable};
-ghost use Rattle.mapper.specs.Merging.{padded, columnOf, columnsOf, valueAt, Rows, Words, Room, Filled, Ordered, Tabled, invertedOf};
+ghost use Rattle.mapper.specs.Merging.{padded, columnsOf, valueAt, Rows, Words, Room, Filled, Ordered, Tabled, invertedOf};
 use crate::Pending;
 use table::Table;
 use tree::Kind;
 
-// For each place of an input the rows' bits there.
+// For each place of an input the rows' bits there. No row has a bit at 6.
 const COLUMNS: [u64; 7] = [
     0xAAAA_AAAA_AAAA_AAAA,
     0xCCCC_CCCC_CCCC_CCCC,
@@ -110,23 +110,17 @@ fn place(code: u16, inputs: &[u16; 6], count: usize) -> usize
     i
 }
 
-// The rows' bits at a place. No row has a bit at 6.
-fn column(place: usize) -> u64
-    requires { ⌜ place ≤ inputRoom ⌝ }
-    ensures { λ r. ⌜ r ≡ columnOf place ⌝ }
-{
-    COLUMNS[place]
-}
-
 // The columns of the first n codes among the first inputs.
 fn columns<'a>(codes: &'a [u16; 6], n: usize, inputs: &'a [u16; 6], count: usize) -> [u64; 6]
     requires { ⌜ Room n (now codes) × Room count (now inputs) ⌝ }
     ensures { λ r. ⌜ r ≡ padded (columnsOf (take n (now (codes .entry))) (take count (now (inputs .entry)))) ⌝ }
 {
+    let table = COLUMNS;
     let mut out = [0u64; 6];
     let mut i = 0;
     while i < n {
-        out[i] = column(place(codes[i], inputs, count));
+        let p = place(codes[i], inputs, count);
+        out[i] = table[p];
         i += 1;
     }
     out

@@ -4,16 +4,17 @@ use native.Mathlib.Omega.{arith}
 use mathlib.Core.Path.{_≡_, ap, _∙_}
 use lib.ListN.{take}
 use denote.Ref.{now}
+use Rattle.table.specs.Limits.{inputRoom}
 use Rattle.mapper.specs.Merging.{padded, columnOf, columnsOf}
-use Rattle.mapper.specs.MergeLaws.{place-low, columns-none, columns-next}
+use Rattle.mapper.specs.MergeLaws.{place-low, column-is, columns-none, columns-next}
 use Rattle.mapper.proofs.merge.columns.Statement.{statement}
 use Rattle.mapper.proofs.merge.columns.Tie as tie
 
 abbrev Inv-loop : tie.InvT-loop
-Inv-loop codes n inputs count out₀ i₀ out i = (i ≤ n) × (out ≡ padded (columnsOf (take i codes) (take count inputs)))
+Inv-loop codes n inputs count table out₀ i₀ out i = (i ≤ n) × (out ≡ padded (columnsOf (take i codes) (take count inputs)))
 
 abbrev μ-loop : tie.MeasureT-loop
-μ-loop codes n inputs count out₀ i₀ out i = n - i
+μ-loop codes n inputs count table out₀ i₀ out i = n - i
 
 loop-holds : tie.Need-loop-holds Inv-loop μ-loop
 loop-holds c = (omega arith, columns-none (take (c .args .count) (now (c .args .inputs))))
@@ -27,14 +28,21 @@ element-copy-out-place c = omega arith
 place-requires : tie.Need-place-requires Inv-loop μ-loop
 place-requires c κs = c .before .before .before .pre .1
 
-column-requires : tie.Need-column-requires Inv-loop μ-loop
-column-requires c κs =
+-- a place is an index of the table
+place-fits : (c : tie.After-place Inv-loop μ-loop) → c .place .result ≤ inputRoom
+place-fits c =
     let s = c .before .before .before .before in
     let a = s .args in
     rw (c .place .ensures) (place-low _ (a .count) (now (a .inputs)) (s .pre .1 .fits))
 
 mul-out : tie.Need-mul-out Inv-loop μ-loop
-mul-out c = omega arith
+mul-out c = omega (arith, place-fits c)
+
+array-read-out : tie.Need-array-read-out Inv-loop μ-loop
+array-read-out c = omega (arith, place-fits c)
+
+mul-out-2 : tie.Need-mul-out-2 Inv-loop μ-loop
+mul-out-2 c = omega arith
 
 array-write-out : tie.Need-array-write-out Inv-loop μ-loop
 array-write-out c = omega arith
@@ -47,9 +55,9 @@ loop-less c = omega arith
 
 loop-again : tie.Need-loop-again Inv-loop μ-loop
 loop-again c =
-    let l = c .before .before .before .before in
+    let l = c .before .before .before in
     let a = l .before .args in
-    (omega arith, columns-next (now (a .codes)) (take (a .count) (now (a .inputs))) (l .loop .out) (l .loop .i) (c .column .result) (omega arith) (omega arith) (l .loop .inv .1) (c .column .ensures ∙ ap columnOf (c .before .place .ensures)))
+    (omega arith, columns-next (now (a .codes)) (take (a .count) (now (a .inputs))) (l .loop .out) (l .loop .i) _ (omega arith) (omega arith) (l .loop .inv .1) (column-is (c .place .result) (place-fits c) ∙ ap columnOf (c .place .ensures)))
 
 returns : tie.Need-returns Inv-loop μ-loop
 returns c =
@@ -68,8 +76,9 @@ columns-spec =
     mul-place
     element-copy-out-place
     place-requires
-    column-requires
     mul-out
+    array-read-out
+    mul-out-2
     array-write-out
     add-i
     loop-less
