@@ -1,22 +1,25 @@
 -- What the code's add reads and answers, in the words of Adds. Definitions only: the laws are in AddingLaws.
-use Prim.Native.Nat.{ℕ, _+_, _≤_}
-use mathlib.Core.Path.{_≡_}
+use Prim.Native.Nat.{ℕ, _+_}
+use mathlib.Core.Bool.{_||_}
 use mathlib.Core.List.{List}
-use lib.ListN.{length}
+use lib.Dec.{eqb}
 use lib.Seq.{paste}
+use Rattle.lists.specs.Tests.{elem}
 use Rattle.sheet.specs.declared.Sheet.{Sheet as CodeSheet}
 use Rattle.sheet.specs.Sheet.{Outcome, sheet as read, refused as unread}
 use Rattle.sheet.specs.Read.{readSheet}
 use Rattle.sheet.specs.Answers.{numberOf, drawnSheet}
 use Rattle.sheet.specs.Trees.{drawn}
 use Rattle.cover.specs.Added.{Sheet}
-use Rattle.table.specs.Limits.{tableRoom}
+use Rattle.table.specs.declared.Table.{Table}
+use Rattle.table.specs.Records.{reads}
 use Rattle.mapper.specs.declared.map.Mapping.{Mapping}
 use Rattle.part.specs.Sheets.{Reading, sheet, refused as turnedDown}
 use Rattle.part.specs.Adds.{Answer, accepted, refused, Result}
 use Rattle.part.specs.declared.Part.{Part}
 use Rattle.part.specs.declared.Added.{Added}
 use Rattle.part.specs.declared.Adding.{Adding}
+use Rattle.part.specs.declared.add.Uses.{Uses}
 use Rattle.part.specs.declared.Adding.the-variants.{Accepted, Unsound, Misread, OutputDriven, OutputRead, Full}
 
 -- 01's number and place for each answer
@@ -45,13 +48,13 @@ readOf text = readingOf (readSheet text)
 abbrev pub sheetOf : CodeSheet → Sheet
 sheetOf s = drawn (drawnSheet s)
 
--- ---- storing
+-- ---- tables and a net
 
--- a mapping that the part has room for
-pub record Storable (p : Part) (m : Mapping) : Type 0 where
-  pub room : p .used + m .count ≤ tableRoom
-  pub few : m .count ≤ 256
-  pub records : length (m .tables) ≡ 256
+-- what tables do with the net n, with one table more
+abbrev pub withTable : Uses → Table → ℕ → Uses
+withTable u t n = record { driven = u .driven || eqb (t .net) n; read = u .read || elem n (reads t) }
+
+-- ---- storing
 
 -- the part with the mapping's records after those in use
 abbrev pub stored : Part → Mapping → Part

@@ -2,44 +2,44 @@
 use Prim.Native.Nat.{ℕ, suc, _+_, _-_, _≤_, _<_}
 use native.Mathlib.Omega.{arith}
 use mathlib.Core.Path.{_≡_, refl, sym, ap, ap₂, _∙_, subst}
-use mathlib.Core.Bool.{Bool, true, false, _||_}
+use mathlib.Core.Bool.{Bool, true, false, _||_, or-assoc, or-false}
 use mathlib.Core.List.{List, [], _∷_, _++_, map}
 use borrow.Author.Tests.{le-leb, lt-leb}
 use lib.Dec.{eqb}
 use lib.ListN.{length, getD, take, drop, length-map}
 use lib.Seq.{length-take-le, getD-take}
 use Rattle.lists.specs.Tests.{any, elem}
+use Rattle.lists.specs.TestLaws.{reflects-true}
 use Rattle.cover.specs.Tables.{Table as LookupTable}
 use Rattle.cover.specs.Added.{Sheet, AddedLeast}
 use Rattle.sheet.specs.Sheet.{DrawnSheet, Outcome, sheet as read, refused as unread}
 use Rattle.sheet.specs.declared.Sheet.{Sheet as CodeSheet}
-use Rattle.sheet.specs.declared.Refusal.{Refusal}
 use Rattle.sheet.specs.declared.Answer.{Answer as CodeAnswer}
-use Rattle.sheet.specs.declared.Answer.the-variants.{Accepted as Read, Refused as Misread}
 use Rattle.sheet.specs.declared.Reading.{Reading as CodeReading}
 use Rattle.sheet.specs.Read.{readSheet}
-use Rattle.sheet.specs.Answers.{numberOf, drawnSheet, answered}
+use Rattle.sheet.specs.Answers.{drawnSheet, answered}
 use Rattle.sheet.specs.Promise.{SheetRead}
-use Rattle.sheet.specs.Formed.{WellFormed}
-use Rattle.sheet.specs.ReadLaws.{read-formed}
 use Rattle.sheet.specs.Trees.{drawn}
 use Rattle.sheet.specs.TreeLaws.{Drawn, read-drawn}
 use Rattle.table.specs.declared.Table.{Table}
 use Rattle.table.specs.Limits.{tableBase}
 use Rattle.table.specs.Records.{reads, tableOf, recordOf}
+use Rattle.table.specs.LoopLaws.{take-next, take-none}
 use Rattle.mapper.specs.declared.map.Mapping.{Mapping}
 use Rattle.mapper.specs.CodeRun.{noTable}
 use Rattle.mapper.specs.CodeMap.{tablesIn, SheetMapped}
 use Rattle.part.specs.Parts.{inUse, tablesOf, Shaped}
 use Rattle.part.specs.Sound.{Sound}
 use Rattle.part.specs.SoundTest.{sound}
+use Rattle.part.specs.SoundLaws.{sound-reflects}
 use Rattle.part.specs.Sheets.{sheet, Readable, Reads}
 use Rattle.part.specs.Adds.{Answer, accepted, refused, extended, isDriven, isRead, Offer, Add}
 use Rattle.part.specs.ExtendLaws.{used-count}
-use Rattle.part.specs.Adding.{addingAnswer, readingOf, readOf, sheetOf, stored}
+use Rattle.part.specs.Adding.{addingAnswer, readingOf, readOf, sheetOf, withTable, stored}
 use Rattle.part.specs.declared.Part.{Part}
 use Rattle.part.specs.declared.Adding.{Adding}
 use Rattle.part.specs.declared.Added.{Added}
+use Rattle.part.specs.declared.add.Uses.{Uses}
 
 -- ---- the reading
 
@@ -64,11 +64,29 @@ any-map : {A B : Type 0} (f : B → Bool) (g : A → B) (xs : List A) → any f 
 any-map f g [] = refl
 any-map f g (x ∷ xs) = ap (λ b. f (g x) || b) (any-map f g xs)
 
-pub driven-records : (n : ℕ) (p : Part) → isDriven n (tablesOf p) ≡ any (λ r. eqb (r .net) n) (inUse p)
-driven-records n p = any-map (λ t. eqb (t .drives) n) tableOf (inUse p)
+-- the records before i were looked at: the net is used as they say, or by a record from i on
+pub record Looked (p : Part) (n i : ℕ) (u : Uses) : Type 0 where
+  pub driven : isDriven n (tablesOf p) ≡ (u .driven || any (λ r. eqb (r .net) n) (drop i (inUse p)))
+  pub read : isRead n (tablesOf p) ≡ (u .read || any (λ r. elem n (reads r)) (drop i (inUse p)))
 
-pub read-records : (n : ℕ) (p : Part) → isRead n (tablesOf p) ≡ any (λ r. elem n (reads r)) (inUse p)
-read-records n p = any-map (λ t. elem n (t .inputs)) tableOf (inUse p)
+pub looked-none : (p : Part) (n : ℕ) → Looked p n 0 (record { driven = false; read = false })
+looked-none p n = record {
+  driven = any-map (λ t. eqb (t .drives) n) tableOf (inUse p);
+  read = any-map (λ t. elem n (t .inputs)) tableOf (inUse p);
+}
+
+module _ {p : Part} {n i : ℕ} {u : Uses} (h : Looked p n i u) (room : p .used ≤ length (p .tables)) where
+  pub looked-more : (z : Table) → i < p .used → Looked p n (i + 1) (withTable u (getD (p .tables) i z) n)
+  looked-more z l = record { driven = h .driven ∙ one (u .driven) (λ r. eqb (r .net) n); read = h .read ∙ one (u .read) (λ r. elem n (reads r)) }
+    where
+      one : (b : Bool) (f : Table → Bool) → (b || any f (drop i (inUse p))) ≡ (b || f (getD (p .tables) i z) || any f (drop (i + 1) (inUse p)))
+      one b f = ap (λ rs. b || any f rs) (take-next (p .tables) (p .used) i z room l) ∙ sym (or-assoc b (f (getD (p .tables) i z)) (any f (drop (i + 1) (inUse p))))
+
+  pub looked-all : p .used ≤ i → (isDriven n (tablesOf p) ≡ u .driven) × (isRead n (tablesOf p) ≡ u .read)
+  looked-all l = (h .driven ∙ none (u .driven) (λ r. eqb (r .net) n), h .read ∙ none (u .read) (λ r. elem n (reads r)))
+    where
+      none : (b : Bool) (f : Table → Bool) → (b || any f (drop i (inUse p))) ≡ b
+      none b f = ap (λ rs. b || any f rs) (take-none (p .tables) (p .used) i room l) ∙ or-false b
 
 -- ---- 21 and 22
 
@@ -125,31 +143,31 @@ module _ (p : Part) (shape : Shaped p) (h : Sound p) (s : CodeSheet) (m : Mappin
               (record { new = new; least = new-least; part = stored-extended; answer = refl }),
         ))
 
+-- ---- a result as the part and the answer that it holds
+
+module _ (r : Added) (q : Part) (a : Adding) (e : r ≡ record { part = q; answer = a }) where
+  pub offer-same : (p : Part) (s : Sheet) → Offer p s q (addingAnswer a) → Offer p s (r .part) (addingAnswer (r .answer))
+  offer-same p s = subst (λ x. Offer p s (x .part) (addingAnswer (x .answer))) (sym e)
+
+  pub add-same : (p : Part) (text : List ℕ) → Add readOf p text q (addingAnswer a) → Add readOf p text (r .part) (addingAnswer (r .answer))
+  add-same p text = subst (λ x. Add readOf p text (x .part) (addingAnswer (x .answer))) (sym e)
+
 -- ---- 20, the sheet's refusals, and a sheet that was read
 
 module _ (p : Part) (text : List ℕ) where
-  -- a result as the part and the answer that it holds
-  pub add-same : (r : Added) (q : Part) (a : Adding) → r ≡ record { part = q; answer = a } → Add readOf p text q (addingAnswer a) →
-      Add readOf p text (r .part) (addingAnswer (r .answer))
-  add-same r q a e = subst (λ x. Add readOf p text (x .part) (addingAnswer (x .answer))) (sym e)
-
   pub add-unsound : sound p ≡ false → Add readOf p text p (refused 20 0)
   unfolding Add
   add-unsound e = rw e (refl, refl)
 
-module _ (text : List ℕ) (r : CodeReading) (h : SheetRead text r) where
-  reading-is : {a : CodeAnswer} → r .answer ≡ a → readOf text ≡ readingOf (answered a (drawnSheet (r .sheet)))
-  unfolding readOf
-  reading-is i = ap readingOf (sym (h .same)) ∙ ap (λ a. readingOf (answered a (drawnSheet (r .sheet)))) i
+  module _ (h : Sound p) where
+    pub add-misread : (number line : ℕ) → readSheet text ≡ unread number line → Add readOf p text p (refused number line)
+    unfolding Add readOf
+    add-misread number line e = rw (reflects-true (sound-reflects p) h) (rw e (refl, refl))
 
-  pub read-well : r .answer ≡ Read → WellFormed (drawnSheet (r .sheet))
-  read-well i = read-formed text (drawnSheet (r .sheet)) (sym (h .same) ∙ ap (λ a. answered a (drawnSheet (r .sheet))) i)
+    pub add-offered : (s : DrawnSheet) → readSheet text ≡ read s → (q : Part) (a : Answer) → Offer p (drawn s) q a → Add readOf p text q a
+    unfolding Add readOf
+    add-offered s e q a o = rw (reflects-true (sound-reflects p) h) (rw e o)
 
-  module _ (p : Part) (e : sound p ≡ true) where
-    pub add-misread : (why : Refusal) (line : ℕ) → r .answer ≡ Misread why line → Add readOf p text p (refused (numberOf why) line)
-    unfolding Add
-    add-misread why line i = rw e (rw (reading-is i) (refl, refl))
-
-    pub add-offered : r .answer ≡ Read → (q : Part) (a : Answer) → Offer p (sheetOf (r .sheet)) q a → Add readOf p text q a
-    unfolding Add
-    add-offered i q a o = rw e (rw (reading-is i) o)
+-- what the code read
+pub reading-is : (text : List ℕ) (r : CodeReading) → SheetRead text r → {a : CodeAnswer} → r .answer ≡ a → readSheet text ≡ answered a (drawnSheet (r .sheet))
+reading-is text r h i = sym (h .same) ∙ ap (λ a. answered a (drawnSheet (r .sheet))) i
