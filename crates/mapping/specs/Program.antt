@@ -1,6 +1,6 @@
 -- What the mapping program prints for an input: 01, "List". Which least covers are taken is free, so it is a relation.
 -- Definitions only: the laws are in ProgramLaws.
-use Prim.Native.Nat.{ℕ, suc, _≤_, _<_}
+use Prim.Native.Nat.{ℕ, suc, _<_}
 use mathlib.Core.Path.{_≡_}
 use mathlib.Core.Bool.{true, cond}
 use mathlib.Core.Option.{Option, none, some}
@@ -21,7 +21,6 @@ use Rattle.mapping.specs.declared.Printed.{Printed}
 use Rattle.mapping.specs.declared.Printed.the-variants.{Wrote, NoRoom}
 use Rattle.mapping.specs.declared.Told.{Told}
 use Rattle.mapping.specs.declared.Start.{Start}
-use Rattle.mapping.specs.declared.Step.{Step}
 use Rattle.mapping.specs.declared.End.{End}
 
 -- ---- the opening line: two fields and a line feed
@@ -103,14 +102,6 @@ told t = cond (eqb (t .number) 0) accepted (refused (t .number) (t .line))
 
 abbrev pub startResult : Start → Result
 startResult s = record { part = s .part; answer = told (s .told) }
-
--- one sheet of the input from the place on, with the place after it where it is accepted
-pub record Stepped (input : List ℕ) (p : Part) (at : ℕ) (r : Step) : Type 0 where
-  pub add : Add readOf p (sheetText (drop at input) .0) (r .part) (told (r .told))
-  pub rest : told (r .told) ≡ accepted → sheetText (drop at input) .1 ≡ drop (r .end) input
-  pub sound : Sound (r .part)
-  pub grown : told (r .told) ≡ accepted → p .used < r .part .used
-  pub within : told (r .told) ≡ accepted → (at < r .end) × (r .end ≤ length input)
 
 -- what is printed at the end
 abbrev pub endLine : End → List ℕ

@@ -1,5 +1,5 @@
 -- Laws of what is printed: an answer and its number, one sheet of an input, and sheets one after the other.
-use Prim.Native.Nat.{ℕ, suc, _+_, _-_, _≤_, _<_}
+use Prim.Native.Nat.{ℕ, suc, _+_, _≤_, _<_}
 use native.Mathlib.Numerals.{add-one}
 use native.Mathlib.Omega.{arith}
 use mathlib.Core.Path.{_≡_, refl, sym, ap, _∙_, subst}
@@ -7,18 +7,18 @@ use mathlib.Core.Bool.{cond}
 use mathlib.Core.Option.{Option, none, some}
 use mathlib.Core.List.{List, [], _∷_}
 use borrow.Author.Tests.{eq-eqb, ne-eqb}
-use lib.ListN.{length, take, drop, length-append, length-drop}
-use lib.Seq.{take-append-seam}
-use Rattle.lists.specs.TestLaws.{reflects-true}
+use lib.ListN.{length, drop, length-drop}
 use Rattle.decimal.specs.Number.{Number}
 use Rattle.cover.specs.Cover.{Cover, Rooted, rooted, tables, Least}
 use Rattle.sheet.specs.declared.Refusal.{Refusal}
 use Rattle.sheet.specs.declared.Refusal.the-variants.{Layout, OutputNet, GateCount, GateKind, FaninCount, NoSource, GateTwice, NetTwice, OutputLeaf, LeafCount, GateUnread}
-use Rattle.sheet.specs.Sheet.{DrawnSheet}
+use Rattle.sheet.specs.Sheet.{DrawnSheet, sheet as drew}
 use Rattle.sheet.specs.Step.{Step, good, bad, _>>=_}
 use Rattle.sheet.specs.Read.{readAll, reading, readSheet}
 use Rattle.sheet.specs.Cut.{sheetText, readNext}
-use Rattle.sheet.specs.CutLaws.{leaving, next-is, text-whole, text-less}
+use Rattle.sheet.specs.CutLaws.{leaving, next-is, text-less}
+use Rattle.sheet.specs.Formed.{WellFormed}
+use Rattle.sheet.specs.ReadLaws.{read-formed}
 use Rattle.sheet.specs.Answers.{numberOf, drawnSheet}
 use Rattle.sheet.specs.Promise.{answerStep, NextRead}
 use Rattle.sheet.specs.declared.Answer.{Answer as CodeAnswer}
@@ -26,20 +26,17 @@ use Rattle.sheet.specs.declared.Answer.the-variants.{Accepted as Read, Refused 
 use Rattle.sheet.specs.declared.Next.{Next}
 use Rattle.part.specs.Parts.{Shaped}
 use Rattle.part.specs.Sound.{Sound}
-use Rattle.part.specs.SoundTest.{sound}
-use Rattle.part.specs.SoundLaws.{sound-reflects}
-use Rattle.part.specs.Sheets.{refused as unread}
-use Rattle.part.specs.Adds.{Answer, accepted, refused, Result, Add}
-use Rattle.part.specs.AddLaws.{Outcome, unsound, misread, driven, read, full, taken, outcome, add-sound, opened-sound}
+use Rattle.part.specs.Adds.{Answer, accepted, refused, Result, Offer, Add}
+use Rattle.part.specs.AddLaws.{Outcome, unsound, misread, driven, read, full, taken, outcome, kept, opened-sound}
 use Rattle.part.specs.CountLaws.{not-refused}
-use Rattle.part.specs.Adding.{readingOf, readOf}
+use Rattle.part.specs.Adding.{readOf, sheetOf}
+use Rattle.part.specs.AddingLaws.{add-misread, add-offered}
 use Rattle.part.specs.Listing.{listOf}
 use Rattle.part.specs.declared.Part.{Part}
-use Rattle.mapping.specs.Program.{openingNumbers, count, openedBy, refusalLine, Mapped, ended, stopped, added, After, Prints, told, startResult, Stepped, endLine, Ended}
+use Rattle.mapping.specs.Program.{openingNumbers, count, openedBy, refusalLine, Mapped, ended, stopped, added, After, Prints, told, startResult, endLine, Ended}
 use Rattle.mapping.specs.declared.Told.{Told}
 use Rattle.mapping.specs.declared.Start.{Start}
 use Rattle.mapping.specs.declared.End.{End}
-use Rattle.mapping.specs.declared.Step.{Step as CodeStep}
 
 -- ---- an answer and its number
 
@@ -87,78 +84,83 @@ grown p text q a h e = of (outcome readOf p text q a h)
 
 -- ---- the sheet at a place
 
-rest-of : {A : Type 0} (rest d : List ℕ) (a : A) (m : Step A) → leaving rest m ≡ good (a, d) → rest ≡ d
+good-of : {A : Type 0} (rest d : List ℕ) (a : A) (m : Step A) → leaving rest m ≡ good (a, d) → (m ≡ good a) × (rest ≡ d)
 unfolding _>>=_
-rest-of {A} rest d a (good b) e = let h : _≡_ {A = A × List ℕ} (b, rest) (a, d) = cc in ap (λ (p : A × List ℕ). p .1) h
-rest-of rest d a (bad number place) e = let z : _≡_ {A = ℕ} 0 1 = cc in absurd (omega arith)
+good-of {A} rest d a (good b) e =
+    let h : _≡_ {A = A × List ℕ} (b, rest) (a, d) = cc in
+    (ap (λ (p : A × List ℕ). good (p .0)) h, ap (λ (p : A × List ℕ). p .1) h)
+good-of rest d a (bad number place) e = let z : _≡_ {A = ℕ} 0 1 = cc in absurd (omega arith)
 
 bad-of : {A : Type 0} (rest : List ℕ) (number place : ℕ) (m : Step A) → leaving rest m ≡ bad number place → m ≡ bad number place
 unfolding _>>=_
 bad-of rest number place (good b) e = let z : _≡_ {A = ℕ} 0 1 = cc in absurd (omega arith)
 bad-of rest number place (bad n l) e = cc
 
--- a sheet that was read off the front: its text, and the text after it
-pub record Front (input : List ℕ) (at end : ℕ) : Type 0 where
-  pub after : at < end
-  pub text : sheetText (drop at input) .0 ≡ take (end - at) (drop at input)
-  pub rest : sheetText (drop at input) .1 ≡ drop end input
+-- the sheet that was read off the front is the one that its text is, and the rest is the text after it
+record Front (input : List ℕ) (at end : ℕ) (s : DrawnSheet) : Type 0 where
+  read : readSheet (sheetText (drop at input) .0) ≡ drew s
+  rest : sheetText (drop at input) .1 ≡ drop end input
+  after : at < end
 
-pub front : (input : List ℕ) (at end : ℕ) (s : DrawnSheet) → at < length input → end ≤ length input → readNext (drop at input) ≡ good (s, drop end input) →
-    Front input at end
+front : (input : List ℕ) (at end : ℕ) (s : DrawnSheet) → at < length input → end ≤ length input → readNext (drop at input) ≡ good (s, drop end input) →
+    Front input at end s
 front input at end s h w e =
     let t = drop at input in
-    let r : sheetText t .1 ≡ drop end input = rest-of _ _ s _ (sym (next-is t) ∙ e) in
-    let lt : length t ≡ length input - at = length-drop at input in
-    let lr : length (sheetText t .1) ≡ length input - end = ap length r ∙ length-drop end input in
-    let l : length (sheetText t .1) < length t = text-less t (omega arith) in
-    let ls : length (sheetText t .0) + length (sheetText t .1) ≡ length t = sym (length-append (sheetText t .0) (sheetText t .1)) ∙ ap length (text-whole t) in
-    let n : length (sheetText t .0) ≡ end - at = omega arith in
+    let (r, d) = good-of _ _ s _ (sym (next-is t) ∙ e) in
     record {
-      after = omega arith;
-      text = sym (take-append-seam (sheetText t .0) (sheetText t .1)) ∙ ap (take (length (sheetText t .0))) (text-whole t) ∙ ap (λ m. take m t) n;
-      rest = r;
+      read = ap reading r;
+      rest = d;
+      after = omega (arith, text-less t (omega (arith, length-drop at input)), length-drop at input, ap length d, length-drop end input);
     }
 
-pub front-refused : (p : Part) → Sound p → (text : List ℕ) (number place : ℕ) → readNext text ≡ bad number place →
-    Add readOf p (sheetText text .0) p (refused number place)
-unfolding Add readOf
-front-refused p s text number place e =
-    let m : readAll (sheetText text .0) ≡ bad number place = bad-of _ number place _ (sym (next-is text) ∙ e) in
-    let r : readingOf (readSheet (sheetText text .0)) ≡ unread number place = ap (λ m. readingOf (reading m)) m in
-    rw (reflects-true (sound-reflects p) s) (rw r (refl, refl))
+-- one sheet of an input: the part and the answer after it, and the place after it where it is accepted
+pub record Stepped (input : List ℕ) (p : Part) (at : ℕ) (q : Part) (t : Told) (end : ℕ) : Type 0 where
+  pub add : Add readOf p (sheetText (drop at input) .0) q (told t)
+  pub rest : told t ≡ accepted → sheetText (drop at input) .1 ≡ drop end input
+  pub shaped : Shaped q
+  pub sound : Sound q
+  pub grown : told t ≡ accepted → p .used < q .used
+  pub within : told t ≡ accepted → (at < end) × (end ≤ length input)
 
--- one sheet of an input: refused as it is read, or added
+-- refused as it is read, or offered to the part
 module _ (input : List ℕ) (p : Part) (at : ℕ) (sound : Sound p) (shape : Shaped p) (inside : at < length input) (r : Next)
     (h : NextRead input (readNext (drop at input)) r) where
   next-is-step : {a : CodeAnswer} → r .answer ≡ a → readNext (drop at input) ≡ answerStep a (drawnSheet (r .sheet), drop (r .end) input)
   next-is-step i = h .same ∙ ap (λ (a : CodeAnswer). answerStep a (drawnSheet (r .sheet), drop (r .end) input)) i
 
-  pub read-front : r .answer ≡ Read → Front input at (r .end)
+  read-front : r .answer ≡ Read → Front input at (r .end) (drawnSheet (r .sheet))
   read-front i = front input at (r .end) (drawnSheet (r .sheet)) inside (h .within) (next-is-step i)
 
+  pub next-formed : r .answer ≡ Read → WellFormed (drawnSheet (r .sheet))
+  next-formed i = read-formed (sheetText (drop at input) .0) (drawnSheet (r .sheet)) (read-front i .read)
+
   pub stepped-refused : (why : Refusal) (line n : ℕ) → r .answer ≡ Misread why line → n ≡ numberOf why →
-      Stepped input p at (record { part = p; told = record { number = n; line = line }; end = r .end })
+      Stepped input p at p (record { number = n; line = line }) (r .end)
   stepped-refused why line n i e =
       let t = told-misread n line why e in
+      let text = sheetText (drop at input) .0 in
+      let m : readAll text ≡ bad (numberOf why) line = bad-of _ (numberOf why) line _ (sym (next-is (drop at input)) ∙ next-is-step i) in
       record {
-        add = subst (Add readOf p (sheetText (drop at input) .0) p) (sym t) (front-refused p sound (drop at input) (numberOf why) line (next-is-step i));
+        add = subst (Add readOf p text p) (sym t) (add-misread p text sound (numberOf why) line (ap reading m));
         rest = λ z. absurd (not-refused t z);
+        shaped = shape;
         sound = sound;
         grown = λ z. absurd (not-refused t z);
         within = λ z. absurd (not-refused t z);
       }
 
-  pub stepped-added : r .answer ≡ Read → (q : Part) (a : Answer) (t : Told) → Add readOf p (take (r .end - at) (drop at input)) q a → told t ≡ a →
-      Stepped input p at (record { part = q; told = t; end = r .end })
-  stepped-added i q a t d e =
+  pub stepped-offered : r .answer ≡ Read → (q : Part) (a : Answer) (t : Told) → Offer p (sheetOf (r .sheet)) q a → told t ≡ a → Stepped input p at q t (r .end)
+  stepped-offered i q a t o e =
       let f = read-front i in
-      let g : Add readOf p (sheetText (drop at input) .0) q (told t) =
-      subst (λ text. Add readOf p text q (told t)) (sym (f .text)) (subst (Add readOf p (take (r .end - at) (drop at input)) q) (sym e) d) in
+      let text = sheetText (drop at input) .0 in
+      let g : Add readOf p text q (told t) = subst (Add readOf p text q) (sym e) (add-offered p text sound (drawnSheet (r .sheet)) (f .read) q a o) in
+      let k = kept readOf p shape (outcome readOf p text q (told t) g) in
       record {
         add = g;
         rest = λ z. f .rest;
-        sound = add-sound readOf p shape (sheetText (drop at input) .0) q (told t) g sound;
-        grown = grown p (sheetText (drop at input) .0) q (told t) g;
+        shaped = k .shaped;
+        sound = k .sound sound;
+        grown = grown p text q (told t) g;
         within = λ z. (f .after, h .within);
       }
 
@@ -166,12 +168,13 @@ module _ (input : List ℕ) (p : Part) (at : ℕ) (sound : Sound p) (shape : Sha
 
 -- `sheet` sheets were accepted up to the place: what comes of the rest is what comes of all
 pub record SoFar (input : List ℕ) (opened : Part) (start : ℕ) (part : Part) (at sheet : ℕ) : Type 0 where
+  pub shaped : Shaped part
   pub sound : Sound part
   pub few : sheet ≤ part .used
   pub whole : (out : List ℕ) → Mapped part sheet (drop at input) out → Mapped opened 0 (drop start input) out
 
-pub so-far-start : (input : List ℕ) (opened : Part) (start : ℕ) → Sound opened → SoFar input opened start opened start 0
-so-far-start input opened start s = record { sound = s; few = omega arith; whole = λ out m. m }
+pub so-far-start : (input : List ℕ) (opened : Part) (start : ℕ) → Shaped opened → Sound opened → SoFar input opened start opened start 0
+so-far-start input opened start shape s = record { shaped = shape; sound = s; few = omega arith; whole = λ out m. m }
 
 module _ {input : List ℕ} {opened part : Part} {start at sheet : ℕ} (h : SoFar input opened start part at sheet) where
   pub few-sheets : sheet ≤ 800
@@ -184,35 +187,36 @@ module _ {input : List ℕ} {opened part : Part} {start at sheet : ℕ} (h : SoF
       nothing [] e = refl
       nothing (x ∷ xs) e = absurd (omega arith)
 
-  module _ (r : CodeStep) (l : at < length input) (s : Stepped input part at r) where
+  module _ (q : Part) (t : Told) (end : ℕ) (l : at < length input) (s : Stepped input part at q t end) where
     left : 0 < length (drop at input)
     left = omega (arith, length-drop at input)
 
-    pub so-far-more : r .told .number ≡ 0 → SoFar input opened start (r .part) (r .end) (sheet + 1)
+    pub so-far-more : t .number ≡ 0 → SoFar input opened start q end (sheet + 1)
     so-far-more z =
-        let e = told-accepted (r .told) z in
+        let e = told-accepted t z in
         record {
+          shaped = s .shaped;
           sound = s .sound;
           few = omega (arith, h .few, s .grown e);
           whole = λ out m. h .whole out
-              (added (r .part) left (subst (Add readOf part (sheetText (drop at input) .0) (r .part)) e (s .add))
-              (subst (λ t. Mapped (r .part) (suc sheet) t out) (sym (s .rest e)) (subst (λ n. Mapped (r .part) n (drop (r .end) input) out) (add-one sheet) m)));
+              (added q left (subst (Add readOf part (sheetText (drop at input) .0) q) e (s .add))
+              (subst (λ x. Mapped q (suc sheet) x out) (sym (s .rest e)) (subst (λ n. Mapped q n (drop end input) out) (add-one sheet) m)));
         }
 
-    so-far-stop : (r .told .number ≡ 0 → ⊥) → Mapped opened 0 (drop start input) (refusalLine (r .told .number) (sheet + 1) (r .told .line))
+    so-far-stop : (t .number ≡ 0 → ⊥) → Mapped opened 0 (drop start input) (refusalLine (t .number) (sheet + 1) (t .line))
     so-far-stop d =
-        subst (λ n. Mapped opened 0 (drop start input) (refusalLine (r .told .number) n (r .told .line))) (sym (add-one sheet))
-        (h .whole _ (stopped (r .part) (r .told .number) (r .told .line) left (subst (Add readOf part (sheetText (drop at input) .0) (r .part)) (told-refused (r .told) d) (s .add))))
+        subst (λ n. Mapped opened 0 (drop start input) (refusalLine (t .number) n (t .line))) (sym (add-one sheet))
+        (h .whole _ (stopped q (t .number) (t .line) left (subst (Add readOf part (sheetText (drop at input) .0) q) (told-refused t d) (s .add))))
 
     -- the loop's ends
-    pub ended-stop : (r .told .number ≡ 0 → ⊥) → Ended opened (drop start input) (record { part = r .part; told = r .told; sheet = sheet + 1 })
+    pub ended-stop : (t .number ≡ 0 → ⊥) → Ended opened (drop start input) (record { part = q; told = t; sheet = sheet + 1 })
     ended-stop d = record {
-      mapped = subst (Mapped opened 0 (drop start input)) (sym (ap (λ b. cond b (listOf (r .part)) (refusalLine (r .told .number) (sheet + 1) (r .told .line))) (ne-eqb (r .told .number) 0 d))) (so-far-stop d);
+      mapped = subst (Mapped opened 0 (drop start input)) (sym (ap (λ b. cond b (listOf q) (refusalLine (t .number) (sheet + 1) (t .line))) (ne-eqb (t .number) 0 d))) (so-far-stop d);
       sound = s .sound;
     }
 
-    pub on-the-way : r .told .number ≡ 0 → (at < r .end) × (r .end ≤ length input)
-    on-the-way z = s .within (told-accepted (r .told) z)
+    pub on-the-way : t .number ≡ 0 → (at < end) × (end ≤ length input)
+    on-the-way z = s .within (told-accepted t z)
 
   pub ended-all : length input ≤ at → Ended opened (drop start input) (record { part = part; told = record { number = 0; line = 0 }; sheet = sheet })
   ended-all l = record { mapped = so-far-all l; sound = h .sound }

@@ -1,14 +1,14 @@
 // What the mapping program prints for an input: the list of the part that its sheets make, or the line of the first refusal.
 ghost use mathlib.Core.Path.{_≡_};
 ghost use Prim.Native.Nat.{_<_};
-ghost use lib.ListN.{length, drop};
+ghost use lib.ListN.{drop};
 ghost use Rattle.part.specs.Adds.{opened};
 ghost use Rattle.part.specs.Adding.{addingAnswer};
 ghost use Rattle.part.specs.Openings.{openingAnswer};
 ghost use Rattle.part.specs.Sound.{Sound};
 ghost use Rattle.part.specs.Listing.{listOf};
 ghost use mathlib.Core.Option.{none};
-ghost use Rattle.mapping.specs.Program.{count as countOf, openingNumbers, openedBy, refusalLine, told as toldAnswer, startResult, WrittenAs, Answered, Stepped, Ended};
+ghost use Rattle.mapping.specs.Program.{count as countOf, openingNumbers, openedBy, refusalLine, told as toldAnswer, startResult, WrittenAs, Answered, Ended};
 use decimal::Field;
 use part::Adding;
 use part::Opening;
@@ -39,13 +39,6 @@ struct Told {
 struct Start {
     part: Part,
     told: Told,
-}
-
-// The part after one sheet, and the place after the sheet.
-struct Step {
-    part: Part,
-    told: Told,
-    end: usize,
 }
 
 // The part after the sheets, and the number of the last one.
@@ -148,33 +141,6 @@ fn read_opening(input: &[u8]) -> Start
     open(most, tables)
 }
 
-// Adds the sheet at the place.
-fn add_sheet(part: Part, input: &[u8], at: usize) -> Step
-    requires { ⌜ Sound part × (at < length (now input)) ⌝ }
-    ensures { λ r. ⌜ Stepped (now (input .entry)) part at r ⌝ }
-{
-    let next = sheet::read_next(input, at);
-    let answer = next.answer;
-    let end = next.end;
-    match answer {
-        Answer::Refused(why, line) => Step {
-            part,
-            told: Told {
-                number: sheet::number(why),
-                line,
-            },
-            end,
-        },
-        Answer::Accepted => {
-            let added = part.add(&input[at..end]);
-            let part = added.part;
-            let answer = added.answer;
-            let told = tell_adding(answer);
-            Step { part, told, end }
-        }
-    }
-}
-
 // Adds the sheets from the place to the input's end, up to the first that is refused. An accepted one takes a table or more, so the
 // capacity bounds their number.
 fn add_sheets(opened: Part, input: &[u8], start: usize) -> End
@@ -185,14 +151,25 @@ fn add_sheets(opened: Part, input: &[u8], start: usize) -> End
     let mut at = start;
     let mut sheet: u16 = 0;
     while at < input.len() {
-        let step = add_sheet(part, input, at);
         sheet += 1;
-        part = step.part;
-        let told = step.told;
+        let next = sheet::read_next(input, at);
+        let answer = next.answer;
+        if let Answer::Refused(why, line) = answer {
+            let told = Told {
+                number: sheet::number(why),
+                line,
+            };
+            return End { part, told, sheet };
+        }
+        let drawn = next.sheet;
+        let added = part.offer(drawn);
+        part = added.part;
+        let answer = added.answer;
+        let told = tell_adding(answer);
         if told.number != 0 {
             return End { part, told, sheet };
         }
-        at = step.end;
+        at = next.end;
     }
     End {
         part,

@@ -1,7 +1,11 @@
 use Prim.Native.Nat.{_-_}
 use native.Mathlib.Omega.{arith}
+use borrow.Author.Needs.{needs}
 use lib.ListN.{length}
-use Rattle.mapping.specs.ProgramLaws.{SoFar, so-far-start, so-far-more, few-sheets, on-the-way, ended-stop, ended-all}
+use Rattle.sheet.specs.Answers.{drawnSheet}
+use Rattle.sheet.specs.Formed.{WellFormed}
+use Rattle.part.proofs.Shape.{shaped}
+use Rattle.mapping.specs.ProgramLaws.{number-some, SoFar, so-far-start, so-far-more, few-sheets, on-the-way, ended-stop, ended-all, Stepped, next-formed, stepped-refused, stepped-offered}
 use Rattle.mapping.proofs.add_sheets.Statement.{statement}
 use Rattle.mapping.proofs.add_sheets.Tie as tie
 
@@ -11,35 +15,89 @@ Inv-loop input start part₀ at₀ sheet₀ part at sheet = SoFar input part₀ 
 abbrev μ-loop : tie.MeasureT-loop
 μ-loop input start part₀ at₀ sheet₀ part at sheet = length input - at
 
-loop-holds : tie.Need-loop-holds Inv-loop μ-loop
-loop-holds c = so-far-start _ _ _ (c .before .pre)
+-- ---- the next sheet: what it asks of an offer, and what comes of it
 
-add-sheet-requires : tie.Need-add-sheet-requires Inv-loop μ-loop
-add-sheet-requires c κs = (c .before .loop .inv .sound, omega arith)
+sheet-offered : (c : tie.After-enum-told Inv-loop μ-loop) → WellFormed (drawnSheet (c .before .before .read-next .result .sheet))
+sheet-offered c =
+    let n = c .before .before in
+    let l = n .before .before in
+    next-formed (l .before .before .args .input .now) (l .loop .part) (l .loop .at) (l .loop .inv .sound) (l .loop .inv .shaped) (omega arith) (n .read-next .result) (n .read-next .ensures) (c .enum-told .given .1)
+
+sheet-stepped : (c : tie.After-tell-adding Inv-loop μ-loop) → let o = c .before .before in let n = o .before .before .before .before in let l = n .before .before in
+    Stepped (l .before .before .args .input .now) (l .loop .part) (l .loop .at) (o .offer .result .part) (c .tell-adding .result) (n .read-next .result .end)
+sheet-stepped c =
+    let o = c .before .before in
+    let t = o .before .before in
+    let n = t .before .before in
+    let l = n .before .before in
+    stepped-offered (l .before .before .args .input .now) (l .loop .part) (l .loop .at) (l .loop .inv .sound) (l .loop .inv .shaped) (omega arith) (n .read-next .result) (n .read-next .ensures) (t .enum-told .given .1)
+    (o .offer .result .part) _ (c .tell-adding .result) (o .offer .ensures) (c .tell-adding .ensures)
+
+-- ---- the needs
+
+loop-holds : tie.Need-loop-holds Inv-loop μ-loop
+loop-holds c =
+    let a = c .before .args in
+    let t = c .before .good .0 .1 .1 .1 .1 .1 .0 in
+    so-far-start (a .input .now) (a .opened) (a .start) (shaped (a .opened) (t .0) (t .1 .0 .1) (t .1 .1)) (c .before .pre)
 
 add-sheet : tie.Need-add-sheet Inv-loop μ-loop
-add-sheet c = record { fits = omega (arith, few-sheets (c .before .before .loop .inv)) }
+add-sheet c = record { fits = omega (arith, few-sheets (c .before .loop .inv)) }
+
+read-next-requires : tie.Need-read-next-requires Inv-loop μ-loop
+read-next-requires c κs = search needs
+
+enum-known-answer : tie.Need-enum-known-answer Inv-loop μ-loop
+enum-known-answer c = search needs
+
+number-requires : tie.Need-number-requires Inv-loop μ-loop
+number-requires c κs = search needs
 
 returns : tie.Need-returns Inv-loop μ-loop
 returns c =
-    let a = c .before .before .before .before in
-    let l = a .before .before .loop in
-    ended-stop (l .inv) (a .add-sheet .result) (omega arith) (a .add-sheet .ensures) (c .if1 .taken)
+    let d = c .before .before in
+    let g = d .answer .given in
+    let n = d .before .before in
+    let l = n .before .before in
+    ended-stop (l .loop .inv) (l .loop .part) (record { number = c .number .result; line = g .0 .1 .0 }) (n .read-next .result .end) (omega arith)
+    (stepped-refused (l .before .before .args .input .now) (l .loop .part) (l .loop .at) (l .loop .inv .sound) (l .loop .inv .shaped) (omega arith) (n .read-next .result) (n .read-next .ensures) (g .0 .0) (g .0 .1 .0) (c .number .result) (g .1) (c .number .ensures))
+    (λ z. omega (arith, number-some (g .0 .0), c .number .ensures, z))
+
+enum-told : tie.Need-enum-told Inv-loop μ-loop
+enum-told c = search needs
+
+offer-requires : tie.Need-offer-requires Inv-loop μ-loop
+offer-requires c κs = (c .before .before .before .before .before .loop .inv .sound, sheet-offered (c .before))
+
+tell-adding-requires : tie.Need-tell-adding-requires Inv-loop μ-loop
+tell-adding-requires c κs = search needs
+
+returns-2 : tie.Need-returns-2 Inv-loop μ-loop
+returns-2 c =
+    let a = c .before .before in
+    let o = a .before .before in
+    let n = o .before .before .before .before in
+    let l = n .before .before in
+    ended-stop (l .loop .inv) (o .offer .result .part) (a .tell-adding .result) (n .read-next .result .end) (omega arith) (sheet-stepped a) (c .if1 .taken)
 
 loop-less : tie.Need-loop-less Inv-loop μ-loop
 loop-less c =
-    let a = c .before .before .before .before in
-    let l = a .before .before .loop in
-    omega (arith, on-the-way (l .inv) (a .add-sheet .result) (omega arith) (a .add-sheet .ensures) (c .if1 .left))
+    let a = c .before .before in
+    let o = a .before .before in
+    let n = o .before .before .before .before in
+    let l = n .before .before in
+    omega (arith, on-the-way (l .loop .inv) (o .offer .result .part) (a .tell-adding .result) (n .read-next .result .end) (omega arith) (sheet-stepped a) (c .if1 .left))
 
 loop-again : tie.Need-loop-again Inv-loop μ-loop
 loop-again c =
-    let a = c .before .before .before .before in
-    let l = a .before .before .loop in
-    so-far-more (l .inv) (a .add-sheet .result) (omega arith) (a .add-sheet .ensures) (c .if1 .left)
+    let a = c .before .before in
+    let o = a .before .before in
+    let n = o .before .before .before .before in
+    let l = n .before .before in
+    so-far-more (l .loop .inv) (o .offer .result .part) (a .tell-adding .result) (n .read-next .result .end) (omega arith) (sheet-stepped a) (c .if1 .left)
 
-returns-2 : tie.Need-returns-2 Inv-loop μ-loop
-returns-2 c = ended-all (c .before .loop .inv) (omega arith)
+returns-3 : tie.Need-returns-3 Inv-loop μ-loop
+returns-3 c = ended-all (c .before .loop .inv) (omega arith)
 
 pub add-sheets-spec : {M : Type 1} → statement M
 add-sheets-spec =
@@ -48,9 +106,15 @@ add-sheets-spec =
     Inv-loop
     μ-loop
     loop-holds
-    add-sheet-requires
     add-sheet
+    read-next-requires
+    enum-known-answer
+    number-requires
     returns
+    enum-told
+    offer-requires
+    tell-adding-requires
+    returns-2
     loop-less
     loop-again
-    returns-2)
+    returns-3)
