@@ -1,13 +1,14 @@
 -- The reading keeps the law of Sheets; the tests of an output net over the records in use; and the mapping's records as a sheet's tables.
-use Prim.Native.Nat.{ℕ, suc, _+_, _-_, _≤_, _<_}
+use Prim.Native.Nat.{ℕ, zero, suc, _+_, _-_, _≤_, _<_}
 use native.Mathlib.Omega.{arith}
 use mathlib.Core.Path.{_≡_, refl, sym, ap, ap₂, _∙_, subst}
 use mathlib.Core.Bool.{Bool, true, false, _||_, or-assoc, or-false}
 use mathlib.Core.List.{List, [], _∷_, _++_, map}
-use borrow.Author.Tests.{le-leb, lt-leb}
+use borrow.Author.Tests.{le-leb, lt-leb, ne-eqb}
 use lib.Dec.{eqb}
 use lib.ListN.{length, getD, take, drop, length-map}
 use lib.Seq.{length-take-le, getD-take}
+use Rattle.lists.specs.ListLaws.{every-head, every-tail, every-at}
 use Rattle.lists.specs.Tests.{any, elem}
 use Rattle.lists.specs.TestLaws.{reflects-true}
 use Rattle.cover.specs.Tables.{Table as LookupTable}
@@ -24,6 +25,7 @@ use Rattle.sheet.specs.TreeLaws.{Drawn, read-drawn}
 use Rattle.table.specs.declared.Table.{Table}
 use Rattle.table.specs.Limits.{tableBase}
 use Rattle.table.specs.Records.{reads, tableOf, recordOf}
+use Rattle.table.specs.Rules.{AllZero, Padded}
 use Rattle.table.specs.LoopLaws.{take-next, take-none}
 use Rattle.mapper.specs.declared.map.Mapping.{Mapping}
 use Rattle.mapper.specs.CodeRun.{noTable}
@@ -63,6 +65,21 @@ reads-right text s = go (readSheet text) (λ d e. drawn-readable d (read-drawn t
 any-map : {A B : Type 0} (f : B → Bool) (g : A → B) (xs : List A) → any f (map g xs) ≡ any (λ x. f (g x)) xs
 any-map f g [] = refl
 any-map f g (x ∷ xs) = ap (λ b. f (g x) || b) (any-map f g xs)
+
+-- of a record whose unused inputs are zero, those in use are looked for among all
+elem-zeros : (n : ℕ) → 0 < n → (xs : List ℕ) → AllZero xs → elem n xs ≡ false
+elem-zeros n l [] h = refl
+elem-zeros n l (x ∷ xs) h = ap₂ (λ a b. a || b) (ne-eqb n x (λ e. omega (arith, every-head h))) (elem-zeros n l xs (every-tail h))
+
+pub elem-padded : (n : ℕ) → 0 < n → (k : ℕ) (xs : List ℕ) → AllZero (drop k xs) → elem n xs ≡ elem n (take k xs)
+elem-padded n l zero xs h = elem-zeros n l xs h
+elem-padded n l (suc k) [] h = refl
+elem-padded n l (suc k) (x ∷ xs) h = ap (λ b. eqb n x || b) (elem-padded n l k xs h)
+
+pub used-padded : (p : Part) → Sound p → p .used ≤ length (p .tables) → (i : ℕ) (z : Table) → i < p .used → Padded (getD (p .tables) i z)
+used-padded p s room i z l =
+    subst Padded (getD-take (p .used) (p .tables) i z l)
+    (every-at {P = Padded} (inUse p) i z (s .rules .padded) (omega (arith, length-take-le (p .used) (p .tables) room)))
 
 -- the records before i were looked at: the net is used as they say, or by a record from i on
 pub record Looked (p : Part) (n i : ℕ) (u : Uses) : Type 0 where

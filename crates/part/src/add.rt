@@ -2,6 +2,8 @@
 ghost use mathlib.Core.Path.{_≡_};
 ghost use Rattle.sheet.specs.Answers.{drawnSheet};
 ghost use Rattle.sheet.specs.Formed.{WellFormed};
+ghost use Prim.Native.Nat.{_<_};
+ghost use Rattle.table.specs.Rules.{Padded};
 ghost use Rattle.part.specs.Sound.{Sound};
 ghost use Rattle.part.specs.Adds.{Offer, Add};
 ghost use Rattle.part.specs.Adding.{readOf, sheetOf, addingAnswer, withTable};
@@ -12,7 +14,6 @@ use mapper::map::map;
 use sheet::Answer;
 use sheet::Sheet;
 use table::Table;
-use table::in_use;
 use table::inputs::reads_net;
 
 // What tables do with a net: one drives it, one reads it.
@@ -21,13 +22,14 @@ struct Uses {
     read: bool,
 }
 
-// The same with one table more.
+// The same with one table more. Its unused inputs are zero, so all six are looked at.
 fn with_table(uses: Uses, t: Table, net: u16) -> Uses
+    requires { ⌜ Padded t × (0 < net) ⌝ }
     ensures { λ r. ⌜ r ≡ withTable uses t net ⌝ }
 {
     let inputs = t.inputs;
     let driven = uses.driven | (t.net == net);
-    let read = uses.read | reads_net(inputs, in_use(t.count), net);
+    let read = uses.read | reads_net(inputs, 6, net);
     Uses { driven, read }
 }
 

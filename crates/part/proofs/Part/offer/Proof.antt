@@ -13,7 +13,7 @@ use Rattle.mapper.specs.declared.map.Mapping.{Mapping}
 use Rattle.part.specs.Parts.{tablesOf, Shaped}
 use Rattle.part.specs.Adds.{accepted, isDriven, isRead, Offer}
 use Rattle.part.specs.Adding.{sheetOf}
-use Rattle.part.specs.AddingLaws.{Looked, looked-none, looked-more, looked-all, offer-driven, offer-read, offer-full, offer-stored, offer-same}
+use Rattle.part.specs.AddingLaws.{used-padded, Looked, looked-none, looked-more, looked-all, offer-driven, offer-read, offer-full, offer-stored, offer-same}
 use Rattle.part.specs.declared.Part.{Part}
 use Rattle.part.specs.declared.Adding.the-variants.{OutputDriven, OutputRead, Full}
 use Rattle.part.proofs.Shape.{shaped, past}
@@ -73,7 +73,10 @@ element-copy-out-t : tie.Need-element-copy-out-t Inv-loop μ-loop Inv-loop2 μ-l
 element-copy-out-t c = omega arith
 
 with-table-requires : tie.Need-with-table-requires Inv-loop μ-loop Inv-loop2 μ-loop2
-with-table-requires c κs = search needs
+with-table-requires c κs =
+    let l = c .before .before .loop in
+    let s = c .before .before .before in
+    (used-padded (s .args .t1) (s .pre .0) (omega arith) (l .i) _ (omega arith), s .pre .1 .out-net .0)
 
 add-i : tie.Need-add-i Inv-loop μ-loop Inv-loop2 μ-loop2
 add-i c = omega arith
