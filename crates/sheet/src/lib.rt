@@ -426,7 +426,7 @@ struct Lines {
     seen: [bool; CODES],
 }
 
-// No fanins and no gates: all zero.
+// No fanins, no gate and no gates: all zero.
 fn no_fanins() -> [Edge; MOST_FANINS]
     ensures { λ r. ⌜ r ≡ noFanins ⌝ }
 {
@@ -437,15 +437,21 @@ fn no_fanins() -> [Edge; MOST_FANINS]
     [none; MOST_FANINS]
 }
 
-fn no_gates() -> [Gate; MOST_GATES]
-    ensures { λ r. ⌜ r ≡ noGates ⌝ }
+fn no_gate() -> Gate
+    ensures { λ r. ⌜ r ≡ record { kind = Kind.And; count = 0; fanins = noFanins } ⌝ }
 {
     let fanins = no_fanins();
-    let none = Gate {
+    Gate {
         kind: Kind::And,
         count: 0,
         fanins,
-    };
+    }
+}
+
+fn no_gates() -> [Gate; MOST_GATES]
+    ensures { λ r. ⌜ r ≡ noGates ⌝ }
+{
+    let none = no_gate();
     [none; MOST_GATES]
 }
 
@@ -471,7 +477,8 @@ fn gate_lines(text: &[u8], start: usize, out: u16, count: u8) -> Lines
     requires { ⌜ start ≤ length (now text) ⌝ }
     ensures { λ r. ⌜ GatesRead (now (text .entry)) start out count r ⌝ }
 {
-    let mut gates = no_gates();
+    let none = no_gate();
+    let mut gates = [none; MOST_GATES];
     let mut seen = [false; CODES];
     let mut leaves: u16 = 0;
     let mut answer = Answer::Accepted;

@@ -4,12 +4,12 @@ use Prim.Native.Nat.{_+_, _-_, _<_}
 use native.Mathlib.Omega.{arith}
 use borrow.Author.Needs.{needs}
 use mathlib.Core.Path.{_≡_, refl, sym, ap, _∙_, subst}
-use lib.ListN.{length, getD, drop}
+use lib.ListN.{length, getD, drop, replicate}
 use Rattle.sheet.specs.declared.GateLine.{GateLine}
 use Rattle.sheet.specs.declared.Lines.{Lines}
 use Rattle.sheet.specs.Limits.{mostGates}
 use Rattle.sheet.specs.Read.{nothing, readLeft}
-use Rattle.sheet.specs.Answers.{drawnGates, noGates}
+use Rattle.sheet.specs.Answers.{drawnGates}
 use Rattle.sheet.specs.Inside.{codes, Comes, GatesHeld}
 use Rattle.sheet.proofs.HeadLaws.{zeroValue}
 use Rattle.sheet.proofs.FaninLaws.{code-below}
@@ -33,10 +33,6 @@ abbrev μ-lines : tie.MeasureT-lines
 μ-lines text start out count gates₀ seen₀ leaves₀ answer₀ end₀ g₀ g-end gates seen leaves answer end g =
     count - g
 
-no-gates-length : length noGates ≡ mostGates
-unfolding noGates
-no-gates-length = refl
-
 -- the places of the two loops, and the gate's line
 abbrev lines-of : tie.At-loop Inv-loop μ-loop Inv-lines μ-lines → tie.At-lines Inv-loop μ-loop Inv-lines μ-lines
 lines-of c = c .before .before .before .before .before .before
@@ -55,13 +51,13 @@ code-known c =
     code-below (l .lines .g + 1) _ (omega (arith, l .before .before .before .fits)) (c .before .source .given .0 .0)
     (f .read-fanin .ensures .source (c .before .source .given .0 .0) (c .before .source .given .1))
 
-no-gates-requires : tie.Need-no-gates-requires Inv-loop μ-loop Inv-lines μ-lines
-no-gates-requires c κs = search needs
+no-gate-requires : tie.Need-no-gate-requires Inv-loop μ-loop Inv-lines μ-lines
+no-gate-requires c κs = search needs
 
 lines-holds : tie.Need-lines-holds Inv-loop μ-loop Inv-lines μ-lines
 lines-holds c =
     let s = c .before .before in
-    at-start (s .args .text .now) (s .args .start) (s .args .out) (s .args .count) (c .no-gates .result) (ap length (c .no-gates .ensures) ∙ no-gates-length) (s .pre)
+    at-start (s .args .text .now) (s .args .start) (s .args .out) (s .args .count) (replicate mostGates (c .no-gate .result)) refl (s .pre)
 
 cast-gate : tie.Need-cast-gate Inv-loop μ-loop Inv-lines μ-lines
 cast-gate c = search needs
@@ -207,7 +203,7 @@ gate-lines-spec =
     μ-loop
     Inv-lines
     μ-lines
-    no-gates-requires
+    no-gate-requires
     lines-holds
     cast-gate
     add-gate
