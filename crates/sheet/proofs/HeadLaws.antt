@@ -20,7 +20,7 @@ use Rattle.sheet.specs.Inside.{valueOf, valuesOf, fieldsOf, Room}
 -- ---- the fields as a list
 
 abbrev pub zeroValue : FieldValue
-zeroValue = record { negative = false; magnitude = 0 }
+zeroValue = record { sign = 0; magnitude = 0 }
 
 -- the number in field i
 abbrev pub fieldAt : Fields → ℕ → Number

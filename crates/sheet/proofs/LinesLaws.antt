@@ -278,7 +278,7 @@ module _ (text : List ℕ) (start out count : ℕ) where
         ∙ ap (bad (numberOf why)) (sym (add-one (g + 1))))
 
     pub fanin-taken : i < l .count → g + 1 ≤ mostGates → (r : Fanin) → FaninRead flags leaves out (g + 1) (number .magnitude) r → (s : Source) → r ≡ Reads s →
-        (f : Edge) → f ≡ record { inverted = number .negative; source = s } → (n : ℕ) → n ≡ leaves + length (netOf s) →
+        (f : Edge) → f ≡ record { inverted = valueOf number .negative; source = s } → (n : ℕ) → n ≡ leaves + length (netOf s) →
         AtFanin gates g l (set flags (number .magnitude) true) n answer (set fs i f) (i + 1)
     fanin-taken k b r d s e f p n q = record {
       accepted = h .accepted;

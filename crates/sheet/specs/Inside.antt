@@ -4,7 +4,7 @@ use mathlib.Core.Path.{_≡_}
 use mathlib.Core.Bool.{Bool, false, not, cond, _&&_, _||_}
 use mathlib.Core.Option.{Option, none, some}
 use mathlib.Core.List.{List, [], _∷_, _++_, map}
-use lib.Dec.{ltb}
+use lib.Dec.{eqb, ltb}
 use lib.ListN.{length, getD, take, drop}
 use Rattle.lists.specs.Tests.{elem}
 use Rattle.tree.specs.declared.Kind.{Kind}
@@ -55,7 +55,7 @@ pub record LineEnds (text : List ℕ) (start : ℕ) (r : Ending) : Type 0 where
 -- ---- the fields of a line
 
 abbrev pub valueOf : FieldValue → Number
-valueOf x = record { negative = x .negative; magnitude = x .magnitude }
+valueOf x = record { negative = not (eqb (x .sign) 0); magnitude = x .magnitude }
 
 abbrev pub valuesOf : Fields → List Number
 valuesOf f = map valueOf (take (f .count) (f .numbers))

@@ -1,6 +1,7 @@
 // Reading a sheet: one fanout-free tree of gates, with an output net.
 ghost use mathlib.Core.Path.{_≡_};
-ghost use mathlib.Core.Bool.{false};
+ghost use mathlib.Core.Bool.{false, not};
+ghost use lib.Dec.{eqb};
 ghost use Prim.Native.Nat.{_+_, _≤_};
 ghost use lib.ListN.{length, drop};
 ghost use Rattle.lists.specs.Tests.{within};
@@ -131,10 +132,17 @@ fn line_end(text: &[u8], start: usize) -> Ending
     Ending::Missing
 }
 
-// The number in a field: its sign apart, since on a net or a fanin it says that the value is inverted.
+// The number in a field: its sign apart, since on a net or a fanin it says that the value is inverted. The sign is 1 for a minus sign,
+// else 0: in as many bytes as the magnitude, so that no bytes lie between the fields, which a copy would take one by one.
 struct FieldValue {
-    negative: bool,
+    sign: u32,
     magnitude: u32,
+}
+
+fn sign_of(negative: bool) -> u32
+    ensures { λ r. ⌜ not (eqb r 0) ≡ negative ⌝ }
+{
+    if negative { 1 } else { 0 }
 }
 
 // The fields of a line: whether it is laid out as a line is, and the numbers in them, those past the count zero.
@@ -149,7 +157,7 @@ fn no_fields() -> Fields
     ensures { λ r. ⌜ (r .laid ≡ false) × Room r ⌝ }
 {
     let zero = FieldValue {
-        negative: false,
+        sign: 0,
         magnitude: 0,
     };
     let numbers = [zero; MOST_FIELDS];
@@ -168,7 +176,7 @@ fn read_fields(line: &[u8]) -> Fields
         return no_fields();
     }
     let zero = FieldValue {
-        negative: false,
+        sign: 0,
         magnitude: 0,
     };
     let mut numbers = [zero; MOST_FIELDS];
@@ -185,8 +193,9 @@ fn read_fields(line: &[u8]) -> Fields
         let decimal::Field::Value(v) = decimal::read(&line[at..end]) else {
             return no_fields();
         };
+        let sign = sign_of(decimal::negative(v));
         numbers[count] = FieldValue {
-            negative: decimal::negative(v),
+            sign,
             magnitude: decimal::magnitude(v),
         };
         count += 1;
@@ -212,7 +221,7 @@ fn within(low: u32, high: u32, n: u32) -> bool
 fn counts(low: u32, high: u32, x: FieldValue) -> bool
     ensures { λ r. ⌜ r ≡ counts low high (valueOf x) ⌝ }
 {
-    if x.negative {
+    if x.sign != 0 {
         return false;
     }
     within(low, high, x.magnitude)
@@ -246,7 +255,7 @@ fn read_head(f: Fields) -> Head
         return Head::Bad(Refusal::GateCount);
     }
     let n = gates.magnitude;
-    Head::Good(net as u16, out.negative, n as u8)
+    Head::Good(net as u16, out.sign != 0, n as u8)
 }
 
 enum KindRead {
@@ -318,7 +327,7 @@ fn bad_line(why: Refusal) -> GateLine
     ensures { λ r. ⌜ LineRefused why r ⌝ }
 {
     let zero = FieldValue {
-        negative: false,
+        sign: 0,
         magnitude: 0,
     };
     let numbers = [zero; MOST_FIELDS];
@@ -500,7 +509,7 @@ fn gate_lines(text: &[u8], start: usize, out: u16, count: u8) -> Lines
                     break 'lines;
                 }
                 Fanin::Reads(source) => {
-                    fanins[i] = edge_of(x.negative, source);
+                    fanins[i] = edge_of(x.sign != 0, source);
                     leaves = with_leaf(leaves, source);
                     seen[x.magnitude as usize] = true;
                 }

@@ -125,10 +125,10 @@ with-leaf-requires : tie.Need-with-leaf-requires Inv-loop μ-loop Inv-lines μ-l
 with-leaf-requires c κs = search needs
 
 cast-seen : tie.Need-cast-seen Inv-loop μ-loop Inv-lines μ-lines
-cast-seen c = omega (arith, code-known (c .before .before .before))
+cast-seen c = omega (arith, code-known (c .before .before .before .before))
 
 array-write-seen : tie.Need-array-write-seen Inv-loop μ-loop Inv-lines μ-lines
-array-write-seen c = omega (arith, code-known (c .before .before .before), loop-of (c .before .before .before) .loop .inv .marked .whole)
+array-write-seen c = omega (arith, code-known (c .before .before .before .before), loop-of (c .before .before .before .before) .loop .inv .marked .whole)
 
 add-i : tie.Need-add-i Inv-loop μ-loop Inv-lines μ-lines
 add-i c = search needs
@@ -140,7 +140,7 @@ loop-again : tie.Need-loop-again Inv-loop μ-loop Inv-lines μ-lines
 loop-again c =
     let w = c .before in
     let e = w .before in
-    let d = e .before in
+    let d = e .before .before in
     let f = d .before .before .before in
     let b = loop-of d in
     let a = lines-of b .before .before .before in

@@ -100,6 +100,9 @@ returns-4 c =
 negative-requires : tie.Need-negative-requires Inv-loop μ-loop
 negative-requires c κs = search needs
 
+sign-of-requires : tie.Need-sign-of-requires Inv-loop μ-loop
+sign-of-requires c κs = search needs
+
 magnitude-requires : tie.Need-magnitude-requires Inv-loop μ-loop
 magnitude-requires c κs = search needs
 
@@ -117,12 +120,12 @@ loop-less c = search needs
 
 loop-again : tie.Need-loop-again Inv-loop μ-loop
 loop-again c =
-    let v = c .before .before .before in
+    let v = c .before .before .before .before in
     let r = v .before .before in
     let a = r .before .before .before .before .before in
     let h = a .loop .inv in
-    so-far-more h (omega arith) (omega arith) (record { negative = c .before .negative .result; magnitude = c .magnitude .result })
-    (read-number (take columns (drop (a .loop .at) (the-line a))) (sym (field-read r) ∙ v .v .given .1) (c .before .negative .ensures) (c .magnitude .ensures))
+    so-far-more h (omega arith) (omega arith) (record { sign = c .before .sign-of .result; magnitude = c .magnitude .result })
+    (read-number (take columns (drop (a .loop .at) (the-line a))) (sym (field-read r) ∙ v .v .given .1) (c .before .sign-of .ensures ∙ c .before .before .negative .ensures) (c .magnitude .ensures))
     (omega arith)
 
 returns-5 : tie.Need-returns-5 Inv-loop μ-loop
@@ -152,6 +155,7 @@ read-fields-spec =
     no-fields-requires-4
     returns-4
     negative-requires
+    sign-of-requires
     magnitude-requires
     mul-numbers
     array-set-from-numbers

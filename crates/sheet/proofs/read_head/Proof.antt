@@ -78,13 +78,13 @@ cast-t21 c =
 
 cast-t22 : tie.Need-cast-t22
 cast-t22 c =
-    let x = fieldAt (c .before .before .before .before .before .before .before .before .args .t1) 1 in
-    omega (arith, counts-holds 1 mostGates x (T-of (count-good c)))
+    let x = fieldAt (c .before .before .before .before .before .before .before .before .before .args .t1) 1 in
+    omega (arith, counts-holds 1 mostGates x (T-of (count-good (c .before))))
 
 returns-5 : tie.Need-returns-5
 returns-5 c =
-    let e = c .before .before .before .before .before .before in
-    pair-is e ∙ head-good _ _ (net-good (c .before .before)) (count-good c)
+    let e = c .before .before .before .before .before .before .before in
+    pair-is e ∙ head-good _ _ (net-good (c .before .before .before)) (count-good (c .before))
 
 pub read-head-spec : {M : Type 1} → statement M
 read-head-spec =
