@@ -5,6 +5,8 @@ ghost use Prim.Native.Nat.{_+_, _*_, _≤_};
 ghost use lib.Dec.{leb};
 ghost use lib.ListN.{length, take};
 ghost use Rattle.decimal.specs.Columns.{fieldOf, fieldsOf};
+ghost use mathlib.Core.Bool.{true};
+ghost use Rattle.part.specs.SoundTest.{sound as isSound};
 ghost use Rattle.part.specs.Listing.{tableLine};
 ghost use Rattle.listing.specs.Lines.{resultOf, pasted, lineWritten, listWritten, topLine, tableLines, tableWidth};
 use part::Part;
@@ -169,13 +171,11 @@ fn put_tables(buf: &mut [u8], at: usize, p: Part)
     }
 }
 
-// Writes the part's list from the place on: every line, after one test of soundness.
-pub fn write_list(p: Part, buf: &mut [u8], at: usize) -> Answer
+// Writes the list of a sound part from the place on.
+pub fn write_sound_list(p: Part, buf: &mut [u8], at: usize) -> Answer
+    requires { ⌜ isSound p ≡ true ⌝ }
     ensures { λ r. ⌜ record { result = resultOf r; bytes = now (buf .exit) } ≡ listWritten p (now (buf .entry)) at ⌝ }
 {
-    if !p.sound() {
-        return Answer::NotSound;
-    }
     let width = TOP + tables_width(p);
     if !has_room(buf.len(), at, width) {
         return Answer::NoRoom;
@@ -183,4 +183,14 @@ pub fn write_list(p: Part, buf: &mut [u8], at: usize) -> Answer
     put_top(buf, at, p.k, p.capacity, p.used);
     put_tables(buf, at + TOP, p);
     Answer::Wrote(width)
+}
+
+// Writes the part's list from the place on: every line, after one test of soundness.
+pub fn write_list(p: Part, buf: &mut [u8], at: usize) -> Answer
+    ensures { λ r. ⌜ record { result = resultOf r; bytes = now (buf .exit) } ≡ listWritten p (now (buf .entry)) at ⌝ }
+{
+    if !p.sound() {
+        return Answer::NotSound;
+    }
+    write_sound_list(p, buf, at)
 }

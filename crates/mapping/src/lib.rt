@@ -198,7 +198,7 @@ fn print_list(output: &mut [u8], part: Part) -> Printed
     requires { ⌜ Sound part ⌝ }
     ensures { λ r. ⌜ WrittenAs (listOf part) r (now (output .exit)) (now (output .entry)) ⌝ }
 {
-    let a = listing::write_list(part, output, 0);
+    let a = listing::write_sound_list(part, output, 0);
     match a {
         listing::Answer::Wrote(n) => Printed::Wrote(n),
         listing::Answer::NotSound => Printed::NoRoom,

@@ -1,13 +1,7 @@
-use native.Mathlib.Omega.{arith}
-use Prim.Native.Nat.{_+_, _≤_}
-use mathlib.Core.Path.{_≡_, refl, sym, ap, ap₂, _∙_}
-use mathlib.Core.List.{_++_}
-use borrow.Author.Tests.{not-true, not-false, leb-true}
+use mathlib.Core.Path.{sym, _∙_}
+use borrow.Author.Tests.{not-true, not-false}
 use denote.Ref.{now}
-use lib.Dec.{leb}
-use lib.ListN.{length, length-append}
-use Rattle.listing.specs.Lines.{wrote, topLine, tableLines}
-use Rattle.listing.specs.LineLaws.{paste-next, fitted-out, fitted-in, list-is, list-unsound, list-there, used-room}
+use Rattle.listing.specs.LineLaws.{list-unsound}
 use borrow.Author.Needs.{needs}
 use Rattle.listing.proofs.write_list.Statement.{statement}
 use Rattle.listing.proofs.write_list.Tie as tie
@@ -20,72 +14,15 @@ returns c =
     let a = c .before .before .before .args in
     sym (list-unsound (a .p) (now (a .buf)) (a .at) (sym (c .before .sound .ensures) ∙ not-true _ (c .if1 .taken)))
 
-tables-width-requires : tie.Need-tables-width-requires
-tables-width-requires c κs = used-room (c .before .before .before .args .p) (sym (c .before .sound .ensures) ∙ not-false _ (c .if1 .left))
-
-add-width : tie.Need-add-width
-add-width c = search needs
-
-has-room-requires : tie.Need-has-room-requires
-has-room-requires c κs = search needs
-
-returns-2 : tie.Need-returns-2
-returns-2 c =
-    let a = c .before .before .before .before .before .before .args in
-    let p = a .p in
-    let old = now (a .buf) in
-    let new = topLine (p .k) (p .capacity) (p .used) ++ tableLines p (p .used) in
-    let w : length new ≡ 19 + c .before .before .tables-width .result = omega (arith, length-append (topLine (p .k) (p .capacity) (p .used)) (tableLines p (p .used)), c .before .before .tables-width .ensures .0) in
-    sym (list-there p old (a .at) (sym (c .before .before .before .before .sound .ensures) ∙ not-false _ (c .before .before .before .if1 .left))
-    ∙ fitted-out old (a .at) (list-is p) (ap (λ n. leb (a .at + n) (length old)) w ∙ sym (c .before .has-room .ensures) ∙ not-true _ (c .if2 .taken)))
-
-put-top-requires : tie.Need-put-top-requires
-put-top-requires c κs =
-    let a = c .before .before .before .before .before .before .before .args in
-    omega (arith, leb-true (a .at + (19 + c .before .before .before .tables-width .result)) (length (now (a .buf))) (sym (c .before .before .has-room .ensures) ∙ not-false _ (c .before .if2 .left)))
-
-add-put-tables : tie.Need-add-put-tables
-add-put-tables c =
-    let a = c .before .before .before .before .before .before .before .before .before .before .before .args in
-    omega (arith, leb-true (a .at + (19 + c .before .before .before .before .before .before .before .tables-width .result)) (length (now (a .buf))) (sym (c .before .before .before .before .before .before .has-room .ensures) ∙ not-false _ (c .before .before .before .before .before .if2 .left)), c .before .before .before .before .before .before .before .before .before .before .before .good .1 .0 .0)
-
-put-tables-requires : tie.Need-put-tables-requires
-put-tables-requires c κs =
-    let a = c .before .before .before .before .before .before .before .before .before .before .before .args in (
-      used-room (a .p) (sym (c .before .before .before .before .before .before .before .before .before .sound .ensures) ∙ not-false _ (c .before .before .before .before .before .before .before .before .if1 .left)),
-      omega (arith, leb-true (a .at + (19 + c .before .before .before .before .before .before .before .tables-width .result)) (length (now (a .buf))) (sym (c .before .before .before .before .before .before .has-room .ensures) ∙ not-false _ (c .before .before .before .before .before .if2 .left)), c .before .before .before .before .before .before .before .tables-width .ensures .0, c .before .before .before .put-top .kept .0),
-    )
+write-sound-list-requires : tie.Need-write-sound-list-requires
+write-sound-list-requires c κs = sym (c .before .before .sound .ensures) ∙ not-false _ (c .before .if1 .left)
 
 same-length : tie.Need-same-length
 same-length c = search needs
 
-returns-3 : tie.Need-returns-3
-returns-3 c =
-    let a = c .before .before .before .before .before .before .before .before .before .before .before .before .before .before .args in
-    let p = a .p in
-    let old = now (a .buf) in
-    let top = topLine (p .k) (p .capacity) (p .used) in
-    let rest = tableLines p (p .used) in
-    let w : length (top ++ rest) ≡ 19 + c .before .before .before .before .before .before .before .before .before .before .tables-width .result = omega (arith, length-append top rest, c .before .before .before .before .before .before .before .before .before .before .tables-width .ensures .0) in
-    let f = sym (c .before .before .before .before .before .before .before .before .before .has-room .ensures) ∙ not-false _ (c .before .before .before .before .before .before .before .before .if2 .left) in
-    let l : a .at + length top + length rest ≤ length old = omega (arith, leb-true (a .at + (19 + c .before .before .before .before .before .before .before .before .before .before .tables-width .result)) (length old) f, w, length-append top rest) in
-    ap₂ (λ n b. record { result = wrote n; bytes = b }) (sym w)
-    (paste-next old (c .before .before .before .before .before .before .put-top .last .0) (c .before .before .put-tables .last .0) (a .at) (a .at + 19) top rest (c .before .before .before .before .before .before .put-top .ensures) refl l (c .before .before .put-tables .ensures))
-    ∙ sym (list-there p old (a .at) (sym (c .before .before .before .before .before .before .before .before .before .before .before .before .sound .ensures) ∙ not-false _ (c .before .before .before .before .before .before .before .before .before .before .before .if1 .left))
-    ∙ fitted-in old (a .at) (list-is p) (ap (λ n. leb (a .at + n) (length old)) w ∙ f))
+returns-2 : tie.Need-returns-2
+returns-2 c = search needs
 
 pub write-list-spec : {M : Type 1} → statement M
 write-list-spec =
-    tie.close
-    (tie.spec
-    sound-requires
-    returns
-    tables-width-requires
-    add-width
-    has-room-requires
-    returns-2
-    put-top-requires
-    add-put-tables
-    put-tables-requires
-    same-length
-    returns-3)
+    tie.close (tie.spec sound-requires returns write-sound-list-requires same-length returns-2)

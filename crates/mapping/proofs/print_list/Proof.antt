@@ -1,5 +1,7 @@
 use mathlib.Core.Path.{_≡_, subst}
 use denote.Ref.{now}
+use Rattle.lists.specs.TestLaws.{reflects-true}
+use Rattle.part.specs.SoundLaws.{sound-reflects}
 use Rattle.part.specs.Listing.{listOf}
 use Rattle.listing.specs.declared.Answer.{Answer}
 use Rattle.mapping.specs.Program.{WrittenAs}
@@ -9,14 +11,14 @@ use Rattle.mapping.proofs.print_list.Statement.{statement}
 use Rattle.mapping.proofs.print_list.Tie as tie
 
 -- what is printed, by the answer
-printed : (c : tie.After-write-list) {a : Answer} → c .write-list .result ≡ a → let s = c .before .before .before in
-    WrittenAs (listOf (s .args .part)) (printedOf a) (c .write-list .last .1 .0) (now (s .args .output))
+printed : (c : tie.After-write-sound-list) {a : Answer} → c .write-sound-list .result ≡ a → let s = c .before .before .before in
+    WrittenAs (listOf (s .args .part)) (printedOf a) (c .write-sound-list .last .1 .0) (now (s .args .output))
 printed c e = let s = c .before .before .before in
-    subst (λ a. WrittenAs (listOf (s .args .part)) (printedOf a) (c .write-list .last .1 .0) (now (s .args .output))) e
-    (list-printed (s .args .part) (s .pre) (now (s .args .output)) (c .write-list .last .1 .0) (c .write-list .result) (c .write-list .ensures))
+    subst (λ a. WrittenAs (listOf (s .args .part)) (printedOf a) (c .write-sound-list .last .1 .0) (now (s .args .output))) e
+    (list-printed (s .args .part) (s .pre) (now (s .args .output)) (c .write-sound-list .last .1 .0) (c .write-sound-list .result) (c .write-sound-list .ensures))
 
-write-list-requires : tie.Need-write-list-requires
-write-list-requires c κs = search needs
+write-sound-list-requires : tie.Need-write-sound-list-requires
+write-sound-list-requires c κs = reflects-true (sound-reflects (c .before .before .args .part)) (c .before .before .pre)
 
 enum-known-a : tie.Need-enum-known-a
 enum-known-a c = search needs
@@ -58,7 +60,7 @@ pub print-list-spec : {M : Type 1} → statement M
 print-list-spec =
     tie.close
     (tie.spec
-    write-list-requires
+    write-sound-list-requires
     enum-known-a
     enum-told
     enum-told-2
