@@ -10,6 +10,7 @@ ghost use Rattle.part.specs.Listing.{listOf};
 ghost use mathlib.Core.Option.{none};
 ghost use Rattle.mapping.specs.Program.{count as countOf, openingNumbers, openedBy, refusalLine, told as toldAnswer, startResult, WrittenAs, Answered, Ended};
 use decimal::Field;
+use part::Added;
 use part::Adding;
 use part::Opening;
 use part::Part;
@@ -147,7 +148,10 @@ fn add_sheets(opened: Part, input: &[u8], start: usize) -> End
     requires { ⌜ Sound opened ⌝ }
     ensures { λ r. ⌜ Ended opened (drop start (now (input .entry))) r ⌝ }
 {
-    let mut part = opened;
+    let mut added = Added {
+        part: opened,
+        answer: Adding::Accepted,
+    };
     let mut at = start;
     let mut sheet: u16 = 0;
     while at < input.len() {
@@ -159,18 +163,21 @@ fn add_sheets(opened: Part, input: &[u8], start: usize) -> End
                 number: sheet::number(why),
                 line,
             };
+            let part = added.part;
             return End { part, told, sheet };
         }
         let drawn = next.sheet;
-        let added = part.offer(drawn);
-        part = added.part;
+        let part = added.part;
+        added = part.offer(drawn);
         let answer = added.answer;
         let told = tell_adding(answer);
         if told.number != 0 {
+            let part = added.part;
             return End { part, told, sheet };
         }
         at = next.end;
     }
+    let part = added.part;
     End {
         part,
         told: Told { number: 0, line: 0 },
