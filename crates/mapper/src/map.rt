@@ -3,7 +3,7 @@ ghost use mathlib.Core.Path.{_≡_};
 ghost use Prim.Native.Nat.{_+_, _<_, _≤_};
 ghost use lib.ListN.{length};
 ghost use Rattle.sheet.specs.Answers.{drawnGate};
-ghost use Rattle.mapper.specs.CodeMap.{Begun, withFanin, leafOf, Mappable, GateMapped, Reaches, Gathers, Staged, Sheetable, SheetMapped, flipped, rooted};
+ghost use Rattle.mapper.specs.CodeMap.{Begun, withFanin, leafOf, Mappable, GateMapped, Reaches, Gathers, Staged, Sheetable, SheetMapped, flipped, driving};
 ghost use Rattle.mapper.specs.CodePair.{placeIn, readAs, keyIn, countIf, twoTables, pairOf, pairMapped};
 ghost use Rattle.mapper.specs.Merging.{Tabled};
 ghost use Rattle.lists.specs.Lists.{Every};
@@ -171,22 +171,6 @@ fn stage(mapping: Mapping, run: Run) -> Mapping
     m
 }
 
-// No tables.
-fn no_tables() -> Mapping
-    ensures { λ r. ⌜ (r .count ≡ 0) × (length (r .tables) ≡ 256) ⌝ }
-{
-    let table = Table {
-        net: 0,
-        count: 0,
-        inputs: [0; 6],
-        truth: 0,
-    };
-    Mapping {
-        count: 0,
-        tables: [table; 256],
-    }
-}
-
 // The table with its value turned over, where the flag says so.
 fn flip_if(flip: bool, table: Table) -> Table
     requires { ⌜ Tabled table ⌝ }
@@ -195,18 +179,14 @@ fn flip_if(flip: bool, table: Table) -> Table
     if flip { inverted(table) } else { table }
 }
 
-// The root's table, after the others.
-fn with_root(mapping: Mapping, out: u16, flip: bool, table: Table) -> Mapping
-    requires { ⌜ (mapping .count < 256) × Tabled table ⌝ }
-    ensures { λ r. ⌜ r ≡ rooted mapping out flip table ⌝ }
+// The root's table: it drives the output net, and has its value turned over where the flag says so.
+fn root_table(out: u16, flip: bool, table: Table) -> Table
+    requires { ⌜ Tabled table ⌝ }
+    ensures { λ r. ⌜ r ≡ driving out (flipped flip table) ⌝ }
 {
     let mut root = flip_if(flip, table);
     root.net = out;
-    let mut m = mapping;
-    let at = m.count as usize;
-    m.tables[at] = root;
-    m.count = mapping.count + 1;
-    m
+    root
 }
 
 // The place of the gate that a fanin reads among the mapped ones; 0 for a net.
@@ -302,7 +282,11 @@ pub fn map(sheet: Sheet, k: u8, used: u16) -> Mapping
 {
     let gates = sheet.count as usize;
     let mut held = [leaf(0); 255];
-    let mut m = no_tables();
+    let none = table::blank();
+    let mut m = Mapping {
+        count: 0,
+        tables: [none; 256],
+    };
     let mut g: usize = 0;
     while g < gates {
         let gate = sheet.gates[g];
@@ -345,5 +329,10 @@ pub fn map(sheet: Sheet, k: u8, used: u16) -> Mapping
     let at = gates - 1;
     let root = held[at];
     let table = root.table;
-    with_root(m, sheet.out, sheet.inverted, table)
+    let last = root_table(sheet.out, sheet.inverted, table);
+    let count = m.count;
+    let end = count as usize;
+    m.tables[end] = last;
+    m.count = count + 1;
+    m
 }

@@ -1,4 +1,4 @@
-use Prim.Native.Nat.{ℕ, _+_, _-_, _≤_}
+use Prim.Native.Nat.{ℕ, _+_, _-_, _≤_, _<_}
 use native.Mathlib.Omega.{arith}
 use mathlib.Core.Path.{_≡_, refl, sym, ap, _∙_, subst, subst₂}
 use lib.ListN.{length, getD, set, length-map}
@@ -44,11 +44,11 @@ cast-gates c = search needs
 leaf-requires : tie.Need-leaf-requires Inv-loop2 μ-loop2 Inv-loop μ-loop
 leaf-requires c κs = search needs
 
-no-tables-requires : tie.Need-no-tables-requires Inv-loop2 μ-loop2 Inv-loop μ-loop
-no-tables-requires c κs = search needs
+blank-requires : tie.Need-blank-requires Inv-loop2 μ-loop2 Inv-loop μ-loop
+blank-requires c κs = search needs
 
 loop-holds : tie.Need-loop-holds Inv-loop2 μ-loop2 Inv-loop μ-loop
-loop-holds c = going-start (c .no-tables .ensures .0) (c .no-tables .ensures .1) refl
+loop-holds c = going-start refl refl refl
 
 -- the gate of a turn
 abbrev gateIn : (s : tie.Start Inv-loop2 μ-loop2 Inv-loop μ-loop) → ℕ → Gate
@@ -278,15 +278,35 @@ array-copy-out-root c =
     let s = c .before .before .before .before in
     omega (arith, gates-most s, some-gates (s .args .t1) (s .pre) (gates-room s) (gates-most s))
 
-with-root-requires : tie.Need-with-root-requires Inv-loop2 μ-loop2 Inv-loop μ-loop
-with-root-requires c κs =
+-- the root's table fits, and has its place
+last-room : (c : tie.After-root-table Inv-loop2 μ-loop2 Inv-loop μ-loop) → c .before .before .before .before .loop .m .count < 256
+last-room c =
+    let s = c .before .before .before .before .before .before .before in
+    end-room (s .args .t1) (s .pre) (gates-room s) (gates-most s) (c .before .before .before .before .loop .inv) (c .before .before .before .loop-test .left) .0
+
+root-table-requires : tie.Need-root-table-requires Inv-loop2 μ-loop2 Inv-loop μ-loop
+root-table-requires c κs =
     let s = c .before .before .before .before .before .before in
-    end-room (s .args .t1) (s .pre) (gates-room s) (gates-most s) (c .before .before .before .loop .inv) (c .before .before .loop-test .left)
+    end-room (s .args .t1) (s .pre) (gates-room s) (gates-most s) (c .before .before .before .loop .inv) (c .before .before .loop-test .left) .1
+
+cast-end : tie.Need-cast-end Inv-loop2 μ-loop2 Inv-loop μ-loop
+cast-end c = record { fits = omega (arith, last-room c) }
+
+mul-last : tie.Need-mul-last Inv-loop2 μ-loop2 Inv-loop μ-loop
+mul-last c = omega (arith, last-room c)
+
+element-set-from-last : tie.Need-element-set-from-last Inv-loop2 μ-loop2 Inv-loop μ-loop
+element-set-from-last c = last-room c
+
+add-m-2 : tie.Need-add-m-2 Inv-loop2 μ-loop2 Inv-loop μ-loop
+add-m-2 c = record { fits = omega (arith, last-room c) }
 
 returns : tie.Need-returns Inv-loop2 μ-loop2 Inv-loop μ-loop
 returns c =
     let s = c .before .before .before .before .before .before .before in
-    end-mapped (s .args .t1) (s .pre) (gates-room s) (gates-most s) (c .before .before .before .before .loop .inv) (c .before .before .before .loop-test .left) (c .with-root .ensures)
+    let m = c .before .before .before .before .loop .m in
+    end-mapped (s .args .t1) (s .pre) (gates-room s) (gates-most s) (c .before .before .before .before .loop .inv) (c .before .before .before .loop-test .left)
+    (ap (λ t. record { count = m .count + 1; tables = set (m .tables) (m .count) t }) (c .root-table .ensures))
 
 pub map-spec : {M : Type 1} → statement M
 map-spec =
@@ -298,7 +318,7 @@ map-spec =
     μ-loop
     cast-gates
     leaf-requires
-    no-tables-requires
+    blank-requires
     loop-holds
     mul-gate
     element-copy-out-gate
@@ -344,5 +364,9 @@ map-spec =
     sub-at
     mul-root
     array-copy-out-root
-    with-root-requires
+    root-table-requires
+    cast-end
+    mul-last
+    element-set-from-last
+    add-m-2
     returns)
