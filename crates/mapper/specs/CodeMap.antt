@@ -18,7 +18,7 @@ use Rattle.cover.specs.Limits.{mostBelow}
 use Rattle.sheet.specs.declared.Edge.{Edge}
 use Rattle.sheet.specs.declared.Gate.{Gate}
 use Rattle.sheet.specs.declared.Sheet.{Sheet}
-use Rattle.sheet.specs.Limits.{mostGates}
+use Rattle.sheet.specs.Limits.{mostGates, mostFanins, faninRoom}
 use Rattle.sheet.specs.Sheet.{DrawnGate, faninGates}
 use Rattle.sheet.specs.Answers.{drawnGate, drawnSheet}
 use Rattle.sheet.specs.Trees.{drawn}
@@ -95,9 +95,14 @@ noHeld = record { below = 0; table = noTable }
 abbrev pub HeldAll : List Mapped → List Held → Type 0
 HeldAll done hs = (j : ℕ) → j < length done → HeldIs (getD hs j noHeld) (getD done j unmapped)
 
--- the gates that it reads are in the array
-abbrev pub Reaches : Gate → Type 0
-Reaches x = Every (λ j. (1 ≤ j) × (j ≤ mostGates)) (faninGates (drawnGate x .fanins))
+-- it has so many fanins among those of its sheet, whatever they are
+abbrev pub Counted : Gate → ℕ → Type 0
+Counted x n = (fs : List Edge) → length fs ≡ faninRoom → n ≡ length (drawnGate fs x .fanins)
+
+-- it has at most ten, and the gates that they read are in the array
+pub record Reaches (fs : List Edge) (x : Gate) : Type 0 where
+  pub few : length (drawnGate fs x .fanins) ≤ mostFanins
+  pub gates : Every (λ j. (1 ≤ j) × (j ≤ mostGates)) (faninGates (drawnGate fs x .fanins))
 
 -- the fanins `fs`, gathered, where the gates `done` were mapped
 pub record Gathered (done : List Mapped) (fs : List Edge) (o : Operands) : Type 0 where
@@ -114,8 +119,8 @@ pub record Gathering (fs : List Edge) (held : List Held) (i : ℕ) (o : Operands
   pub key-room : length (o .keys) ≡ 10
   pub gathered : (done : List Mapped) → HeldAll done held → Every (λ j. (1 ≤ j) × (j ≤ length done)) (faninGates fs) → Gathered done (take i fs) o
 
-abbrev pub Gathers : Gate → List Held → Operands → Type 0
-Gathers x held o = Gathering (drawnGate x .fanins) held (length (drawnGate x .fanins)) o
+abbrev pub Gathers : List Edge → Gate → List Held → Operands → Type 0
+Gathers fs x held o = Gathering (drawnGate fs x .fanins) held (length (drawnGate fs x .fanins)) o
 
 -- ---- staging
 

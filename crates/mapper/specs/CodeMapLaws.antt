@@ -8,7 +8,7 @@ use mathlib.Core.Bool.{Bool, true, false}
 use mathlib.Core.List.{List, [], _∷_, _++_, append-assoc, append-nil, map}
 use lib.Dec.{T}
 use lib.ListN.{length, getD, set, take, drop, length-map, length-set, length-take}
-use lib.Seq.{getD-take, length-take-le, take-suc, take-suc-set, getD-set-same, getD-set-other}
+use lib.Seq.{getD-take, getD-drop, length-take-le, take-suc, take-suc-set, getD-set-same, getD-set-other}
 use Rattle.lists.specs.Lists.{Every, Sorted, upto}
 use Rattle.lists.specs.Cases.{by-eqb}
 use Rattle.lists.specs.ListLaws.{every-none, every-head, every-left, every-right}
@@ -200,36 +200,38 @@ every-source [] i g h l e = absurd (omega arith)
 every-source {P} (f ∷ fs) zero g h l e = every-head (subst (λ s. Every P (gateOf s)) e (every-left (gateOf (f .source)) (faninGates fs) h))
 every-source {P} (f ∷ fs) (suc i) g h l e = every-source {P = P} fs i g (every-right (gateOf (f .source)) (faninGates fs) h) (omega arith) e
 
-module _ (x : SheetGate) (held : List Held) {i : ℕ} {o : Operands} (g : Gathering (drawnGate x .fanins) held i o) (l : i < length (drawnGate x .fanins)) (few : i < 10) where
+module _ (fs : List Edge) (x : SheetGate) (held : List Held) {i : ℕ} {o : Operands} (g : Gathering (drawnGate fs x .fanins) held i o) (l : i < length (drawnGate fs x .fanins)) (few : i < 10) where
   abbrev edge : Edge
-  edge = getD (x .fanins) i noEdge
+  edge = getD fs (x .first + i) noEdge
 
-  drawn-edge : getD (drawnGate x .fanins) i noEdge ≡ edge
-  drawn-edge = getD-take (x .count) (x .fanins) i noEdge (omega (arith, l, length-take (x .count) (x .fanins)))
+  drawn-edge : getD (drawnGate fs x .fanins) i noEdge ≡ edge
+  drawn-edge =
+      getD-take (x .count) (drop (x .first) fs) i noEdge (omega (arith, l, length-take (x .count) (drop (x .first) fs)))
+      ∙ getD-drop (x .first) fs i noEdge
 
   next-count-room : o .count < 10
   next-count-room = omega (arith, g .count)
 
   gathering-next : (h : Held) →
-      ((done : List MappedOnList) → HeldAll done held → Every (λ j. (1 ≤ j) × (j ≤ length done)) (faninGates (drawnGate x .fanins)) → Reading done (edge .source) h) →
-      Gathering (drawnGate x .fanins) held (i + 1) (withFanin o (edge .inverted) h)
+      ((done : List MappedOnList) → HeldAll done held → Every (λ j. (1 ≤ j) × (j ≤ length done)) (faninGates (drawnGate fs x .fanins)) → Reading done (edge .source) h) →
+      Gathering (drawnGate fs x .fanins) held (i + 1) (withFanin o (edge .inverted) h)
   gathering-next h r = record {
     count = omega (arith, g .count);
     some = (omega arith, omega arith);
     room = length-set (o .fanins) (o .count) (record { inverted = edge .inverted; table = h .table }) ∙ g .room;
     key-room = length-set (o .keys) (o .count) (record { below = h .below; width = h .table .count }) ∙ g .key-room;
     gathered = λ done a m.
-        rw (add-one i, take-suc (drawnGate x .fanins) i noEdge l, drawn-edge)
+        rw (add-one i, take-suc (drawnGate fs x .fanins) i noEdge l, drawn-edge)
         (next-gathered (g .room) (g .key-room) next-count-room (g .gathered done a m) edge h (r done a m));
   }
 
-  pub gather-net : {n : ℕ} → edge .source ≡ Net n → Gathering (drawnGate x .fanins) held (i + 1) (withFanin o (edge .inverted) (leafOf n))
+  pub gather-net : {n : ℕ} → edge .source ≡ Net n → Gathering (drawnGate fs x .fanins) held (i + 1) (withFanin o (edge .inverted) (leafOf n))
   gather-net {n} e = gathering-next (leafOf n) (λ done a m. rw e (read-net done n))
 
-  pub gather-gate : {j : ℕ} → edge .source ≡ Gate j → Gathering (drawnGate x .fanins) held (i + 1) (withFanin o (edge .inverted) (getD held (j - 1) noHeld))
+  pub gather-gate : {j : ℕ} → edge .source ≡ Gate j → Gathering (drawnGate fs x .fanins) held (i + 1) (withFanin o (edge .inverted) (getD held (j - 1) noHeld))
   gather-gate {j} e =
       gathering-next (getD held (j - 1) noHeld)
-      (λ done a m. let b = every-source {P = λ j. (1 ≤ j) × (j ≤ length done)} (drawnGate x .fanins) i j m l (ap (λ f. f .source) drawn-edge ∙ e) in rw e (read-gate done held a j (b .0) (b .1)))
+      (λ done a m. let b = every-source {P = λ j. (1 ≤ j) × (j ≤ length done)} (drawnGate fs x .fanins) i j m l (ap (λ f. f .source) drawn-edge ∙ e) in rw e (read-gate done held a j (b .0) (b .1)))
 
-  pub gate-reached : Reaches x → {j : ℕ} → edge .source ≡ Gate j → (1 ≤ j) × (j ≤ mostGates)
-  gate-reached h {j} e = every-source {P = λ j. (1 ≤ j) × (j ≤ mostGates)} (drawnGate x .fanins) i j h l (ap (λ f. f .source) drawn-edge ∙ e)
+  pub gate-reached : Reaches fs x → {j : ℕ} → edge .source ≡ Gate j → (1 ≤ j) × (j ≤ mostGates)
+  gate-reached h {j} e = every-source {P = λ j. (1 ≤ j) × (j ≤ mostGates)} (drawnGate fs x .fanins) i j (h .gates) l (ap (λ f. f .source) drawn-edge ∙ e)

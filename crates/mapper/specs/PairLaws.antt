@@ -1,7 +1,8 @@
 -- A gate of two fanins mapped without a search: as by a plan of three steps, which is the least.
 use Prim.Native.Nat.{ℕ, _+_, _≤_, _<_}
+use native.Mathlib.Nat.{add-zero}
 use native.Mathlib.Omega.{arith}
-use mathlib.Core.Path.{_≡_, refl, sym, ap, ap₂, _∙_, subst}
+use mathlib.Core.Path.{_≡_, refl, sym, ap, ap₂, _∙_, subst, subst₂}
 use mathlib.Core.Bool.{Bool, true, false}
 use mathlib.Core.List.{List, [], _∷_, _++_}
 use lib.ListN.{length, take, replicate, getD}
@@ -227,41 +228,43 @@ pair-by K first k i x j y {cut = cut} ea eb ec ecut eu en ev et ep eq ets =
 
 -- ---- the two fanins of a gate
 
-abbrev pub edgeOf : SheetGate → ℕ → Edge
-edgeOf g n = getD (g .fanins) n noEdge
+-- the one at a place of the sheet's
+abbrev pub edgeAt : List Edge → ℕ → Edge
+edgeAt fs at = getD fs at noEdge
 
 -- what it reads
-abbrev pub readIn : SheetGate → List Held → ℕ → Held
-readIn g held n = readAs (edgeOf g n .source) (getD held (placeIn (edgeOf g n .source)) noHeld)
+abbrev pub readAt : List Edge → List Held → ℕ → Held
+readAt fs held at = readAs (edgeAt fs at .source) (getD held (placeIn (edgeAt fs at .source)) noHeld)
 
-module _ (g : SheetGate) (held : List Held) (two : length (drawnGate g .fanins) ≡ 2) where
-  gather-source : (n : ℕ) {o : Operands} → Gathering (drawnGate g .fanins) held n o → n < 2 → Gathering (drawnGate g .fanins) held (n + 1) (withFanin o (edgeOf g n .inverted) (readIn g held n))
-  gather-source n {o} h l = of (edgeOf g n .source) refl
+module _ (fs : List Edge) (g : SheetGate) (held : List Held) (two : length (drawnGate fs g .fanins) ≡ 2) where
+  gather-source : (n : ℕ) {o : Operands} → Gathering (drawnGate fs g .fanins) held n o → n < 2 → Gathering (drawnGate fs g .fanins) held (n + 1) (withFanin o (edgeAt fs (g .first + n) .inverted) (readAt fs held (g .first + n)))
+  gather-source n {o} h l = of (edgeAt fs (g .first + n) .source) refl
     where
-      of : (s : Source) → edgeOf g n .source ≡ s →
-          Gathering (drawnGate g .fanins) held (n + 1) (withFanin o (edgeOf g n .inverted) (readAs s (getD held (placeIn s) noHeld)))
-      of (Net c) e = gather-net g held h (omega arith) (omega arith) e
-      of (Gate c) e = gather-gate g held h (omega arith) (omega arith) e
+      of : (s : Source) → edgeAt fs (g .first + n) .source ≡ s →
+          Gathering (drawnGate fs g .fanins) held (n + 1) (withFanin o (edgeAt fs (g .first + n) .inverted) (readAs s (getD held (placeIn s) noHeld)))
+      of (Net c) e = gather-net fs g held h (omega arith) (omega arith) e
+      of (Gate c) e = gather-gate fs g held h (omega arith) (omega arith) e
 
-  none : Gathering (drawnGate g .fanins) held 0 noOperands
+  none : Gathering (drawnGate fs g .fanins) held 0 noOperands
   none = gathering-start (record { count = refl; room = refl; key-room = refl })
 
-  pub pair-gathers : Gathers g held (pairOf (edgeOf g 0 .inverted) (readIn g held 0) (edgeOf g 1 .inverted) (readIn g held 1))
+  pub pair-gathers : Gathers fs g held (pairOf (edgeAt fs (g .first) .inverted) (readAt fs held (g .first)) (edgeAt fs (g .first + 1) .inverted) (readAt fs held (g .first + 1)))
   pair-gathers =
-      subst (λ n. Gathering (drawnGate g .fanins) held n (pairOf (edgeOf g 0 .inverted) (readIn g held 0) (edgeOf g 1 .inverted) (readIn g held 1))) (sym two)
-      (gather-source 1 (gather-source 0 none (omega arith)) (omega arith))
+      subst₂ (λ n at. Gathering (drawnGate fs g .fanins) held n (pairOf (edgeAt fs at .inverted) (readAt fs held at) (edgeAt fs (g .first + 1) .inverted) (readAt fs held (g .first + 1))))
+      (sym two) (add-zero (g .first)) (gather-source 1 (gather-source 0 none (omega arith)) (omega arith))
 
   -- the gates that they read are in the array
-  module _ (h : Reaches g) where
-    source-reached : (n : ℕ) {o : Operands} → Gathering (drawnGate g .fanins) held n o → n < 2 → Every (λ c. (1 ≤ c) × (c ≤ mostGates)) (gateOf (edgeOf g n .source))
-    source-reached n q l = of (edgeOf g n .source) refl
+  module _ (h : Reaches fs g) where
+    source-reached : (n : ℕ) {o : Operands} → Gathering (drawnGate fs g .fanins) held n o → n < 2 → Every (λ c. (1 ≤ c) × (c ≤ mostGates)) (gateOf (edgeAt fs (g .first + n) .source))
+    source-reached n q l = of (edgeAt fs (g .first + n) .source) refl
       where
-        of : (s : Source) → edgeOf g n .source ≡ s → Every (λ c. (1 ≤ c) × (c ≤ mostGates)) (gateOf s)
+        of : (s : Source) → edgeAt fs (g .first + n) .source ≡ s → Every (λ c. (1 ≤ c) × (c ≤ mostGates)) (gateOf s)
         of (Net c) e = every-none _
-        of (Gate c) e = every-cons (gate-reached g held q (omega arith) (omega arith) h e) (every-none _)
+        of (Gate c) e = every-cons (gate-reached fs g held q (omega arith) (omega arith) h e) (every-none _)
 
-    pub low-reached : Every (λ c. (1 ≤ c) × (c ≤ mostGates)) (gateOf (edgeOf g 0 .source))
-    low-reached = source-reached 0 none (omega arith)
+    pub low-reached : Every (λ c. (1 ≤ c) × (c ≤ mostGates)) (gateOf (edgeAt fs (g .first) .source))
+    low-reached =
+        subst (λ at. Every (λ c. (1 ≤ c) × (c ≤ mostGates)) (gateOf (edgeAt fs at .source))) (add-zero (g .first)) (source-reached 0 none (omega arith))
 
-    pub high-reached : Every (λ c. (1 ≤ c) × (c ≤ mostGates)) (gateOf (edgeOf g 1 .source))
+    pub high-reached : Every (λ c. (1 ≤ c) × (c ≤ mostGates)) (gateOf (edgeAt fs (g .first + 1) .source))
     high-reached = source-reached 1 (gather-source 0 none (omega arith)) (omega arith)

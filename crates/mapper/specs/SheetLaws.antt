@@ -347,11 +347,11 @@ module _ {K used : ℕ} {s : DrawnSheet} {g : ℕ} {held : List Held} {m : Mappi
 
 -- what an array gives past its end: no gate
 abbrev pub noSheetGate : SheetGate
-noSheetGate = record { kind = And; count = 0; fanins = [] }
+noSheetGate = record { kind = And; count = 0; first = 0 }
 
 module _ {K used : ℕ} (c : Sheet) (p : Sheetable K used c) (room : length (c .gates) ≡ mostGates) (most : c .count ≤ mostGates) where
   drawn-count : length (drawnSheet c .gates) ≡ c .count
-  drawn-count = length-map (take (c .count) (c .gates)) drawnGate ∙ length-take-le (c .count) (c .gates) (omega (arith, room))
+  drawn-count = length-map (take (c .count) (c .gates)) (drawnGate (c .fanins)) ∙ length-take-le (c .count) (c .gates) (omega (arith, room))
 
   pub some-gates : 1 ≤ c .count
   some-gates = omega (arith, drawn-count, p .formed .gate-count .0)
@@ -364,28 +364,31 @@ module _ {K used : ℕ} (c : Sheet) (p : Sheetable K used c) (room : length (c .
       inside : g < length (drawnSheet c .gates)
       inside = omega (arith, drawn-count)
 
-      here-drawn : getD (drawnSheet c .gates) g noGate ≡ drawnGate here
+      here-drawn : getD (drawnSheet c .gates) g noGate ≡ drawnGate (c .fanins) here
       here-drawn =
-          map-at drawnGate (take (c .count) (c .gates)) g noSheetGate noGate (omega (arith, length-take-le (c .count) (c .gates) (omega (arith, room))))
-          ∙ ap drawnGate (getD-take (c .count) (c .gates) g noSheetGate l)
+          map-at (drawnGate (c .fanins)) (take (c .count) (c .gates)) g noSheetGate noGate (omega (arith, length-take-le (c .count) (c .gates) (omega (arith, room))))
+          ∙ ap (drawnGate (c .fanins)) (getD-take (c .count) (c .gates) g noSheetGate l)
 
-      here-facts : Facts (drawnSheet c) g (drawnGate here)
+      here-facts : Facts (drawnSheet c) g (drawnGate (c .fanins) here)
       here-facts = subst (λ x. Facts (drawnSheet c) g x) here-drawn (facts (drawnSheet c) (p .formed) g noGate inside)
 
       drawn-few : length (drawnSheet c .gates) ≤ mostGates
       drawn-few = omega (arith, drawn-count)
 
-      pub step-reaches : Reaches here
-      step-reaches j i = let b = here-facts .before j i in (b .0, omega arith)
+      pub step-reaches : Reaches (c .fanins) here
+      step-reaches = record {
+        few = here-facts .many .1;
+        gates = λ j i. let b = here-facts .before j i in (b .0, omega arith);
+      }
 
-      pub step-mappable : {o : Operands} → Gathers here held o → Mappable K (used + m .count) o
+      pub step-mappable : {o : Operands} → Gathers (c .fanins) here held o → Mappable K (used + m .count) o
       step-mappable q = gate-mappable (p .table .0) (p .table .1) (p .before) y inside drawn-few here-drawn here-facts q
 
-      pub step-room : {o : Operands} {r : MappedGate} → Gathers here held o → GateMapped K (used + m .count) (here .kind) o r →
+      pub step-room : {o : Operands} {r : MappedGate} → Gathers (c .fanins) here held o → GateMapped K (used + m .count) (here .kind) o r →
           (m .count + r .run .placed ≤ 256) × (r .run .placed ≤ 18)
       step-room q e = stage-room (p .table .0) (p .table .1) (p .before) y inside drawn-few here-drawn here-facts q e
 
-      pub step-next : {o : Operands} {r : MappedGate} {n : Mapping} → Gathers here held o → GateMapped K (used + m .count) (here .kind) o r → Staged m (r .run) n →
+      pub step-next : {o : Operands} {r : MappedGate} {n : Mapping} → Gathers (c .fanins) here held o → GateMapped K (used + m .count) (here .kind) o r → Staged m (r .run) n →
           Going K used (drawnSheet c .gates) (g + 1) (set held g (r .held)) n
       step-next q e z = going-next (p .table .0) (p .table .1) (p .before) y inside drawn-few here-drawn here-facts q e z
 

@@ -1,9 +1,7 @@
 // Mapping a sheet, gate by gate.
 ghost use mathlib.Core.Path.{_≡_};
 ghost use Prim.Native.Nat.{_+_, _<_, _≤_};
-ghost use lib.ListN.{length};
-ghost use Rattle.sheet.specs.Answers.{drawnGate};
-ghost use Rattle.mapper.specs.CodeMap.{Begun, withFanin, leafOf, Mappable, GateMapped, Reaches, Gathers, Staged, Sheetable, SheetMapped, flipped, driving};
+ghost use Rattle.mapper.specs.CodeMap.{Begun, withFanin, leafOf, Mappable, GateMapped, Counted, Reaches, Gathers, Staged, Sheetable, SheetMapped, flipped, driving};
 ghost use Rattle.mapper.specs.CodePair.{placeIn, readAs, keyIn, countIf, twoTables, pairOf, pairMapped};
 ghost use Rattle.mapper.specs.Merging.{Tabled};
 ghost use Rattle.lists.specs.Lists.{Every};
@@ -22,6 +20,8 @@ use cover::Key;
 use cover::best_plan;
 use cover::cuts_of;
 use cover::join;
+use sheet::Edge;
+use sheet::FANIN_ROOM;
 use sheet::Gate;
 use sheet::Sheet;
 use sheet::Source;
@@ -118,24 +118,30 @@ pub struct Mapping {
     pub tables: [Table; 256],
 }
 
-// How many fanins a gate has.
+// How many fanins a gate has: those that its sheet has room for.
 fn fanin_count(gate: Gate) -> usize
-    ensures { λ r. ⌜ (r ≡ length (drawnGate gate .fanins)) × (r ≤ 10) ⌝ }
+    ensures { λ r. ⌜ Counted gate r ⌝ }
 {
+    let first = gate.first as usize;
+    if FANIN_ROOM < first {
+        return 0;
+    }
+    let room = FANIN_ROOM - first;
     let count = gate.count as usize;
-    if count <= 10 { count } else { 10 }
+    if count <= room { count } else { room }
 }
 
-// The fanins of a gate, where `held` has the gates before it.
-fn gather(gate: Gate, held: [Held; 255]) -> Operands
-    requires { ⌜ Reaches gate ⌝ }
-    ensures { λ r. ⌜ Gathers gate held r ⌝ }
+// The fanins of a gate, among its sheet's, where `held` has the gates before it.
+fn gather(gate: Gate, fanins: [Edge; FANIN_ROOM], held: [Held; 255]) -> Operands
+    requires { ⌜ Reaches fanins gate ⌝ }
+    ensures { λ r. ⌜ Gathers fanins gate held r ⌝ }
 {
     let count = fanin_count(gate);
     let mut o = no_operands();
     let mut i: usize = 0;
     while i < count {
-        let edge = gate.fanins[i];
+        let place = gate.first as usize + i;
+        let edge = fanins[place];
         let source = edge.source;
         match source {
             Source::Net(n) => {
@@ -293,8 +299,9 @@ pub fn map(sheet: Sheet, k: u8, used: u16) -> Mapping
         let kind = gate.kind;
         let first = used + m.count;
         if fanin_count(gate) == 2 {
-            let low = gate.fanins[0];
-            let high = gate.fanins[1];
+            let place = gate.first as usize;
+            let low = sheet.fanins[place];
+            let high = sheet.fanins[place + 1];
             let low_source = low.source;
             let high_source = high.source;
             let low_at = place_of(low_source);
@@ -317,7 +324,8 @@ pub fn map(sheet: Sheet, k: u8, used: u16) -> Mapping
             m.count = staged + pair.placed as u16;
             g += 1;
         } else {
-            let operands = gather(gate, held);
+            let fanins = sheet.fanins;
+            let operands = gather(gate, fanins, held);
             let x = map_gate(k, first, kind, operands);
             let h = x.held;
             held[g] = h;

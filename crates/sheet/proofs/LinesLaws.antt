@@ -1,13 +1,15 @@
 -- The gates' lines read one after the other, and on a line the fanins: what is left to read at each moment, and how a step changes it.
 use Prim.Native.Nat.{ℕ, zero, suc, _+_, _-_, _≤_, _<_}
 use native.Mathlib.Omega.{arith}
+use native.Mathlib.Nat.{add-zero}
 use native.Mathlib.Numerals.{add-one}
-use mathlib.Core.Path.{_≡_, refl, sym, ap, _∙_, subst}
+use mathlib.Core.Path.{_≡_, refl, sym, ap, ap₂, _∙_, subst}
 use mathlib.Core.Bool.{Bool, true, false}
 use mathlib.Core.Option.{Option, none, some}
 use mathlib.Core.List.{List, [], _∷_, _++_, map, map-append, append-assoc, append-nil}
 use lib.ListN.{length, getD, take, drop, set, replicate, length-set, length-take, length-drop, length-map, List·getD-map, drop-of-length-le}
 use lib.Seq.{drop-cons, take-suc-set, getD-drop, getD-take, length-take-le}
+use Rattle.lists.specs.ListLaws.{every-none}
 use Rattle.tree.specs.declared.Kind.{Kind}
 use Rattle.decimal.specs.Number.{Number}
 use Rattle.sheet.specs.declared.Source.{Source}
@@ -21,7 +23,7 @@ use Rattle.sheet.specs.declared.Fanin.{Fanin}
 use Rattle.sheet.specs.declared.Fanin.the-variants.{Reads, Bad}
 use Rattle.sheet.specs.declared.FieldValue.{FieldValue}
 use Rattle.sheet.specs.declared.GateLine.{GateLine}
-use Rattle.sheet.specs.Limits.{mostFields, mostGates, mostFanins, mostLeaves}
+use Rattle.sheet.specs.Limits.{mostFields, mostGates, mostFanins, mostLeaves, faninRoom}
 use Rattle.sheet.specs.Line.{line, fields}
 use Rattle.sheet.specs.Sheet.{DrawnGate, netOf}
 use Rattle.sheet.specs.Step.{Step, good, bad, _>>=_, given}
@@ -30,6 +32,7 @@ use Rattle.sheet.specs.Answers.{numberOf, drawnGate, drawnGates}
 use Rattle.sheet.specs.Inside.{valueOf, gateLine, faninNumbers, faultStep, GateLineRead, codes, Marked, saw, faninStep, FaninRead}
 use Rattle.sheet.proofs.HeadLaws.{zeroValue}
 use Rattle.sheet.proofs.FaninLaws.{marked-start, marked-more}
+use Rattle.sheet.proofs.StoreLaws.{readCount, read-most, read-more, Below, drawn-same, taken-more, drawn-more, below-more}
 
 abbrev Gates : Type 0
 Gates = List DrawnGate × Seen × List ℕ
@@ -170,14 +173,6 @@ fanin-at l i w n h =
 fanins-over : (l : GateLine) (i : ℕ) → l .count ≤ i → drop i (faninNumbers l) ≡ []
 fanins-over l i h = drop-of-length-le (faninNumbers l) {i = i} (simp (length-map, length-take) (omega arith))
 
--- one more at its place, after the first ones
-drawn-more : (gates : List Gate) (g : ℕ) (x : Gate) → g < length gates → drawnGates (g + 1) (set gates g x) ≡ drawnGates g gates ++ (drawnGate x ∷ [])
-drawn-more gates g x l =
-    ap (λ n. drawnGates n (set gates g x)) (add-one g) ∙ (ap (map drawnGate) (take-suc-set gates g x l) ∙ map-append drawnGate (take g gates) (x ∷ []))
-
-taken-more : (fs : List Edge) (i : ℕ) (f : Edge) → i < length fs → take (i + 1) (set fs i f) ≡ take i fs ++ (f ∷ [])
-taken-more fs i f l = ap (λ n. take n (set fs i f)) (add-one i) ∙ take-suc-set fs i f l
-
 -- ---- what holds while the lines are read
 
 module _ (text : List ℕ) (start out count : ℕ) where
@@ -185,22 +180,27 @@ module _ (text : List ℕ) (start out count : ℕ) where
   all = readLeft out count 1 nothing (drop start text)
 
   -- at a gate's line
-  pub record AtLine (gates : List Gate) (flags : List Bool) (leaves : ℕ) (answer : Answer) (at g : ℕ) : Type 0 where
+  pub record AtLine (gates : List Gate) (fs : List Edge) (used : ℕ) (flags : List Bool) (leaves : ℕ) (answer : Answer) (at g : ℕ) : Type 0 where
     pub accepted : answer ≡ Accepted
     pub far : g ≤ count
     pub inside : at ≤ length text
     pub room : length gates ≡ mostGates
+    pub wide : length fs ≡ faninRoom
+    pub below : Below used (take g gates)
+    pub read : used ≡ readCount flags leaves
     pub seen : Seen
     pub marked : Marked flags leaves seen
     pub few : leaves ≤ mostLeaves
-    pub same : all ≡ lines out (count - g) (g + 1) (drawnGates g gates) seen (drop at text)
+    pub same : all ≡ lines out (count - g) (g + 1) (drawnGates fs g gates) seen (drop at text)
 
   -- at a fanin of gate g + 1
-  pub record AtFanin (gates : List Gate) (g : ℕ) (l : GateLine) (flags : List Bool) (leaves : ℕ) (answer : Answer) (fs : List Edge) (i : ℕ) : Type 0 where
+  pub record AtFanin (gates : List Gate) (fs : List Edge) (used : ℕ) (flags : List Bool) (leaves : ℕ) (answer : Answer) (g : ℕ) (l : GateLine) (i : ℕ) : Type 0 where
     pub accepted : answer ≡ Accepted
     pub far : g < count
     pub room : length gates ≡ mostGates
-    pub wide : length fs ≡ mostFanins
+    pub wide : length fs ≡ faninRoom
+    pub below : Below used (take g gates)
+    pub read : used + i ≡ readCount flags leaves
     pub whole : length (l .numbers) ≡ mostFields
     pub within : l .count ≤ mostFanins
     pub some-left : i ≤ l .count
@@ -208,14 +208,18 @@ module _ (text : List ℕ) (start out count : ℕ) where
     pub seen : Seen
     pub marked : Marked flags leaves seen
     pub few : leaves ≤ mostLeaves
-    pub same : all ≡ fanins out (count - (g + 1)) (g + 1) (drawnGates g gates) (l .kind) (take i fs) seen (drop i (faninNumbers l)) (drop (l .end) text)
+    pub same : all ≡ fanins out (count - (g + 1)) (g + 1) (drawnGates fs g gates) (l .kind) (take i (drop used fs)) seen (drop i (faninNumbers l)) (drop (l .end) text)
 
-  pub at-start : (gates : List Gate) → length gates ≡ mostGates → start ≤ length text → AtLine gates (replicate codes false) 0 Accepted start 0
-  at-start gates r l = record {
+  pub at-start : (gates : List Gate) (fs : List Edge) → length gates ≡ mostGates → length fs ≡ faninRoom → start ≤ length text →
+      AtLine gates fs 0 (replicate codes false) 0 Accepted start 0
+  at-start gates fs r w l = record {
     accepted = refl;
     far = omega arith;
     inside = l;
     room = r;
+    wide = w;
+    below = every-none _;
+    read = refl;
     seen = nothing;
     marked = marked-start;
     few = omega arith;
@@ -223,24 +227,25 @@ module _ (text : List ℕ) (start out count : ℕ) where
         ∙ ap (λ n. lines out n 1 [] nothing (drop start text)) (let q : count ≡ count - 0 = omega arith in q);
   }
 
-  module _ {gates : List Gate} {flags : List Bool} {leaves : ℕ} {answer : Answer} {at g : ℕ} (h : AtLine gates flags leaves answer at g) where
-    one-left : g < count → all ≡ lines out (suc (count - (g + 1))) (g + 1) (drawnGates g gates) (h .seen) (drop at text)
-    one-left l = h .same ∙ ap (λ n. lines out n (g + 1) (drawnGates g gates) (h .seen) (drop at text)) (let q : count - g ≡ suc (count - (g + 1)) = omega arith in q)
+  module _ {gates : List Gate} {fs : List Edge} {used : ℕ} {flags : List Bool} {leaves : ℕ} {answer : Answer} {at g : ℕ} (h : AtLine gates fs used flags leaves answer at g) where
+    one-left : g < count → all ≡ lines out (suc (count - (g + 1))) (g + 1) (drawnGates fs g gates) (h .seen) (drop at text)
+    one-left l = h .same ∙ ap (λ n. lines out n (g + 1) (drawnGates fs g gates) (h .seen) (drop at text)) (let q : count - g ≡ suc (count - (g + 1)) = omega arith in q)
 
     pub line-refused : g < count → (l : GateLine) → GateLineRead text at l → (why : Refusal) → l .fault ≡ Is why → all ≡ bad (numberOf why) (g + 1 + 1)
     line-refused k l r why e =
         one-left k
-        ∙ (line-bad out (count - (g + 1)) (g + 1) (drawnGates g gates) (h .seen) (drop at text)
+        ∙ (line-bad out (count - (g + 1)) (g + 1) (drawnGates fs g gates) (h .seen) (drop at text)
         (r .step (g + 1) ∙ ap (λ w. faultStep (g + 1) w (l .kind, faninNumbers l, drop (l .end) text)) e)
         ∙ ap (bad (numberOf why)) (sym (add-one (g + 1))))
 
-    pub line-taken : g < count → (l : GateLine) → GateLineRead text at l → l .fault ≡ Nothing → (fs : List Edge) → length fs ≡ mostFanins →
-        AtFanin gates g l flags leaves answer fs 0
-    line-taken k l r e fs w = record {
+    pub line-taken : g < count → (l : GateLine) → GateLineRead text at l → l .fault ≡ Nothing → AtFanin gates fs used flags leaves answer g l 0
+    line-taken k l r e = record {
       accepted = h .accepted;
       far = k;
       room = h .room;
-      wide = w;
+      wide = h .wide;
+      below = h .below;
+      read = add-zero used ∙ h .read;
       whole = r .whole;
       within = r .within;
       some-left = omega arith;
@@ -248,75 +253,99 @@ module _ (text : List ℕ) (start out count : ℕ) where
       seen = h .seen;
       marked = h .marked;
       few = h .few;
-      same = one-left k ∙ line-good out (count - (g + 1)) (g + 1) (drawnGates g gates) (h .seen) (drop at text)
+      same = one-left k ∙ line-good out (count - (g + 1)) (g + 1) (drawnGates fs g gates) (h .seen) (drop at text)
           (r .step (g + 1) ∙ ap (λ w. faultStep (g + 1) w (l .kind, faninNumbers l, drop (l .end) text)) e);
     }
 
-    pub lines-over : count ≤ g → all ≡ good (drawnGates count gates, h .seen, drop at text)
+    pub lines-over : count ≤ g → all ≡ good (drawnGates fs count gates, h .seen, drop at text)
     lines-over l =
         h .same
-        ∙ (ap (λ n. lines out n (g + 1) (drawnGates g gates) (h .seen) (drop at text)) (let q : count - g ≡ 0 = omega arith in q)
-        ∙ (lines-done out (g + 1) (drawnGates g gates) (h .seen) (drop at text) ∙ ap (λ n. good (drawnGates n gates, h .seen, drop at text)) (let q : g ≡ count = omega arith in q)))
+        ∙ (ap (λ n. lines out n (g + 1) (drawnGates fs g gates) (h .seen) (drop at text)) (let q : count - g ≡ 0 = omega arith in q)
+        ∙ (lines-done out (g + 1) (drawnGates fs g gates) (h .seen) (drop at text) ∙ ap (λ n. good (drawnGates fs n gates, h .seen, drop at text)) (let q : g ≡ count = omega arith in q)))
 
-  module _ {gates : List Gate} {g : ℕ} {l : GateLine} {flags : List Bool} {leaves : ℕ} {answer : Answer} {fs : List Edge} {i : ℕ}
-      (h : AtFanin gates g l flags leaves answer fs i) where
+  module _ {gates : List Gate} {fs : List Edge} {used : ℕ} {flags : List Bool} {leaves : ℕ} {answer : Answer} {g : ℕ} {l : GateLine} {i : ℕ}
+      (h : AtFanin gates fs used flags leaves answer g l i) where
     abbrev pub number : FieldValue
     number = getD (l .numbers) (i + 2) zeroValue
 
     one-number : i < l .count →
-        all ≡ fanins out (count - (g + 1)) (g + 1) (drawnGates g gates) (l .kind) (take i fs) (h .seen) (valueOf number ∷ drop (i + 1) (faninNumbers l)) (drop (l .end) text)
+        all ≡ fanins out (count - (g + 1)) (g + 1) (drawnGates fs g gates) (l .kind) (take i (drop used fs)) (h .seen) (valueOf number ∷ drop (i + 1) (faninNumbers l)) (drop (l .end) text)
     one-number k =
         h .same
-        ∙ ap (λ xs. fanins out (count - (g + 1)) (g + 1) (drawnGates g gates) (l .kind) (take i fs) (h .seen) xs (drop (l .end) text)) (fanin-at l i (h .whole) (h .within) k)
+        ∙ ap (λ xs. fanins out (count - (g + 1)) (g + 1) (drawnGates fs g gates) (l .kind) (take i (drop used fs)) (h .seen) xs (drop (l .end) text)) (fanin-at l i (h .whole) (h .within) k)
 
     pub fanin-refused : i < l .count → (r : Fanin) → FaninRead flags leaves out (g + 1) (number .magnitude) r → (why : Refusal) → r ≡ Bad why →
         all ≡ bad (numberOf why) (g + 1 + 1)
     fanin-refused k r f why e =
         one-number k
-        ∙ (fanin-bad out (count - (g + 1)) (g + 1) (drawnGates g gates) (h .seen) (l .kind) (take i fs) (drop (l .end) text) (valueOf number) (drop (i + 1) (faninNumbers l))
+        ∙ (fanin-bad out (count - (g + 1)) (g + 1) (drawnGates fs g gates) (h .seen) (l .kind) (take i (drop used fs)) (drop (l .end) text) (valueOf number) (drop (i + 1) (faninNumbers l))
         (f .step (h .seen) (h .marked) ∙ ap (faninStep (g + 1) (h .seen)) e)
         ∙ ap (bad (numberOf why)) (sym (add-one (g + 1))))
 
-    pub fanin-taken : i < l .count → g + 1 ≤ mostGates → (r : Fanin) → FaninRead flags leaves out (g + 1) (number .magnitude) r → (s : Source) → r ≡ Reads s →
-        (f : Edge) → f ≡ record { inverted = valueOf number .negative; source = s } → (n : ℕ) → n ≡ leaves + length (netOf s) →
-        AtFanin gates g l (set flags (number .magnitude) true) n answer (set fs i f) (i + 1)
-    fanin-taken k b r d s e f p n q = record {
-      accepted = h .accepted;
-      far = h .far;
-      room = h .room;
-      wide = simp length-set (h .wide);
-      whole = h .whole;
-      within = h .within;
-      some-left = omega arith;
-      ends = h .ends;
-      seen = saw (h .seen) s;
-      marked = subst (λ m. Marked (set flags (number .magnitude) true) m (saw (h .seen) s)) (sym q) (marked-more (g + 1) (number .magnitude) b (h .marked) s (d .source s e));
-      few = omega (arith, d .few s e (h .few));
-      same =
-          one-number k
-          ∙ (fanin-good out (count - (g + 1)) (g + 1) (drawnGates g gates) (h .seen) (l .kind) (take i fs) (drop (l .end) text) (valueOf number) (drop (i + 1) (faninNumbers l))
-          (d .step (h .seen) (h .marked) ∙ ap (faninStep (g + 1) (h .seen)) e)
-          ∙ ap (λ es. fanins out (count - (g + 1)) (g + 1) (drawnGates g gates) (l .kind) es (saw (h .seen) s) (drop (i + 1) (faninNumbers l)) (drop (l .end) text))
-          (sym (taken-more fs i f (omega (arith, h .wide)) ∙ ap (λ x. take i fs ++ (x ∷ [])) p)));
-    }
+    module _ (b : g + 1 ≤ mostGates) (r : Fanin) (d : FaninRead flags leaves out (g + 1) (number .magnitude) r) (s : Source) (e : r ≡ Reads s) where
+      read-next : used + (i + 1) ≡ readCount (set flags (number .magnitude) true) (leaves + length (netOf s))
+      read-next =
+          let q = read-more flags (h .marked .whole) (g + 1) (number .magnitude) leaves b s (d .source s e) (d .first s e) in
+          omega (arith, q, h .read)
 
-    pub gate-taken : l .count ≤ i → count ≤ mostGates → (x : Gate) → x ≡ record { kind = l .kind; count = l .count; fanins = fs } →
-        AtLine (set gates g x) flags leaves answer (l .end) (g + 1)
-    gate-taken k m x e = record {
-      accepted = h .accepted;
-      far = omega arith;
-      inside = h .ends;
-      room = simp length-set (h .room);
-      seen = h .seen;
-      marked = h .marked;
-      few = h .few;
-      same =
-          h .same
-          ∙ (ap (λ xs. fanins out (count - (g + 1)) (g + 1) (drawnGates g gates) (l .kind) (take i fs) (h .seen) xs (drop (l .end) text)) (fanins-over l i k)
-          ∙ (fanins-done out (count - (g + 1)) (g + 1) (drawnGates g gates) (h .seen) (l .kind) (take i fs) (drop (l .end) text)
-          ∙ (ap (λ n. lines out (count - (g + 1)) n (drawnGates g gates ++ (record { kind = l .kind; fanins = take i fs } ∷ [])) (h .seen) (drop (l .end) text)) (sym (add-one (g + 1)))
-          ∙ (ap (λ n. lines out (count - (g + 1)) (g + 1 + 1) (drawnGates g gates ++ (record { kind = l .kind; fanins = take n fs } ∷ [])) (h .seen) (drop (l .end) text))
-          (let q : i ≡ l .count = omega (arith, h .some-left) in q)
-          ∙ ap (λ gs. lines out (count - (g + 1)) (g + 1 + 1) gs (h .seen) (drop (l .end) text))
-          (sym (drawn-more gates g x (omega (arith, h .far, h .room)) ∙ ap (λ y. drawnGates g gates ++ (drawnGate y ∷ [])) e))))));
-    }
+      -- there is room for it
+      pub fanin-room : used + i < faninRoom
+      fanin-room =
+          let q = read-most (set flags (number .magnitude) true) (simp length-set (h .marked .whole)) (leaves + length (netOf s)) (d .few s e (h .few)) in
+          omega (arith, q, read-next)
+
+      pub fanin-taken : i < l .count → (f : Edge) → f ≡ record { inverted = valueOf number .negative; source = s } → (n : ℕ) → n ≡ leaves + length (netOf s) →
+          AtFanin gates (set fs (used + i) f) used (set flags (number .magnitude) true) n answer g l (i + 1)
+      fanin-taken k f p n q = record {
+        accepted = h .accepted;
+        far = h .far;
+        room = h .room;
+        wide = simp length-set (h .wide);
+        below = h .below;
+        read = read-next ∙ ap (readCount (set flags (number .magnitude) true)) (sym q);
+        whole = h .whole;
+        within = h .within;
+        some-left = omega arith;
+        ends = h .ends;
+        seen = saw (h .seen) s;
+        marked = subst (λ m. Marked (set flags (number .magnitude) true) m (saw (h .seen) s)) (sym q) (marked-more (g + 1) (number .magnitude) b (h .marked) s (d .source s e));
+        few = omega (arith, d .few s e (h .few));
+        same =
+            one-number k
+            ∙ (fanin-good out (count - (g + 1)) (g + 1) (drawnGates fs g gates) (h .seen) (l .kind) (take i (drop used fs)) (drop (l .end) text) (valueOf number) (drop (i + 1) (faninNumbers l))
+            (d .step (h .seen) (h .marked) ∙ ap (faninStep (g + 1) (h .seen)) e)
+            ∙ ap₂ (λ gs es. fanins out (count - (g + 1)) (g + 1) gs (l .kind) es (saw (h .seen) s) (drop (i + 1) (faninNumbers l)) (drop (l .end) text))
+            (sym (drawn-same fs (used + i) f (take g gates) (h .below) (omega arith)))
+            (sym (taken-more fs used i f (omega (arith, h .wide, fanin-room)) ∙ ap (λ x. take i (drop used fs) ++ (x ∷ [])) p)));
+      }
+
+    module _ (k : l .count ≤ i) where
+      all-taken : i ≡ l .count
+      all-taken = omega (arith, h .some-left)
+
+      -- the place after its fanins
+      pub after-room : used + l .count ≤ faninRoom
+      after-room = let q = read-most flags (h .marked .whole) leaves (h .few) in omega (arith, all-taken, h .read)
+
+      pub gate-taken : count ≤ mostGates → (x : Gate) → x ≡ record { kind = l .kind; count = l .count; first = used } →
+          AtLine (set gates g x) fs (used + l .count) flags leaves answer (l .end) (g + 1)
+      gate-taken m x e = record {
+        accepted = h .accepted;
+        far = omega arith;
+        inside = h .ends;
+        room = simp length-set (h .room);
+        wide = h .wide;
+        below = below-more gates g x (omega (arith, h .far, h .room)) (h .below) (omega arith) (omega (arith, ap (λ y. y .first + y .count) e));
+        read = ap (λ n. used + n) (sym all-taken) ∙ h .read;
+        seen = h .seen;
+        marked = h .marked;
+        few = h .few;
+        same =
+            h .same
+            ∙ (ap (λ xs. fanins out (count - (g + 1)) (g + 1) (drawnGates fs g gates) (l .kind) (take i (drop used fs)) (h .seen) xs (drop (l .end) text)) (fanins-over l i k)
+            ∙ (fanins-done out (count - (g + 1)) (g + 1) (drawnGates fs g gates) (h .seen) (l .kind) (take i (drop used fs)) (drop (l .end) text)
+            ∙ (ap (λ n. lines out (count - (g + 1)) n (drawnGates fs g gates ++ (record { kind = l .kind; fanins = take i (drop used fs) } ∷ [])) (h .seen) (drop (l .end) text)) (sym (add-one (g + 1)))
+            ∙ (ap (λ n. lines out (count - (g + 1)) (g + 1 + 1) (drawnGates fs g gates ++ (record { kind = l .kind; fanins = take n (drop used fs) } ∷ [])) (h .seen) (drop (l .end) text)) all-taken
+            ∙ ap (λ gs. lines out (count - (g + 1)) (g + 1 + 1) gs (h .seen) (drop (l .end) text))
+            (sym (drawn-more gates g x (omega (arith, h .far, h .room)) fs ∙ ap (λ y. drawnGates fs g gates ++ (drawnGate fs y ∷ [])) e))))));
+      }

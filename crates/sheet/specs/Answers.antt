@@ -2,7 +2,7 @@
 use Prim.Native.Nat.{ℕ}
 use mathlib.Core.Bool.{false}
 use mathlib.Core.List.{List, map}
-use lib.ListN.{take, replicate}
+use lib.ListN.{take, drop, replicate}
 use Rattle.tree.specs.declared.Kind.the-variants.{And as and}
 use Rattle.sheet.specs.declared.Source.the-variants.{Net as net}
 use Rattle.sheet.specs.declared.Edge.{Edge}
@@ -13,7 +13,7 @@ use Rattle.sheet.specs.declared.Refusal.the-variants.{Layout, OutputNet,
 use Rattle.sheet.specs.declared.Answer.{Answer}
 use Rattle.sheet.specs.declared.Answer.the-variants.{Accepted, Refused}
 use Rattle.sheet.specs.declared.Reading.{Reading}
-use Rattle.sheet.specs.Limits.{mostGates, mostFanins}
+use Rattle.sheet.specs.Limits.{mostGates, faninRoom}
 use Rattle.sheet.specs.Sheet.{DrawnGate, DrawnSheet, Outcome, sheet, refused}
 
 -- 01, "Turned down because of the input"
@@ -30,15 +30,15 @@ numberOf OutputLeaf = 11
 numberOf LeafCount = 12
 numberOf GateUnread = 13
 
--- the fanins, and the gates, that the count says
-abbrev pub drawnGate : Gate → DrawnGate
-drawnGate g = record { kind = g .kind; fanins = take (g .count) (g .fanins) }
+-- the gates that the count says, and of each, among the sheet's fanins, those from its first on that its count says
+abbrev pub drawnGate : List Edge → Gate → DrawnGate
+drawnGate fs g = record { kind = g .kind; fanins = take (g .count) (drop (g .first) fs) }
 
-abbrev pub drawnGates : ℕ → List Gate → List DrawnGate
-drawnGates n gs = map drawnGate (take n gs)
+abbrev pub drawnGates : List Edge → ℕ → List Gate → List DrawnGate
+drawnGates fs n gs = map (drawnGate fs) (take n gs)
 
 abbrev pub drawnSheet : Sheet → DrawnSheet
-drawnSheet s = record { out = s .out; inverted = s .inverted; gates = drawnGates (s .count) (s .gates) }
+drawnSheet s = record { out = s .out; inverted = s .inverted; gates = drawnGates (s .fanins) (s .count) (s .gates) }
 
 abbrev pub answered : Answer → DrawnSheet → Outcome
 answered Accepted s = sheet s
@@ -48,11 +48,11 @@ abbrev pub outcome : Reading → Outcome
 outcome r = answered (r .answer) (drawnSheet (r .sheet))
 
 -- all zero: what stands past the counts, and for the sheet of a text that is refused
-abbrev pub noFanins : List Edge
-noFanins = replicate mostFanins (record { inverted = false; source = net 0 })
+unfoldable pub noFanins : List Edge
+noFanins = replicate faninRoom (record { inverted = false; source = net 0 })
 
 unfoldable pub noGates : List Gate
-noGates = replicate mostGates (record { kind = and; count = 0; fanins = noFanins })
+noGates = replicate mostGates (record { kind = and; count = 0; first = 0 })
 
 abbrev pub noSheet : Sheet
-noSheet = record { out = 0; inverted = false; count = 0; gates = noGates }
+noSheet = record { out = 0; inverted = false; count = 0; gates = noGates; fanins = noFanins }

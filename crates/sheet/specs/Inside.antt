@@ -157,6 +157,7 @@ pub record FaninRead (flags : List Bool) (leaves out g n : ℕ) (r : Fanin) : Ty
   pub source : (s : Source) → r ≡ Reads s → sourceOf g n ≡ some s
   pub few : (s : Source) → r ≡ Reads s → leaves ≤ mostLeaves → leaves + length (netOf s) ≤ mostLeaves
   pub step : (seen : Seen) → Marked flags leaves seen → readFanin out g seen n ≡ faninStep g seen r
+  pub first : (s : Source) → r ≡ Reads s → getD flags n false ≡ false
 
 -- ---- the lines of the gates
 
@@ -167,7 +168,7 @@ Comes (Refused why line) P m = m ≡ bad (numberOf why) line
 
 -- what was read: the gates, the nets and gates seen, and the rest of the text
 pub record GatesHeld (text : List ℕ) (count : ℕ) (l : Lines) (a : List DrawnGate × Seen × List ℕ) : Type 0 where
-  pub gates : a .0 ≡ drawnGates count (l .gates)
+  pub gates : a .0 ≡ drawnGates (l .fanins) count (l .gates)
   pub marked : Flagged gateBase (mostGates + 1) (l .seen) (a .1 .gates)
   pub rest : a .2 ≡ drop (l .end) text
   pub within : l .end ≤ length text

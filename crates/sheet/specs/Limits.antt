@@ -22,3 +22,7 @@ mostFanins = 10
 
 abbrev pub mostLeaves : ℕ
 mostLeaves = 256
+
+-- room for the fanins of all gates of a sheet
+abbrev pub faninRoom : ℕ
+faninRoom = 512

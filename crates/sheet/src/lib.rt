@@ -24,6 +24,9 @@ pub const MOST_FANINS: usize = 10;
 // The most leaves of a sheet.
 pub const MOST_LEAVES: u16 = 256;
 
+// Room for the fanins of all gates of a sheet: each reads a leaf or a gate that no other reads.
+pub const FANIN_ROOM: usize = 512;
+
 // How many numbers have a flag: all that a fanin may be written as, and those below.
 const CODES: usize = tree::CODE_BASE as usize + MOST_GATES + 1;
 
@@ -44,19 +47,21 @@ pub struct Edge {
     pub source: Source,
 }
 
-// A gate: its kind, how many fanins it has, and the fanins, those past the count zero.
+// A gate: its kind, how many fanins it has, and the place of the first among the sheet's.
 pub struct Gate {
     pub kind: Kind,
     pub count: u8,
-    pub fanins: [Edge; MOST_FANINS],
+    pub first: u16,
 }
 
-// A sheet: its output net, whether the tree's value is inverted, how many gates it has, and the gates, those past the count zero.
+// A sheet: its output net, whether the tree's value is inverted, how many gates it has, the gates, those past the count zero, and the
+// fanins of all gates, one gate's after the other's.
 pub struct Sheet {
     pub out: u16,
     pub inverted: bool,
     pub count: u8,
     pub gates: [Gate; MOST_GATES],
+    pub fanins: [Edge; FANIN_ROOM],
 }
 
 // Why a text is no sheet. Its number in 01 is `numberOf` in specs/Answers.
@@ -426,34 +431,34 @@ fn with_leaf(leaves: u16, source: Source) -> u16
     }
 }
 
-// The lines of gates that were read: where they are accepted the gates, the place after them, and a flag at each number that was
-// a fanin.
+// The lines of gates that were read: where they are accepted the gates, their fanins, the place after them, and a flag at each number
+// that was a fanin.
 struct Lines {
     answer: Answer,
     end: usize,
     gates: [Gate; MOST_GATES],
+    fanins: [Edge; FANIN_ROOM],
     seen: [bool; CODES],
 }
 
 // No fanins, no gate and no gates: all zero.
-fn no_fanins() -> [Edge; MOST_FANINS]
+fn no_fanins() -> [Edge; FANIN_ROOM]
     ensures { λ r. ⌜ r ≡ noFanins ⌝ }
 {
     let none = Edge {
         inverted: false,
         source: Source::Net(0),
     };
-    [none; MOST_FANINS]
+    [none; FANIN_ROOM]
 }
 
 fn no_gate() -> Gate
-    ensures { λ r. ⌜ r ≡ record { kind = Kind.And; count = 0; fanins = noFanins } ⌝ }
+    ensures { λ r. ⌜ r ≡ record { kind = Kind.And; count = 0; first = 0 } ⌝ }
 {
-    let fanins = no_fanins();
     Gate {
         kind: Kind::And,
         count: 0,
-        fanins,
+        first: 0,
     }
 }
 
@@ -470,14 +475,14 @@ fn edge_of(inverted: bool, source: Source) -> Edge
     Edge { inverted, source }
 }
 
-fn gate_of(line: GateLine, fanins: [Edge; MOST_FANINS]) -> Gate
-    ensures { λ r. ⌜ r ≡ record { kind = line .kind; count = line .count; fanins = fanins } ⌝ }
+fn gate_of(line: GateLine, first: u16) -> Gate
+    ensures { λ r. ⌜ r ≡ record { kind = line .kind; count = line .count; first = first } ⌝ }
 {
     let kind = line.kind;
     Gate {
         kind,
         count: line.count,
-        fanins,
+        first,
     }
 }
 
@@ -488,6 +493,8 @@ fn gate_lines(text: &[u8], start: usize, out: u16, count: u8) -> Lines
 {
     let none = no_gate();
     let mut gates = [none; MOST_GATES];
+    let mut fanins = no_fanins();
+    let mut used: usize = 0;
     let mut seen = [false; CODES];
     let mut leaves: u16 = 0;
     let mut answer = Answer::Accepted;
@@ -500,7 +507,6 @@ fn gate_lines(text: &[u8], start: usize, out: u16, count: u8) -> Lines
             answer = Answer::Refused(why, gate + 1);
             break 'lines;
         }
-        let mut fanins = no_fanins();
         for i in 0..line.count as usize {
             let x = line.numbers[i + 2];
             match read_fanin(&seen, leaves, out, gate, x.magnitude) {
@@ -509,19 +515,22 @@ fn gate_lines(text: &[u8], start: usize, out: u16, count: u8) -> Lines
                     break 'lines;
                 }
                 Fanin::Reads(source) => {
-                    fanins[i] = edge_of(x.sign != 0, source);
+                    let at = used + i;
+                    fanins[at] = edge_of(x.sign != 0, source);
                     leaves = with_leaf(leaves, source);
                     seen[x.magnitude as usize] = true;
                 }
             }
         }
-        gates[g] = gate_of(line, fanins);
+        gates[g] = gate_of(line, used as u16);
+        used += line.count as usize;
         end = line.end;
     }
     Lines {
         answer,
         end,
         gates,
+        fanins,
         seen,
     }
 }
@@ -548,11 +557,13 @@ fn refused(why: Refusal, line: u16) -> Next
     ensures { λ r. ⌜ r ≡ record { answer = Answer.Refused why line; end = 0; sheet = noSheet } ⌝ }
 {
     let gates = no_gates();
+    let fanins = no_fanins();
     let sheet = Sheet {
         out: 0,
         inverted: false,
         count: 0,
         gates,
+        fanins,
     };
     Next {
         answer: Answer::Refused(why, line),
@@ -587,11 +598,13 @@ fn read_end(text: &[u8], l: Lines, out: u16, inverted: bool, count: u8, last: bo
         return refused(Refusal::GateUnread, line);
     }
     let gates = l.gates;
+    let fanins = l.fanins;
     let sheet = Sheet {
         out,
         inverted,
         count,
         gates,
+        fanins,
     };
     Next {
         answer: Answer::Accepted,

@@ -72,22 +72,25 @@ fn print_sheet(sheet: Sheet) {
     print_signed(sheet.inverted, sheet.out as u32);
     print_number(sheet.count as u32);
     end_line();
+    let fanins = sheet.fanins;
     for g in 0..sheet.count as usize {
         let gate = sheet.gates[g];
-        print_gate(gate);
+        print_gate(gate, fanins);
     }
 }
 
-fn print_gate(gate: Gate) {
+fn print_gate(gate: Gate, fanins: [Edge; sheet::FANIN_ROOM]) {
     let kind = gate.kind;
     match kind {
         Kind::And => print_number(1),
         Kind::Or => print_number(2),
     }
     print_number(gate.count as u32);
-    for i in 0..sheet::MOST_FANINS {
-        if i < gate.count as usize {
-            let fanin = gate.fanins[i];
+    let first = gate.first as usize;
+    let end = first + gate.count as usize;
+    for i in first..end {
+        if i < sheet::FANIN_ROOM {
+            let fanin = fanins[i];
             print_fanin(fanin);
         }
     }

@@ -75,7 +75,7 @@ enum-told-2 c = search needs
 
 returns-4 : tie.Need-returns-4
 returns-4 c =
-    let u = c .before .before .before in
+    let u = c .before .before .before .before in
     let i = u .before .before .before in
     let e = i .before .before in
     let s = e .before .before .before in
@@ -84,7 +84,7 @@ returns-4 c =
     record {
       same =
           end-good (a .text .now) (a .l) (head-of s) (a .last) m h (e .enum-told .given .1) (sym (i .before .more .ensures) ∙ i .if1 .left)
-          (u .first-unread .ensures (g .0 .1 .gates) (g .1 .0 .marked) ∙ ap unreadStep (c .before .enum-told2 .given .1))
+          (u .first-unread .ensures (g .0 .1 .gates) (g .1 .0 .marked) ∙ ap unreadStep (c .before .before .enum-told2 .given .1))
           ∙ ap₂ (λ gs rest. good (record { out = a .out; inverted = a .inverted; gates = gs }, rest)) (g .1 .0 .gates) (g .1 .0 .rest);
       none = λ why line q. let z : _≡_ {A = ℕ} 0 1 = cc in absurd (omega arith);
       within = g .1 .0 .within;

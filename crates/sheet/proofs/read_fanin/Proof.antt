@@ -51,6 +51,7 @@ returns c =
     record {
       source = λ s q. absurd (none-reads _ s q);
       few = λ s q l. absurd (none-reads _ s q);
+      first = λ s q. absurd (none-reads _ s q);
       step = λ seen h. fanin-none (a .out) (a .gate) seen (a .code) e;
     }
 
@@ -69,6 +70,7 @@ returns-2 c =
     record {
       source = λ s q. absurd (none-reads _ s q);
       few = λ s q l. absurd (none-reads _ s q);
+      first = λ s q. absurd (none-reads _ s q);
       step = λ seen h. gate-twice (a .out) (a .gate) seen (a .code) _ (gate-is (c .before)) (sym (gate-flag (a .gate) (a .code) (s .pre) h _ (gate-is (c .before))) ∙ c .if1 .taken);
     }
 
@@ -82,6 +84,7 @@ returns-3 c =
     record {
       source = λ s q. absurd (none-reads _ s q);
       few = λ s q l. absurd (none-reads _ s q);
+      first = λ s q. absurd (none-reads _ s q);
       step = λ seen h. net-twice (a .out) (a .gate) seen (a .code) _ (net-is (c .before)) (sym (net-flag (a .gate) (a .code) (s .pre) h _ (net-is (c .before))) ∙ c .if2 .taken);
     }
 
@@ -93,6 +96,7 @@ returns-4 c =
     record {
       source = λ s q. absurd (none-reads _ s q);
       few = λ s q l. absurd (none-reads _ s q);
+      first = λ s q. absurd (none-reads _ s q);
       step = λ seen h. net-out (a .out) (a .gate) seen (a .code) _ e (sym (net-flag (a .gate) (a .code) (s .pre) h _ e) ∙ c .before .if2 .left) (eq-eqb _ _ (c .if3 .taken));
     }
 
@@ -104,6 +108,7 @@ returns-5 c =
     record {
       source = λ s q. absurd (none-reads _ s q);
       few = λ s q l. absurd (none-reads _ s q);
+      first = λ s q. absurd (none-reads _ s q);
       step = λ seen h.
           net-many (a .out) (a .gate) seen (a .code) _ e (sym (net-flag (a .gate) (a .code) (s .pre) h _ e) ∙ c .before .before .if2 .left) (ne-eqb _ _ (c .before .if3 .left))
           (le-ltb (length (seen .nets)) mostLeaves (omega (arith, h .count)));
@@ -119,6 +124,7 @@ returns-6 c =
       few = λ s q l.
           let z : s ≡ gate (c .before .enum-told2 .given .0 .0) = cc (c .before .enum-told2 .given .1) in
           omega (arith, ap (λ s. length (netOf s)) z);
+      first = λ s q. c .if1 .left;
       step = λ seen h.
           gate-once (a .out) (a .gate) seen (a .code) _ e (sym (gate-flag (a .gate) (a .code) (s .pre) h _ e) ∙ c .if1 .left)
           ∙ ap (λ s. good (s, saw seen s)) (sym (c .before .enum-told2 .given .1));
@@ -134,6 +140,7 @@ returns-7 c =
       few = λ s q l.
           let z : net (c .before .before .before .before .source2 .given .0 .0) ≡ s = cc in
           omega (arith, ap (λ s. length (netOf s)) z);
+      first = λ s q. c .before .before .if2 .left;
       step = λ seen h.
           net-once (a .out) (a .gate) seen (a .code) _ e (sym (net-flag (a .gate) (a .code) (s .pre) h _ e) ∙ c .before .before .if2 .left) (ne-eqb _ _ (c .before .if3 .left))
           (lt-ltb (length (seen .nets)) mostLeaves (omega (arith, h .count)));

@@ -1,14 +1,14 @@
 -- `sheet_test::print_gate` is safe and ends. Assumes nothing.
-use Prim.Native.Nat.{_-_, _≤_}
+use Prim.Native.Nat.{_-_}
 use borrow.Author.Needs.{needs}
 use Rattle.sheet_test.proofs.print_gate.Statement.{statement}
 use Rattle.sheet_test.proofs.print_gate.Tie as tie
 
 abbrev Inv-loop : tie.InvT-loop
-Inv-loop gate i₀ i = i ≤ 10
+Inv-loop fanins first end i₀ i = Unit {0}
 
 abbrev μ-loop : tie.MeasureT-loop
-μ-loop gate i₀ i = 10 - i
+μ-loop fanins first end i₀ i = end - i
 
 enum-told : tie.Need-enum-told Inv-loop μ-loop
 enum-told c = search needs
@@ -28,17 +28,23 @@ cast-print-number c = search needs
 print-number-requires-3 : tie.Need-print-number-requires-3 Inv-loop μ-loop
 print-number-requires-3 c κs = search needs
 
-loop-holds : tie.Need-loop-holds Inv-loop μ-loop
-loop-holds c = search needs
+cast-first : tie.Need-cast-first Inv-loop μ-loop
+cast-first c = search needs
 
-cast-if1 : tie.Need-cast-if1 Inv-loop μ-loop
-cast-if1 c = search needs
+cast-end : tie.Need-cast-end Inv-loop μ-loop
+cast-end c = search needs
+
+add-end : tie.Need-add-end Inv-loop μ-loop
+add-end c = search needs
+
+loop-holds : tie.Need-loop-holds Inv-loop μ-loop
+loop-holds c = tt
 
 mul-fanin : tie.Need-mul-fanin Inv-loop μ-loop
 mul-fanin c = search needs
 
-element-copy-out-fanin : tie.Need-element-copy-out-fanin Inv-loop μ-loop
-element-copy-out-fanin c = search needs
+array-copy-out-fanin : tie.Need-array-copy-out-fanin Inv-loop μ-loop
+array-copy-out-fanin c = search needs
 
 print-fanin-requires : tie.Need-print-fanin-requires Inv-loop μ-loop
 print-fanin-requires c κs = search needs
@@ -50,7 +56,7 @@ loop-less : tie.Need-loop-less Inv-loop μ-loop
 loop-less c = search needs
 
 loop-again : tie.Need-loop-again Inv-loop μ-loop
-loop-again c = search needs
+loop-again c = tt
 
 end-line-requires : tie.Need-end-line-requires Inv-loop μ-loop
 end-line-requires c κs = search needs
@@ -70,10 +76,12 @@ print-gate-spec =
     print-number-requires-2
     cast-print-number
     print-number-requires-3
+    cast-first
+    cast-end
+    add-end
     loop-holds
-    cast-if1
     mul-fanin
-    element-copy-out-fanin
+    array-copy-out-fanin
     print-fanin-requires
     add-i
     loop-less

@@ -5,10 +5,10 @@ use Rattle.sheet_test.proofs.print_sheet.Statement.{statement}
 use Rattle.sheet_test.proofs.print_sheet.Tie as tie
 
 abbrev Inv-loop : tie.InvT-loop
-Inv-loop sheet g₀ g-end g = g ≤ sheet .count
+Inv-loop sheet fanins g₀ g-end g = g ≤ sheet .count
 
 abbrev μ-loop : tie.MeasureT-loop
-μ-loop sheet g₀ g-end g = sheet .count - g
+μ-loop sheet fanins g₀ g-end g = sheet .count - g
 
 cast-print-signed : tie.Need-cast-print-signed Inv-loop μ-loop
 cast-print-signed c = search needs
