@@ -1,25 +1,18 @@
 -- Laws of what is promised of a plan: when input is good, and what a plan's steps and key are bounded by.
-use Prim.Native.Nat.{ℕ, suc, _+_, _≤_, _<_}
+use Prim.Native.Nat.{ℕ, _≤_}
 use native.Mathlib.Omega.{arith}
-use mathlib.Core.Path.{_≡_, ap, _∙_}
-use mathlib.Core.List.{List, _∷_}
+use mathlib.Core.Path.{_≡_}
+use mathlib.Core.List.{List}
 use lib.Dec.{T}
-use lib.ListN.{length, getD, take, drop, List·getD-map}
-use lib.Seq.{length-take-le, drop-cons, getD-take}
+use lib.ListN.{length, take}
+use lib.Seq.{length-take-le}
 use Rattle.lists.specs.Cases.{and-split}
-use Rattle.lists.specs.Lists.{Every, sum}
-use Rattle.lists.specs.NumberLaws.{upto-length}
 use Rattle.lists.specs.Tests.{within}
 use Rattle.lists.specs.TestLaws.{Reflects, reflects-le, reflects-map, reflects-and, reflects-all, reflects-within, by-either}
 use Rattle.cover.specs.declared.Key.{Key}
-use Rattle.cover.specs.declared.Token.{Token}
-use Rattle.cover.specs.declared.Step.{Step}
 use Rattle.cover.specs.declared.Plan.{Plan}
 use Rattle.cover.specs.Limits.{leastInputs, mostInputs, leastFanins, mostFanins, mostBelow, mostSteps}
-use Rattle.cover.specs.Entries.{Small, Fanin, Good}
-use Rattle.cover.specs.ReachBounds.{reach-below, reach-small}
-use Rattle.cover.specs.PlanBounds.{planned-length, Takes, planned-takes}
-use Rattle.cover.specs.Steps.{tokens}
+use Rattle.cover.specs.Entries.{Fanin, Good}
 use Rattle.cover.specs.PlanOf.{faninTest, goodInput, Answer, PlanOf}
 
 reflects-fanin : (K : ℕ) (a : Key) → Reflects (faninTest K a) (Fanin K a)
@@ -53,26 +46,5 @@ pub plan-answer : (K count : ℕ) (keys : List Key) {r : Plan} → length (take 
 plan-answer K count keys e g = by-either (reflects-good K count keys e) (λ h a. a) (λ n z. absurd (n g))
 
 module _ {K : ℕ} {ks : List Key} {r : Plan} (a : Answer K ks r) where
-  pub answer-length : length (tokens r) ≡ r .len
-  answer-length = omega (arith, planned-length (a .planned), upto-length (length ks), a .len)
-
-  -- the steps, one after the other
-  pub answer-step : (i : ℕ) (z : Step) → i < r .len →
-      drop i (tokens r) ≡ (getD (r .steps) i z) .token ∷ drop (suc i) (tokens r)
-  answer-step i z l =
-      let f : Step → Token = λ x. x .token in
-      drop-cons (tokens r) i (f z) (rw answer-length l) ∙
-      ap (λ t. t ∷ drop (suc i) (tokens r)) (List·getD-map f (take (r .len) (r .steps)) i z ∙ ap f (getD-take (r .len) (r .steps) i z l))
-
-  pub answer-takes : Every (Takes (length ks)) (tokens r)
-  answer-takes = planned-takes (a .planned)
-
   pub answer-most : Good K ks → r .len ≤ mostSteps
   answer-most g = omega (arith, a .len, g .count .1)
-
-  -- its key: from 1 to K inputs, and the tables below each fanin, and two for each but the first
-  pub answer-small : Good K ks → Small K (r .key)
-  answer-small g = reach-small (g .table .0) (g .keys) (g .count .1) (a .least .reach)
-
-  pub answer-below : r .key .below + 2 ≤ sum (λ x. x .below + 2) ks
-  answer-below = reach-below K (a .least .reach)

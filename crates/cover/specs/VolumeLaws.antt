@@ -1,11 +1,11 @@
 -- Laws of volumes. A join has at least its operands' volumes, so what a list of keys reaches has at least the sum of theirs.
 -- Of two keys with at least 2 inputs and at most K, the one with the lesser volume comes first. So a join whose volume is that
 -- sum is the best.
-use Prim.Native.Nat.{ℕ, _+_, _-_, _*_, _≤_, _<_}
+use Prim.Native.Nat.{ℕ, _+_, _-_, _*_, _≤_}
 use native.Mathlib.Nat.{mul-add, mul-le-mul, mul-le-mul-left}
 use native.Mathlib.Omega.{arith}
 use native.Mathlib.Decide.{decLt}
-use mathlib.Core.Path.{_≡_, ap}
+use mathlib.Core.Path.{ap}
 use mathlib.Core.Logic.{by-cases}
 use mathlib.Core.List.{List}
 use Rattle.lists.specs.Lists.{Every, sum}

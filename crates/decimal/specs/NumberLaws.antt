@@ -86,10 +86,6 @@ number-given (b ∷ bs) =
     (λ e. given-map (within-more (length bs)) (number bs) (number-given bs))
     (λ e. signed-given (b ∷ bs))
 
--- a number fits the columns that it was read from
-pub number-within : (bs : List ℕ) {n : Number} → number bs ≡ some n → Within (length bs) n
-number-within bs = given-some (Within (length bs)) (number-given bs)
-
 pub field-given : (bs : List ℕ) → Given (Within columns) (fieldNumber bs)
 field-given bs =
     by-eqb (λ t. Given (Within columns) (cond t (number bs) none)) (length bs) columns

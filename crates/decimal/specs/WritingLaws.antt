@@ -1,49 +1,21 @@
--- What a caller learns from the answer of a write, and when a number has room.
+-- A number that has room is written, and the buffer keeps its length.
 use Prim.Native.Nat.{ℕ, zero, suc, _+_, _-_, _^_, _≤_, _<_}
 use native.Mathlib.Omega.{arith}
 use mathlib.Core.Path.{_≡_, refl, sym, ap, ap₂, _∙_}
 use mathlib.Core.Bool.{Bool, true, false, cond, _&&_}
 use mathlib.Core.List.{List, _++_, append-assoc}
-use lib.Dec.{leb}
 use lib.ListN.{length, take, drop, length-append, length-drop}
-use lib.Seq.{length-take-le, take-at, drop-at}
+use lib.Seq.{length-take-le}
 use borrow.Author.Tests.{le-leb}
-use Rattle.lists.specs.TestLaws.{Reflects, reflects-le, reflects-and, reflects-true, by-reflects}
+use Rattle.lists.specs.TestLaws.{reflects-true}
 use Rattle.decimal.specs.Number.{Number, Within}
 use Rattle.decimal.specs.Columns.{room, fieldOf, signedRoom, signedFieldOf}
 use Rattle.decimal.specs.ColumnLaws.{reflects-room}
-use Rattle.decimal.specs.Writing.{outcome, fieldWritten, signedWritten, placed, fieldWrittenAt, signedWrittenAt}
-use Rattle.decimal.specs.declared.Written.the-variants.{Done, TooWide}
-
--- ---- from the answer
-
--- a number that was written had room; one that was not had none, and no byte was altered
-pub outcome-done : {b : Bool} {P : Type 0} {bytes : List ℕ} (new old : List ℕ) → Reflects b P →
-    record { answer = Done; bytes = bytes } ≡ outcome b new old → P × (bytes ≡ new)
-outcome-done {b} {P} {bytes} new old r =
-    by-reflects (λ c. record { answer = Done; bytes = bytes } ≡ outcome c new old → P × (bytes ≡ new)) r
-    (λ h e. (h, ap (λ o. o .bytes) e))
-    (λ h e. let no : _≡_ {A = ℕ} 0 1 = cc (ap (λ o. o .answer) e) in absurd (omega arith))
-
-pub outcome-wide : {b : Bool} {P : Type 0} {bytes : List ℕ} (new old : List ℕ) → Reflects b P →
-    record { answer = TooWide; bytes = bytes } ≡ outcome b new old → ¬ P × (bytes ≡ old)
-outcome-wide {b} {P} {bytes} new old r =
-    by-reflects (λ c. record { answer = TooWide; bytes = bytes } ≡ outcome c new old → ¬ P × (bytes ≡ old)) r
-    (λ h e. let no : _≡_ {A = ℕ} 0 1 = cc (ap (λ o. o .answer) e) in absurd (omega arith))
-    (λ h e. (h, ap (λ o. o .bytes) e))
-
-pub reflects-at : (old : List ℕ) (at width : ℕ) {b : Bool} {P : Type 0} → Reflects b P → Reflects (leb (at + width) (length old) && b) ((at + width ≤ length old) × P)
-reflects-at old at width = reflects-and (reflects-le (at + width) (length old))
-
--- ---- to the answer
+use Rattle.decimal.specs.Writing.{outcome, fieldWritten, placed, signedWrittenAt}
+use Rattle.decimal.specs.declared.Written.the-variants.{Done}
 
 pub written : (old : List ℕ) (n : ℕ) → 0 < length old → n < 10 ^ length old → fieldWritten old n ≡ record { answer = Done; bytes = fieldOf (length old) n }
 written old n p h = ap (λ b. outcome b (fieldOf (length old) n) old) (reflects-true (reflects-room (length old) n) (p, h))
-
-pub written-at : (old : List ℕ) (at width n : ℕ) → at + width ≤ length old → 0 < width → n < 10 ^ width →
-    fieldWrittenAt old at width n ≡ record { answer = Done; bytes = placed old at width (fieldOf width n) }
-written-at old at width n l p h =
-    ap (λ b. outcome b (placed old at width (fieldOf width n)) old) (reflects-true (reflects-at old at width (reflects-room width n)) (l, (p, h)))
 
 -- ---- with a sign
 
@@ -59,10 +31,6 @@ signed-room width n p h = by-sign (n .negative) (h .sign)
     by-sign true s =
         reflects-true (reflects-room (width - 1) (n .magnitude)) (some-column (width - 1) (n .magnitude) (s refl .0) (s refl .1), s refl .1)
 
-pub signed-written : (old : List ℕ) (n : Number) → 0 < length old → Within (length old) n →
-    signedWritten old n ≡ record { answer = Done; bytes = signedFieldOf (length old) n }
-signed-written old n p h = ap (λ b. outcome b (signedFieldOf (length old) n) old) (signed-room (length old) n p h)
-
 pub signed-written-at : (old : List ℕ) (at width : ℕ) (n : Number) → at + width ≤ length old → 0 < width → Within width n →
     signedWrittenAt old at width n ≡ record { answer = Done; bytes = placed old at width (signedFieldOf width n) }
 signed-written-at old at width n l p h =
@@ -73,17 +41,6 @@ signed-written-at old at width n l p h =
 module _ (old : List ℕ) (at width : ℕ) (field : List ℕ) (within : at + width ≤ length old) (whole : length field ≡ width) where
   up-to : length (take at old ++ field) ≡ at + width
   up-to = length-append (take at old) field ∙ ap₂ _+_ (length-take-le at old (omega arith)) whole
-
-  -- the bytes before the field and the field, and those after it
-  pub placed-take : take (at + width) (placed old at width field) ≡ take at old ++ field
-  placed-take =
-      ap (take (at + width)) (sym (append-assoc (take at old) field (drop (at + width) old)))
-      ∙ take-at (take at old ++ field) (drop (at + width) old) (at + width) up-to
-
-  pub placed-drop : drop (at + width) (placed old at width field) ≡ drop (at + width) old
-  placed-drop =
-      ap (drop (at + width)) (sym (append-assoc (take at old) field (drop (at + width) old)))
-      ∙ drop-at (take at old ++ field) (drop (at + width) old) (at + width) up-to
 
   pub placed-length : length (placed old at width field) ≡ length old
   placed-length =

@@ -24,7 +24,7 @@ use Rattle.part.specs.Adding.{readOf}
 use Rattle.part.specs.CountLaws.{least-number, not-refused}
 use Rattle.part.specs.Demands.{leastNumber}
 use Rattle.part.specs.Settled as Settled
-use Rattle.part.specs.Settled.{offered, answerOf}
+use Rattle.part.specs.Settled.{answerOf}
 use Rattle.part.specs.Promises.{reading, add-outcome, answer-settled, refused-stays}
 use Rattle.part.specs.Listing.{lineOf, listOf}
 use Rattle.listing.specs.Lines as Lines

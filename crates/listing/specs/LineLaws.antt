@@ -67,9 +67,6 @@ fields-next ns i h =
     ap (λ m. fieldsOf (take m ns)) (add-one i) ∙ ap fieldsOf (take-suc ns i 0 h)
     ∙ gather-append (fieldOf 6) (take i ns) (getD ns i 0 ∷ []) ∙ ap (λ l. fieldsOf (take i ns) ++ l) (append-nil (fieldOf 6 (getD ns i 0)))
 
-pub top-length : (k capacity used : ℕ) → length (topLine k capacity used) ≡ 19
-top-length k capacity used = refl
-
 -- THE LENGTH OF A TABLE'S LINE
 pub table-length : (t : ℕ) (r : Table) → length (tableLine t r) ≡ tableWidth r
 table-length t r = simp length-append (omega (arith, fields-length (reads r), field-length 21 (r .truth)))

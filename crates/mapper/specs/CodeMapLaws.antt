@@ -4,12 +4,11 @@ use native.Mathlib.Nat.{add-zero}
 use native.Mathlib.Numerals.{add-one}
 use native.Mathlib.Omega.{arith}
 use mathlib.Core.Path.{_≡_, refl, sym, ap, ap₂, _∙_, subst}
-use mathlib.Core.Bool.{Bool, true, false}
+use mathlib.Core.Bool.{false}
 use mathlib.Core.List.{List, [], _∷_, _++_, append-assoc, append-nil, map}
-use lib.Dec.{T}
-use lib.ListN.{length, getD, set, take, drop, length-map, length-set, length-take}
+use lib.ListN.{length, getD, set, take, drop, length-set, length-take}
 use lib.Seq.{getD-take, getD-drop, length-take-le, take-suc, take-suc-set, getD-set-same, getD-set-other}
-use Rattle.lists.specs.Lists.{Every, Sorted, upto}
+use Rattle.lists.specs.Lists.{Every, Sorted}
 use Rattle.lists.specs.Cases.{by-eqb}
 use Rattle.lists.specs.ListLaws.{every-none, every-head, every-left, every-right}
 use Rattle.lists.specs.NumberLaws.{sorted-sorted}
@@ -18,7 +17,6 @@ use Rattle.tree.specs.Limits.{codeBase}
 use Rattle.cover.specs.declared.Key.{Key}
 use Rattle.cover.specs.declared.Plan.{Plan}
 use Rattle.cover.specs.Key.{leaf-key}
-use Rattle.cover.specs.Entries.{Good as GoodKeys}
 use Rattle.cover.specs.PlanOf.{Answer, PlanOf}
 use Rattle.cover.specs.PlanOfLaws.{plan-answer, answer-most}
 use Rattle.cover.specs.Placed.{codes*}
@@ -38,16 +36,15 @@ use Rattle.sheet.specs.Sheet.{gateOf, faninGates}
 use Rattle.mapper.specs.declared.run.Run.{Run}
 use Rattle.mapper.specs.declared.run.Operands.{Operands}
 use Rattle.mapper.specs.declared.map.Held.{Held}
-use Rattle.mapper.specs.declared.map.MappedGate.{MappedGate}
 use Rattle.mapper.specs.declared.map.Mapping.{Mapping}
-use Rattle.mapper.specs.Run.{Operand, single}
+use Rattle.mapper.specs.Run.{single}
 use Rattle.mapper.specs.declared.Pending.{Pending}
-use Rattle.mapper.specs.Pendings.{operandOf, Kept, Neat}
-use Rattle.mapper.specs.CodeRun.{noTable, noPending, operandAt, faninsOf, Good, Runnable, Ran}
+use Rattle.mapper.specs.Pendings.{operandOf, Neat}
+use Rattle.mapper.specs.CodeRun.{noTable, noPending, operandAt, faninsOf, Runnable, Ran}
 use Rattle.mapper.specs.CodeRunLaws.{map-at, kept-count, fanin-count, record-neat, stored-all}
 use Rattle.mapper.specs.SafeLaws.{safe-planned}
-use Rattle.mapper.specs.Mapping.{Mapped as MappedOnList, unmapped, mappedAt, keyOf, keysOf, heldTable, sourceTable, operandsOf}
-use Rattle.mapper.specs.CodeMap.{leafOf, Begun, withFanin, keysIn, Mappable, GateMapped, HeldIs, noHeld, HeldAll, Reaches, Gathered, Gathering, Gathers, Staging, Staged}
+use Rattle.mapper.specs.Mapping.{Mapped as MappedOnList, mappedAt, keyOf, heldTable, sourceTable}
+use Rattle.mapper.specs.CodeMap.{leafOf, Begun, withFanin, keysIn, Mappable, GateMapped, noHeld, HeldAll, Reaches, Gathered, Gathering, Staging, Staged}
 
 -- ---- one gate
 

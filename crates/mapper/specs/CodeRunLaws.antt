@@ -2,7 +2,7 @@
 use Prim.Native.Nat.{ℕ, zero, suc, _+_, _-_, _<_, _≤_}
 use native.Mathlib.Numerals.{add-one}
 use native.Mathlib.Omega.{arith}
-use mathlib.Core.Path.{_≡_, refl, sym, ap, ap₂, _∙_, subst, subst₂}
+use mathlib.Core.Path.{_≡_, refl, sym, ap, ap₂, _∙_, subst}
 use mathlib.Core.Bool.{Bool, true, false}
 use mathlib.Core.List.{List, [], _∷_, _++_, map}
 use lib.ListN.{length, getD, set, take, drop, length-map, length-set, length-take}
@@ -26,9 +26,9 @@ use Rattle.cover.specs.declared.Token.{Token}
 use Rattle.cover.specs.declared.Token.the-variants.{Push, Join}
 use Rattle.mapper.specs.declared.run.Run.{Run}
 use Rattle.mapper.specs.declared.run.Operands.{Operands}
-use Rattle.mapper.specs.Run.{Operand, single, merged, merge, operand, tables, joinTop, step, run, SafeJoin, SafeStep, SafeRun}
+use Rattle.mapper.specs.Run.{Operand, single, merged, operand, tables, joinTop, step, run, SafeJoin, SafeStep, SafeRun}
 use Rattle.mapper.specs.SafeLaws.{merged-length}
-use Rattle.mapper.specs.Pendings.{operandOf, Kept, Neat, Mergeable}
+use Rattle.mapper.specs.Pendings.{operandOf, Kept, Neat}
 use Rattle.mapper.specs.CodeRun.{pushed, placedIf, noTable, noPending, operandAt, replaced, heldIf, leftOf, leftPlaced, rightOf, joined, Joins, stackOf, placedOf, stateOf, Holds, faninsOf, Good, Advances, Advanced, begun, Runnable, Ran, Following}
 
 -- ---- the code's steps

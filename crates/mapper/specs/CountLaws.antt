@@ -1,13 +1,13 @@
 -- How many tables a mapping stages: no more than leaves were read, since each gate is read at most once; and so few stand below a gate.
-use Prim.Native.Nat.{ℕ, zero, suc, _+_, _-_, _≤_, _<_}
+use Prim.Native.Nat.{ℕ, suc, _+_, _-_, _≤_}
 use native.Mathlib.Omega.{arith}
 use mathlib.Core.Path.{_≡_, refl, sym, ap, ap₂, _∙_, subst}
 use mathlib.Core.List.{List, [], _∷_, _++_, append-assoc}
 use lib.ListN.{length, getD, length-append}
 use lib.Seq.{getD-append-add}
-use Rattle.lists.specs.Lists.{_∈_, Every, Distinct, Permuted, Paired, no-pair, pair, gather, sum}
+use Rattle.lists.specs.Lists.{_∈_, Every, Distinct, Paired, no-pair, pair, gather, sum}
 use Rattle.lists.specs.ListLaws.{every-none, every-cons, every-head, every-tail, not-first, inserted-to, inserted-from, permuted-length}
-use Rattle.lists.specs.NumberLaws.{sum-inserted, sum-append, sum-le}
+use Rattle.lists.specs.NumberLaws.{sum-inserted, sum-le}
 use Rattle.cover.specs.Nets.{tables-most*}
 use Rattle.cover.specs.Size.{records-length*}
 use Rattle.cover.specs.Tables.{Table, numbered}
@@ -15,7 +15,6 @@ use Rattle.cover.specs.Eval.{numbered-length}
 use Rattle.tree.specs.Tree.{Node}
 use Rattle.sheet.specs.Sheet.{DrawnGate, from, leafNets, gatesRead}
 use Rattle.sheet.specs.NumberLaws.{drawn-out, in-from}
-use Rattle.sheet.specs.Trees.{treesOf}
 use Rattle.mapper.specs.Mapping.{Mapped, unmapped, mappedAt, leafCount, Stood, innerOf, Progress}
 
 gather-length : {A B : Type 0} (f : A → List B) (xs : List A) → length (gather f xs) ≡ sum (λ x. length (f x)) xs

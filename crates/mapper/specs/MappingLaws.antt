@@ -1,30 +1,29 @@
 -- A sheet mapped gate by gate has the tables of a least cover.
 use Prim.Native.Nat.{ℕ, zero, suc, _+_, _-_, _≤_, _<_}
 use native.Mathlib.Omega.{arith}
-use mathlib.Core.Path.{_≡_, refl, sym, ap, ap₂, _∙_, subst, subst₂}
-use mathlib.Core.Bool.{Bool, true, false}
-use mathlib.Core.List.{List, [], _∷_, _++_, append-assoc, append-nil, map}
+use mathlib.Core.Path.{_≡_, refl, sym, ap, ap₂, _∙_, subst}
+use mathlib.Core.Bool.{Bool, false}
+use mathlib.Core.List.{List, [], _∷_, _++_, append-assoc, append-nil}
 use lib.ListN.{length, getD, length-append, length-map, List·getD-append}
 use lib.Seq.{getD-append-add}
-use Rattle.lists.specs.Lists.{_∈_, Every, Distinct, Permuted, Paired, no-pair, pair, gather, upto, sum}
-use Rattle.lists.specs.ListLaws.{every-none, every-cons, every-head, every-tail, every-at, every-append, every-left, every-right, permuted-refl, permuted-sym, permuted-trans, permuted-append, permuted-swap, permuted-length, gather-append, gather-permuted, gather-same, interchange}
+use Rattle.lists.specs.Lists.{Every, Distinct, Permuted, Paired, no-pair, pair, gather, upto, sum}
+use Rattle.lists.specs.ListLaws.{every-none, every-cons, every-head, every-at, every-append, every-left, every-right, permuted-refl, permuted-sym, permuted-trans, permuted-append, permuted-swap, permuted-length, gather-append, gather-permuted, gather-same, interchange}
 use Rattle.lists.specs.MixLaws.{paired-append}
 use Rattle.lists.specs.NumberLaws.{sum-append, sum-same, sum-none}
 use Rattle.tree.specs.declared.Kind.{Kind}
-use Rattle.tree.specs.Tree.{Node, leaf, gate, Edges, none, edge, leaves, leaves*}
+use Rattle.tree.specs.Tree.{Node, leaf, gate, leaves, leaves*}
 use Rattle.cover.specs.declared.Key.{Key}
 use Rattle.cover.specs.declared.Token.{Token}
-use Rattle.cover.specs.Key.{leaf-key}
-use Rattle.cover.specs.Cover.{Cover, net, top, Fanins, tables, split}
-use Rattle.cover.specs.Nets.{nets*, split-nets, tables-most*}
+use Rattle.cover.specs.Cover.{Cover, net, top, tables, split}
+use Rattle.cover.specs.Nets.{split-nets, tables-most*}
 use Rattle.cover.specs.Tables.{Table, Placed, numbered}
 use Rattle.cover.specs.Eval.{numbered-append, numbered-length}
 use Rattle.cover.specs.Size.{records-length*}
 use Rattle.cover.specs.Least.{body-least}
-use Rattle.cover.specs.Placed.{tableOf, records*}
+use Rattle.cover.specs.Placed.{tableOf}
 use Rattle.cover.specs.Reach.{LeastReach, Best, at-leaf, Bests, at-end, at-edge}
 use Rattle.cover.specs.ReachLaws.{best-gate}
-use Rattle.cover.specs.Plans.{Planned, drawn, Standing, Ready, ready-none, ready-edge, Body}
+use Rattle.cover.specs.Plans.{Planned, drawn, Standing, Ready, ready-none, ready-edge}
 use Rattle.cover.specs.PlanLaws.{net-standing, body-standing, body-cover}
 use Rattle.cover.specs.Placings.{inner}
 use Rattle.sheet.specs.declared.Source.{Source}
@@ -34,9 +33,9 @@ use Rattle.sheet.specs.Sheet.{DrawnGate, DrawnSheet, from, netOf, gateOf, fanin
 use Rattle.sheet.specs.Trees.{nodeOf, edgesOf, treesOf, treeOf, drawn as drawnSheet}
 use Rattle.sheet.specs.Formed.{WellFormed}
 use Rattle.sheet.specs.TreeLaws.{without, from-end}
-use Rattle.cover.specs.Added.{Legal, Added, AddedLeast}
-use Rattle.mapper.specs.Run.{Operand, State, single, run}
-use Rattle.mapper.specs.Mapping.{Mapped, unmapped, mappedAt, leafCount, coverOf, Stood, keyOf, sourceCover, keysOf, coversOf, Low, Early, heldTable, innerOf, sourceTable, operandsOf, Progress, Next}
+use Rattle.cover.specs.Added.{Legal, AddedLeast}
+use Rattle.mapper.specs.Run.{single}
+use Rattle.mapper.specs.Mapping.{Mapped, unmapped, mappedAt, leafCount, Stood, keyOf, sourceCover, keysOf, coversOf, Low, heldTable, innerOf, sourceTable, operandsOf, Progress, Next}
 use Rattle.mapper.specs.CountLaws.{mapped-sums}
 use Rattle.mapper.specs.RunLaws.{single-is, Shows, Gated, gated}
 

@@ -6,19 +6,19 @@ use mathlib.Core.Path.{_≡_, refl, sym, ap, ap₂, _∙_, subst, subst₂}
 use mathlib.Core.Bool.{Bool, true, false}
 use mathlib.Core.List.{List, [], _∷_, _++_}
 use lib.ListN.{length, take, replicate, getD}
-use Rattle.lists.specs.Lists.{Every, Permuted, empty, more, here, there, Mix, neither, left, right, upto}
+use Rattle.lists.specs.Lists.{Every, empty, more, here, there, neither, left, right}
 use Rattle.lists.specs.ListLaws.{every-none, every-cons, every-head, every-tail}
 use Rattle.tree.specs.declared.Kind.{Kind}
 use Rattle.cover.specs.declared.Key.{Key}
 use Rattle.cover.specs.declared.Cuts.{Cuts}
 use Rattle.cover.specs.declared.Plan.{Plan}
 use Rattle.cover.specs.declared.Token.the-variants.{Push, Join}
-use Rattle.cover.specs.Key.{leaf-key, _≼_, join, cuts}
+use Rattle.cover.specs.Key.{_≼_, join, cuts}
 use Rattle.cover.specs.KeyLaws.{join-way, join-mono, join-comm}
 use Rattle.cover.specs.Entries.{Fanin, Small, Joinable}
-use Rattle.cover.specs.Reach.{Reach, one, both, LeastReach, Wide}
+use Rattle.cover.specs.Reach.{Reach, one, both, LeastReach}
 use Rattle.cover.specs.ReachLaws.{no-reach, least-single, reach-wide}
-use Rattle.cover.specs.Plans.{fanin, binary, Planned}
+use Rattle.cover.specs.Plans.{fanin, binary}
 use Rattle.cover.specs.PlanOf.{Answer}
 use Rattle.sheet.specs.declared.Source.{Source}
 use Rattle.sheet.specs.declared.Source.the-variants.{Net, Gate}
@@ -28,7 +28,6 @@ use Rattle.sheet.specs.Limits.{mostGates}
 use Rattle.sheet.specs.Answers.{drawnGate}
 use Rattle.sheet.specs.Sheet.{gateOf}
 use Rattle.mapper.specs.declared.run.Operands.{Operands}
-use Rattle.mapper.specs.declared.run.Run.{Run}
 use Rattle.mapper.specs.declared.map.Held.{Held}
 use Rattle.mapper.specs.declared.map.MappedGate.{MappedGate}
 use Rattle.mapper.specs.declared.map.Mapping.{Mapping}

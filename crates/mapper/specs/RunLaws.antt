@@ -1,28 +1,27 @@
 -- The run of a plan on tables follows the run of the plan on covers: each operand is the table of its fragment, and what is placed
 -- are the fragments' tables.
-use Prim.Native.Nat.{ℕ, zero, suc, _+_, _≤_, _<_, _^_}
+use Prim.Native.Nat.{ℕ, zero, suc, _+_, _≤_, _<_}
 use native.Mathlib.Omega.{arith}
 use mathlib.Core.Path.{_≡_, refl, sym, ap, ap₂, _∙_, subst, subst₂, fun-ext}
 use mathlib.Core.Bool.{Bool, true, false, cond}
-use mathlib.Core.List.{List, [], _∷_, _++_, append-assoc, append-nil, map}
-use lib.Dec.{eqb, eqb-refl}
+use mathlib.Core.List.{List, [], _∷_, _++_, append-assoc, append-nil}
 use lib.ListN.{length, getD, length-append}
 use Rattle.lists.specs.Cases.{by-eqb}
-use Rattle.lists.specs.Lists.{_∈_, Every, Permuted, sorted, Sorted, upto, gather}
+use Rattle.lists.specs.Lists.{Permuted, sorted, upto, gather}
 use Rattle.lists.specs.ListLaws.{every-none, every-cons, every-head, every-append, permuted-sym, permuted-trans, permuted-append, permuted-to, permuted-from}
 use Rattle.lists.specs.NumberLaws.{sorted-permuted, sorted-sorted, sorted-only}
 use Rattle.tree.specs.declared.Kind.{Kind}
 use Rattle.tree.specs.declared.Kind.the-variants.{And as and, Or as or}
 use Rattle.tree.specs.Tree.{Edges, turned, meet, unit}
-use Rattle.cover.specs.Bits.{bit, truthOf, digit, place as placeIn}
-use Rattle.cover.specs.Cover.{Cover, net, top, Fanins, end, old, new, pick}
-use Rattle.cover.specs.Tables.{Table, output, tabled, Placed, numbered}
+use Rattle.cover.specs.Bits.{bit, digit}
+use Rattle.cover.specs.Cover.{Cover, net, top, Fanins, end, new, pick}
+use Rattle.cover.specs.Tables.{Table, output, tabled, numbered}
 use Rattle.cover.specs.Eval.{Agree, tabled-output, numbered-append}
 use Rattle.cover.specs.Placed.{code, codes, codes*, held, held*, tableOf, records*}
 use Rattle.cover.specs.Value.{held-same, held-same*}
 use Rattle.cover.specs.declared.Key.{Key}
 use Rattle.cover.specs.declared.Token.{Token}
-use Rattle.cover.specs.declared.Token.the-variants.{Push as push, Join as join}
+use Rattle.cover.specs.declared.Token.the-variants.{Join as join}
 use Rattle.cover.specs.Key.{Taken, held as kept, cut, Way}
 use Rattle.cover.specs.Plans.{Denotes, fanin, binary, Planned, Fragment, drawn, made, marked, place, Says, Runs, stop, pushed, joined, Ready, ready-none, ready-edge, Body}
 use Rattle.cover.specs.Fragments.{Stands, as-drawn, as-made, ready-names, stands-join}

@@ -1,21 +1,21 @@
 -- The run of a plan has room: a plan of ten fanins at most, whose tables have six inputs at most.
-use Prim.Native.Nat.{ℕ, suc, _+_, _*_, _-_, _≤_, _<_}
+use Prim.Native.Nat.{ℕ, _+_, _*_, _-_, _≤_, _<_}
 use native.Mathlib.Omega.{arith}
-use mathlib.Core.Path.{_≡_, refl, sym, ap, _∙_, subst}
+use mathlib.Core.Path.{_≡_, refl, sym, ap, _∙_}
 use mathlib.Core.Bool.{Bool, true, false}
 use mathlib.Core.List.{List, [], _∷_, _++_, append-assoc, append-nil}
 use lib.ListN.{length, getD, length-append}
-use Rattle.lists.specs.Lists.{Permuted, sorted, upto}
+use Rattle.lists.specs.Lists.{upto}
 use Rattle.lists.specs.ListLaws.{permuted-length}
 use Rattle.lists.specs.NumberLaws.{sorted-permuted, upto-length}
 use Rattle.tree.specs.declared.Kind.{Kind}
 use Rattle.cover.specs.declared.Key.{Key}
 use Rattle.cover.specs.declared.Token.{Token}
-use Rattle.cover.specs.declared.Token.the-variants.{Push as push, Join as join}
-use Rattle.cover.specs.Key.{leaf-key, Taken, held, cut, Way}
+use Rattle.cover.specs.declared.Token.the-variants.{Join as join}
+use Rattle.cover.specs.Key.{leaf-key, Taken, held, cut}
 use Rattle.cover.specs.Tables.{Table}
 use Rattle.cover.specs.Plans.{Denotes, fanin, binary, Planned}
-use Rattle.mapper.specs.Run.{Operand, single, merged, merge, State, operand, tables, SafeRun}
+use Rattle.mapper.specs.Run.{Operand, single, merged, merge, operand, tables, SafeRun}
 
 pub merged-length : (k : Kind) (x y : Operand) → length (merged k x y .inputs) ≡ length (x .table .inputs) + length (y .table .inputs)
 unfolding merged

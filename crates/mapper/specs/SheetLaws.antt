@@ -4,20 +4,16 @@ use native.Mathlib.Numerals.{add-one}
 use native.Mathlib.Omega.{arith}
 use mathlib.Core.Path.{_≡_, refl, sym, ap, ap₂, _∙_, subst}
 use mathlib.Core.Bool.{Bool, true, false}
-use mathlib.Core.List.{List, [], _∷_, _++_, append-nil, map}
-use lib.ListN.{List·getD-append, length, getD, set, take, drop, length-map, length-set, length-take, length-append, length-replicate, replicate, take-append-drop}
+use mathlib.Core.List.{List, [], _∷_, _++_, map}
+use lib.ListN.{List·getD-append, length, getD, set, take, drop, length-map, length-set, length-append, length-replicate, replicate, take-append-drop}
 use lib.Seq.{take-length, getD-append-add, getD-take, length-take-le, take-suc, take-suc-set, getD-set-same, getD-set-other}
 use Rattle.lists.specs.Cases.{by-eqb}
-use Rattle.lists.specs.Lists.{_∈_, Every, Distinct, gather, sorted, Sorted, upto}
-use Rattle.lists.specs.ListLaws.{every-none, every-cons, every-head, every-tail, every-append, every-left, every-right, every-at, permuted-length, gather-append}
+use Rattle.lists.specs.Lists.{Every, Distinct, gather, sorted, upto}
+use Rattle.lists.specs.ListLaws.{every-none, every-cons, every-head, every-append, every-left, every-right, every-at, permuted-length, gather-append}
 use Rattle.lists.specs.NumberLaws.{sorted-permuted}
-use Rattle.tree.specs.declared.Kind.{Kind}
 use Rattle.tree.specs.declared.Kind.the-variants.{And}
-use Rattle.tree.specs.Limits.{greatestNet, codeBase}
-use Rattle.cover.specs.declared.Key.{Key}
-use Rattle.cover.specs.Key.{leaf-key}
-use Rattle.cover.specs.Limits.{mostBelow, mostFanins}
-use Rattle.cover.specs.Entries.{Small, Fanin, Good as GoodKeys}
+use Rattle.tree.specs.Limits.{codeBase}
+use Rattle.cover.specs.Entries.{Small, Fanin}
 use Rattle.cover.specs.Reach.{LeastReach}
 use Rattle.cover.specs.ReachBounds.{reach-small}
 use Rattle.cover.specs.Plans.{Planned}
@@ -29,9 +25,9 @@ use Rattle.cover.specs.Tables.{Table as LookupTable}
 use Rattle.sheet.specs.declared.Source.{Source}
 use Rattle.sheet.specs.declared.Source.the-variants.{Net, Gate}
 use Rattle.sheet.specs.declared.Edge.{Edge}
-use Rattle.sheet.specs.Limits.{mostGates, mostLeaves}
+use Rattle.sheet.specs.Limits.{mostGates}
 use Rattle.sheet.specs.Sheet.{DrawnGate, DrawnSheet, gateOf, faninNets, faninGates, leafNets, gatesRead}
-use Rattle.sheet.specs.Trees.{treesOf, drawn}
+use Rattle.sheet.specs.Trees.{drawn}
 use Rattle.sheet.specs.TreeLaws.{drawn-legal, leaves-count}
 use Rattle.sheet.specs.declared.Sheet.{Sheet}
 use Rattle.sheet.specs.declared.Gate.{Gate as SheetGate}
@@ -44,15 +40,14 @@ use Rattle.table.specs.Records.{tableOf, recordOf}
 use Rattle.table.specs.RecordLaws.{read-back}
 use Rattle.table.specs.RuleLaws.{map-append}
 use Rattle.mapper.specs.CodeRunLaws.{map-at, stack-length, placed-length}
-use Rattle.mapper.specs.declared.run.Run.{Run}
 use Rattle.mapper.specs.declared.run.Operands.{Operands}
 use Rattle.mapper.specs.declared.map.Held.{Held}
 use Rattle.mapper.specs.declared.map.MappedGate.{MappedGate}
 use Rattle.mapper.specs.declared.map.Mapping.{Mapping}
 use Rattle.mapper.specs.Run.{run}
-use Rattle.mapper.specs.Pendings.{operandOf, Kept, Neat}
-use Rattle.mapper.specs.CodeRun.{noTable, noPending, operandAt, stackOf, placedOf, stateOf, begun, faninsOf}
-use Rattle.mapper.specs.Mapping.{Mapped, unmapped, mappedAt, keyOf, keysOf, heldTable, operandsOf, Progress, Next}
+use Rattle.mapper.specs.Pendings.{operandOf, Kept}
+use Rattle.mapper.specs.CodeRun.{noTable, operandAt, stackOf, placedOf, stateOf, begun}
+use Rattle.mapper.specs.Mapping.{Mapped, unmapped, mappedAt, keyOf, keysOf, heldTable, Progress, Next}
 use Rattle.mapper.specs.CodeMap.{keysIn, Mappable, GateMapped, HeldIs, noHeld, HeldAll, Gathered, Gathering, Staged, Reaches, Gathers, tablesIn, Sheetable, SheetMapped, Going, flipped, driving, rooted}
 use Rattle.mapper.specs.MappingLaws.{source-standing, mapping-start, mapping-next, mapping-added, done-count}
 use Rattle.mapper.specs.Merging.{Tabled}

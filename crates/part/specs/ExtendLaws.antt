@@ -5,7 +5,7 @@ use mathlib.Core.Path.{_≡_, refl, sym, ap, ap₂, _∙_, subst}
 use mathlib.Core.Logic.{_⊎_, inl, inr, _≢_, ⊎-elim}
 use mathlib.Core.List.{List, [], _∷_, _++_, map, Memᴰ·append-right}
 use lib.ListN.{length, take, drop, replicate, length-append, length-map, length-drop, length-replicate}
-use lib.Seq.{length-take-le, take-append-seam, drop-append-seam, take-at, drop-at, drop-drop}
+use lib.Seq.{length-take-le, drop-append-seam, take-at, drop-at, drop-drop}
 use Rattle.lists.specs.Lists.{_∈_, first, later, Every}
 use Rattle.lists.specs.ListLaws.{every-none, every-cons, every-head, every-tail, every-append}
 use Rattle.cover.specs.Tables.{Table as LookupTable, Placed, numbered}

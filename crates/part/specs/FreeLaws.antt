@@ -1,6 +1,6 @@
 -- In a sound part the values of all nets are settled by those of the free nets, which no table drives: whatever else a setting says
 -- makes no difference.
-use Prim.Native.Nat.{ℕ, zero, suc, _+_, _≤_, _<_}
+use Prim.Native.Nat.{ℕ, suc, _+_, _≤_, _<_}
 use native.Mathlib.Omega.{arith}
 use mathlib.Core.Path.{_≡_, refl, sym, ap, ap₂, _∙_, subst}
 use mathlib.Core.Logic.{_⊎_, inl, inr, ⊎-elim}
@@ -10,11 +10,11 @@ use Rattle.lists.specs.Cases.{by-eqb}
 use Rattle.lists.specs.Lists.{_∈_, first, later, Every}
 use Rattle.lists.specs.ListLaws.{not-first, every-head, every-tail}
 use Rattle.cover.specs.Bits.{bit, index}
-use Rattle.cover.specs.Tables.{Table as LookupTable, output, Placed, numbered, driven, put, writes, step, run, settled}
+use Rattle.cover.specs.Tables.{Table as LookupTable, output, Placed, numbered, put, writes, step, run, settled}
 use Rattle.cover.specs.Eval.{in-driven, driven-in, numbered-is}
 use Rattle.table.specs.Limits.{tableBase}
 use Rattle.table.specs.Records.{tableOf}
-use Rattle.table.specs.Rules.{IsNet, NamesTable, places, Rules}
+use Rattle.table.specs.Rules.{IsNet, places, Rules}
 use Rattle.part.specs.Parts.{inUse, tablesOf}
 use Rattle.part.specs.Sound.{Sound}
 use Rattle.part.specs.AddLaws.{Driven}

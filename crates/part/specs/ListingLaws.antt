@@ -135,12 +135,6 @@ top-fits p h =
     every-cons (omega (arith, h .k-range .1)) (every-cons (omega (arith, h .capacity-range .1))
     (every-cons (omega (arith, h .used-fits, h .capacity-range .1)) (every-none _)))
 
-pub table-fits : (p : Part) → Shaped p → Sound p → (t : ℕ) → t < p .used → (r : Table) → r ≡ getD (p .tables) t blank →
-    Every (λ n. n < 10 ^ 6) (suc t ∷ r .net ∷ r .count ∷ reads r) × (r .truth < 10 ^ 21)
-table-fits p shape h t l r e =
-    let s = subst Small (sym e) (small-at p shape h t l) in
-    (every-cons (omega (arith, l, h .used-fits, h .capacity-range .1)) (every-cons (omega (arith, s .net)) (every-cons (omega (arith, s .count)) (s .inputs))), truth-small r s)
-
 -- the numbers below n
 upto-below : (n : ℕ) → Every (λ t. t < n) (upto n)
 upto-below zero = every-none _

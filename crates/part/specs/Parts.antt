@@ -1,6 +1,5 @@
 -- The records that a part has in use, and which tables they are.
 -- Definitions only.
-use Prim.Native.Nat.{ℕ}
 use mathlib.Core.Path.{_≡_}
 use mathlib.Core.List.{List, map}
 use lib.ListN.{length, take, replicate}

@@ -13,7 +13,7 @@ use Rattle.lists.specs.Tests.{either}
 use Rattle.lists.specs.TestLaws.{reflects-le, by-reflects}
 use Rattle.tree.specs.declared.Kind.{Kind}
 use Rattle.tree.specs.Tree.{Node, Edges}
-use Rattle.cover.specs.Cover.{Cover, net, top, Fanins, end, old, new, pick, arity, frontier, tables, tables*, width, widths, Fits, Fits*, SplitOf, same, split, Matched, done, match, Rooted, rooted, CoverOf, Least}
+use Rattle.cover.specs.Cover.{Cover, net, top, Fanins, end, old, new, pick, arity, frontier, tables, tables*, width, widths, Fits, Fits*, SplitOf, split, Matched, done, match, Rooted, rooted, CoverOf, Least}
 use Rattle.cover.specs.Nets.{nets, nets*, split-nets}
 use Rattle.cover.specs.Tables.{Table as LookupTable, Placed, numbered}
 use Rattle.cover.specs.Eval.{numbered-append}

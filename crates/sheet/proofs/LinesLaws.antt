@@ -6,9 +6,9 @@ use native.Mathlib.Numerals.{add-one}
 use mathlib.Core.Path.{_≡_, refl, sym, ap, ap₂, _∙_, subst}
 use mathlib.Core.Bool.{Bool, true, false}
 use mathlib.Core.Option.{Option, none, some}
-use mathlib.Core.List.{List, [], _∷_, _++_, map, map-append, append-assoc, append-nil}
+use mathlib.Core.List.{List, [], _∷_, _++_, append-assoc, append-nil}
 use lib.ListN.{length, getD, take, drop, set, replicate, length-set, length-take, length-drop, length-map, List·getD-map, drop-of-length-le}
-use lib.Seq.{drop-cons, take-suc-set, getD-drop, getD-take, length-take-le}
+use lib.Seq.{drop-cons, getD-drop, getD-take, length-take-le}
 use Rattle.lists.specs.ListLaws.{every-none}
 use Rattle.tree.specs.declared.Kind.{Kind}
 use Rattle.decimal.specs.Number.{Number}

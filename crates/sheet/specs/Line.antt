@@ -1,10 +1,10 @@
 -- A text's first line, and the fields of a line. Definitions only.
 use Prim.Native.Nat.{ℕ, zero, suc}
-use mathlib.Core.Bool.{true, false, cond}
+use mathlib.Core.Bool.{true, false}
 use mathlib.Core.Option.{Option, none, some}
 use mathlib.Core.List.{List, [], _∷_}
 use lib.Dec.{eqb}
-use lib.ListN.{length, take, drop}
+use lib.ListN.{take, drop}
 use Rattle.decimal.specs.Number.{Number, columns, fieldNumber}
 use Rattle.sheet.specs.Limits.{mostFields}
 

@@ -1,12 +1,10 @@
 -- How a record reads as a lookup table.
 -- Definitions only.
 use Prim.Native.Nat.{ℕ, _-_}
-use mathlib.Core.Path.{_≡_}
-use mathlib.Core.List.{List, _++_, map}
+use mathlib.Core.List.{List, _++_}
 use lib.ListN.{length, take, replicate}
-use Rattle.lists.specs.Lists.{Every}
 use Rattle.cover.specs.Tables.{Table as LookupTable}
-use Rattle.table.specs.Limits.{inputRoom, tableRoom}
+use Rattle.table.specs.Limits.{inputRoom}
 use Rattle.table.specs.declared.Table.{Table}
 
 -- the inputs in use: the first u

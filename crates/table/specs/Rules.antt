@@ -8,7 +8,7 @@ use lib.ListN.{length, take, drop}
 use Rattle.lists.specs.Lists.{_∈_, Every, Rising}
 use Rattle.tree.specs.Limits.{greatestNet}
 use Rattle.cover.specs.Tables.{Placed, numbered}
-use Rattle.table.specs.Limits.{tableBase, KRange, CapacityRange}
+use Rattle.table.specs.Limits.{tableBase}
 use Rattle.table.specs.Records.{reads, tableOf}
 use Rattle.table.specs.declared.Table.{Table}
 

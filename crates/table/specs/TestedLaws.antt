@@ -1,14 +1,13 @@
 -- The tests of RecordTest say what Sound says: of a run of records the first bad one is found, and a part that passes is sound.
 use Prim.Native.Nat.{ℕ, suc, _+_, _≤_}
 use native.Mathlib.Omega.{arith}
-use mathlib.Core.Path.{_≡_, refl, sym, subst}
+use mathlib.Core.Path.{_≡_, refl, subst}
 use mathlib.Core.Logic.{inl, inr, ⊎-elim}
 use mathlib.Core.Bool.{cond, _&&_}
 use mathlib.Core.List.{List, [], _∷_, _++_, append-assoc, append-nil}
-use lib.Dec.{T, ltb, eqb}
-use lib.ListN.{length, take, drop, length-append, length-take, take-append-drop}
+use lib.Dec.{ltb, eqb}
+use lib.ListN.{length, take, drop, length-append, take-append-drop}
 use lib.Seq.{take-append-le, take-append-add}
-use Rattle.lists.specs.Lists.{Every}
 use Rattle.lists.specs.ListLaws.{every-none}
 use Rattle.lists.specs.Tests.{within}
 use Rattle.lists.specs.TestLaws.{Reflects, reflects-le, reflects-lt, reflects-eq, reflects-map, reflects-not, reflects-and, reflects-or, reflects-all, reflects-elem, reflects-pairwise, reflects-within, by-reflects}

@@ -3,7 +3,6 @@ use lib.ListN.{replicate}
 use borrow.Author.Needs.{needs}
 use Rattle.table.specs.Limits.{tableRoom}
 use Rattle.part.specs.Parts.{blanks}
-use Rattle.part.specs.declared.Part.{Part}
 use Rattle.part.proofs.empty.Statement.{statement}
 use Rattle.part.proofs.empty.Tie as tie
 

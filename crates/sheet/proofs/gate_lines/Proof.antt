@@ -3,7 +3,7 @@
 use Prim.Native.Nat.{_+_, _-_, _≤_, _<_}
 use native.Mathlib.Omega.{arith}
 use borrow.Author.Needs.{needs}
-use mathlib.Core.Path.{_≡_, refl, sym, ap, _∙_, subst}
+use mathlib.Core.Path.{_≡_, refl, sym, ap, subst}
 use lib.ListN.{length, getD, drop, replicate}
 use Rattle.sheet.specs.declared.GateLine.{GateLine}
 use Rattle.sheet.specs.declared.Lines.{Lines}

@@ -1,11 +1,10 @@
 use Prim.Native.Nat.{ℕ, _+_, _-_, _<_, _≤_}
 use native.Mathlib.Omega.{arith}
-use mathlib.Core.Path.{_≡_, sym, ap, _∙_, subst}
+use mathlib.Core.Path.{_≡_, ap, _∙_, subst}
 use mathlib.Core.List.{List}
-use lib.ListN.{length, getD, drop, length-map, length-take, length-drop}
+use lib.ListN.{length, getD, drop, length-take, length-drop}
 use borrow.Author.Needs.{needs}
 use Rattle.sheet.specs.declared.Source.the-variants.{Gate}
-use Rattle.sheet.proofs.Edge.{the-field}
 use Rattle.sheet.specs.declared.Edge.{Edge}
 use Rattle.sheet.specs.Limits.{mostGates, faninRoom}
 use Rattle.sheet.specs.Answers.{drawnGate}
