@@ -1,4 +1,4 @@
 mod NumberLaws
-mod SignLaws
+pub mod SignLaws
 mod WriteLaws
 mod PlaceLaws

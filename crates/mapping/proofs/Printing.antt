@@ -4,8 +4,8 @@ use native.Mathlib.Omega.{arith}
 use mathlib.Core.Path.{_≡_, refl, sym, ap, _∙_}
 use mathlib.Core.Bool.{true, cond}
 use mathlib.Core.List.{List, [], _∷_, _++_}
-use borrow.Author.Tests.{le-leb, lt-leb, lt-ltb}
-use lib.IntN.{pos, negsuc, _-ℤ_}
+use borrow.Author.Tests.{le-leb, lt-leb}
+use lib.IntN.{pos, _-ℤ_}
 use lib.ListN.{length, set}
 use mir.Syntax.{w32}
 use mir.Val.{SFits, toZ, ofZ}
@@ -17,6 +17,7 @@ use Rattle.decimal.specs.Columns.{fieldOf, signedFieldOf}
 use Rattle.decimal.specs.Reading.{numberOf}
 use Rattle.decimal.specs.Writing as writing
 use Rattle.decimal.specs.WritingLaws.{signed-written-at}
+use Rattle.decimal.proofs.SignLaws.{minus-bits, negated-fits}
 use Rattle.decimal.specs.declared.Written.{Written}
 use Rattle.part.specs.Sound.{Sound}
 use Rattle.part.specs.SoundLaws.{sound-reflects}
@@ -65,19 +66,12 @@ minus n = record { negative = true; magnitude = n }
 pub byte-fits : (n : ℕ) → n < 256 → SFits w32 (pos n)
 byte-fits n h = record { sfits = omega arith }
 
-minus-bits : (n : ℕ) → suc n < 256 → pos 0 -ℤ toZ w32 (suc n) ≡ negsuc n
-minus-bits n h = rw (toZ-ofZ (byte-fits (suc n) h)) (rw (lt-ltb 0 (suc n) (omega arith)) (ap negsuc (omega arith)))
-
-minus-fits : (n : ℕ) → suc n < 256 → SFits w32 (negsuc n)
-minus-fits n h = record { sfits = omega arith }
-
-pub minus-held : (n : ℕ) → 0 < n → n < 256 → SFits w32 (pos 0 -ℤ toZ w32 n)
-minus-held zero s h = absurd (omega arith)
-minus-held (suc n) s h = rw (minus-bits n h) (minus-fits n h)
+pub minus-held : (n : ℕ) → n < 256 → SFits w32 (pos 0 -ℤ toZ w32 n)
+minus-held n h = rw (minus-bits n (byte-fits n h)) (negated-fits n (byte-fits n h))
 
 pub minus-number : (n : ℕ) → 0 < n → n < 256 → numberOf (toZ w32 (ofZ w32 (pos 0 -ℤ toZ w32 n))) ≡ minus n
 minus-number zero s h = absurd (omega arith)
-minus-number (suc n) s h = rw (minus-bits n h) (ap numberOf (toZ-ofZ (minus-fits n h)))
+minus-number (suc n) s h = rw (minus-bits (suc n) (byte-fits (suc n) h)) (ap numberOf (toZ-ofZ (negated-fits (suc n) (byte-fits (suc n) h))))
 
 module _ (old : List ℕ) (number sheet place : ℕ) where
   pub refusal-out : length old < 19 → turnedDown 14 old ≡ fitted old 0 (refusalLine number sheet place)

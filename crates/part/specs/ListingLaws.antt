@@ -8,7 +8,7 @@ use mathlib.Core.List.{List, [], _∷_, _++_, append-assoc, map, Memᴰ·map, Me
 use lib.ListN.{length, drop, getD, length-take, length-drop, take-append-drop}
 use lib.Seq.{getD-take, ext-getD, length-take-le}
 use Rattle.lists.specs.Lists.{_∈_, first, later, Every, gather, upto}
-use Rattle.lists.specs.ListLaws.{every-none, every-cons, every-head, every-tail}
+use Rattle.lists.specs.ListLaws.{every-none, every-at, every-cons, every-head, every-tail}
 use Rattle.tree.specs.Limits.{greatestNet}
 use Rattle.decimal.specs.Columns.{fieldOf, fieldsOf}
 use Rattle.decimal.specs.ColumnLaws.{field-only, fields-only}
@@ -119,15 +119,10 @@ small p shape h r m = record {
 }
 
 -- record t, of the records in use
-getD-in : {A : Type 0} (xs : List A) (i : ℕ) (z : A) → i < length xs → getD xs i z ∈ xs
-getD-in [] i z h = absurd (omega arith)
-getD-in (x ∷ xs) zero z h = first refl
-getD-in (x ∷ xs) (suc i) z h = later (getD-in xs i z (omega arith))
-
 small-at : (p : Part) → Shaped p → Sound p → (t : ℕ) → t < p .used → Small (getD (p .tables) t blank)
 small-at p shape h t l =
     let i : t < length (inUse p) = omega (arith, l, used-count p shape h) in
-    rw (getD-take (p .used) (p .tables) t blank l) at (small p shape h (getD (inUse p) t blank) (getD-in (inUse p) t blank i))
+    rw (getD-take (p .used) (p .tables) t blank l) at (every-at {P = Small} (inUse p) t blank (small p shape h) i)
 
 -- EVERY LINE OF A SOUND PART FITS ITS COLUMNS: line 0, and the line of table t + 1
 pub top-fits : (p : Part) → Sound p → Every (λ n. n < 10 ^ 6) (p .k ∷ p .capacity ∷ p .used ∷ [])

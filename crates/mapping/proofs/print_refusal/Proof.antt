@@ -15,7 +15,7 @@ cast-write-signed-at : tie.Need-cast-write-signed-at
 cast-write-signed-at c = search needs
 
 sub-write-signed-at : tie.Need-sub-write-signed-at
-sub-write-signed-at c = minus-held (c .before .before .before .args .number) (omega arith) (omega arith)
+sub-write-signed-at c = minus-held (c .before .before .before .args .number) (omega arith)
 
 write-signed-at-requires : tie.Need-write-signed-at-requires
 write-signed-at-requires c κs = search needs
