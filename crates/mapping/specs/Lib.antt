@@ -1,6 +1,7 @@
 pub mod Program
 pub mod ProgramLaws
 pub mod OpeningLaws
+pub mod OpeningLine
 pub mod FrontLaws
 pub mod ChainLaws
 pub mod Examples

@@ -30,7 +30,8 @@ both none y = none
 both (some x) none = none
 both (some x) (some y) = some (x, y)
 
--- a line feed is no part of a number, so where both fields hold one, no line feed stands before the byte 12
+-- a line feed is no part of a number, so where both fields hold one, no line feed stands before the byte 12: this is a line of two
+-- fields as a sheet's first line is one (OpeningLine)
 abbrev pub openingNumbers : List ℕ → Option (Number × Number)
 openingNumbers input = cond (eqb (getD input 12 0) 10) (both (fieldNumber (take columns input)) (fieldNumber (take columns (drop columns input)))) none
 
