@@ -32,8 +32,8 @@ use Rattle.mapper.specs.Pendings.{Kept, Neat}
 use Rattle.mapper.specs.Merging.{invertedOf}
 use Rattle.mapper.specs.Mapping.{Mapped, unmapped, keysOf, heldTable, operandsOf, Progress}
 use Rattle.mapper.specs.declared.run.Operands.{Operands}
-use Rattle.mapper.specs.declared.map.Held.{Held}
-use Rattle.mapper.specs.declared.map.MappedGate.{MappedGate}
+use Rattle.mapper.specs.declared.Held.{Held}
+use Rattle.mapper.specs.declared.gate.MappedGate.{MappedGate}
 use Rattle.mapper.specs.Run.{single, run}
 use Rattle.mapper.specs.CodeRun.{noTable, noPending, operandAt, faninsOf, Good, begun, stateOf, Holds}
 use mathlib.Core.List.{List, _++_, map}

@@ -35,7 +35,7 @@ use Rattle.sheet.specs.Answers.{drawnGate}
 use Rattle.sheet.specs.Sheet.{gateOf, faninGates}
 use Rattle.mapper.specs.declared.run.Run.{Run}
 use Rattle.mapper.specs.declared.run.Operands.{Operands}
-use Rattle.mapper.specs.declared.map.Held.{Held}
+use Rattle.mapper.specs.declared.Held.{Held}
 use Rattle.mapper.specs.declared.map.Mapping.{Mapping}
 use Rattle.mapper.specs.Run.{single}
 use Rattle.mapper.specs.declared.Pending.{Pending}

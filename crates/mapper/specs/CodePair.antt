@@ -13,8 +13,8 @@ use Rattle.table.specs.Records.{recordOf}
 use Rattle.mapper.specs.declared.Pending.{Pending}
 use Rattle.mapper.specs.declared.run.Operands.{Operands}
 use Rattle.mapper.specs.declared.run.Run.{Run}
-use Rattle.mapper.specs.declared.map.Held.{Held}
-use Rattle.mapper.specs.declared.map.MappedPair.{MappedPair}
+use Rattle.mapper.specs.declared.Held.{Held}
+use Rattle.mapper.specs.declared.pair.MappedPair.{MappedPair}
 use Rattle.mapper.specs.Run.{merged}
 use Rattle.mapper.specs.Pendings.{operandOf}
 use Rattle.mapper.specs.CodeRun.{noTable, noPending, pushed, heldIf}

@@ -28,8 +28,8 @@ use Rattle.sheet.specs.Limits.{mostGates}
 use Rattle.sheet.specs.Answers.{drawnGate}
 use Rattle.sheet.specs.Sheet.{gateOf}
 use Rattle.mapper.specs.declared.run.Operands.{Operands}
-use Rattle.mapper.specs.declared.map.Held.{Held}
-use Rattle.mapper.specs.declared.map.MappedGate.{MappedGate}
+use Rattle.mapper.specs.declared.Held.{Held}
+use Rattle.mapper.specs.declared.gate.MappedGate.{MappedGate}
 use Rattle.mapper.specs.declared.map.Mapping.{Mapping}
 use Rattle.mapper.specs.declared.Pending.{Pending}
 use Rattle.mapper.specs.Run.{merged}

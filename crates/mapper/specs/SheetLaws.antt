@@ -41,8 +41,8 @@ use Rattle.table.specs.RecordLaws.{read-back}
 use Rattle.table.specs.RuleLaws.{map-append}
 use Rattle.mapper.specs.CodeRunLaws.{map-at, stack-length, placed-length}
 use Rattle.mapper.specs.declared.run.Operands.{Operands}
-use Rattle.mapper.specs.declared.map.Held.{Held}
-use Rattle.mapper.specs.declared.map.MappedGate.{MappedGate}
+use Rattle.mapper.specs.declared.Held.{Held}
+use Rattle.mapper.specs.declared.gate.MappedGate.{MappedGate}
 use Rattle.mapper.specs.declared.map.Mapping.{Mapping}
 use Rattle.mapper.specs.Run.{run}
 use Rattle.mapper.specs.Pendings.{operandOf, Kept}

@@ -13,8 +13,8 @@ use Rattle.sheet.specs.declared.Gate.{Gate}
 use Rattle.sheet.specs.Answers.{drawnGate, drawnSheet}
 use Rattle.mapper.specs.CodeMap.{noHeld, Reaches, Gathers, Mappable, GateMapped, Staging, Staged, Going}
 use Rattle.mapper.specs.declared.run.Operands.{Operands}
-use Rattle.mapper.specs.declared.map.Held.{Held}
-use Rattle.mapper.specs.declared.map.MappedGate.{MappedGate}
+use Rattle.mapper.specs.declared.Held.{Held}
+use Rattle.mapper.specs.declared.gate.MappedGate.{MappedGate}
 use Rattle.mapper.specs.declared.map.Mapping.{Mapping}
 use Rattle.mapper.specs.CodePair.{readAs, pairOf, stagedOf}
 use Rattle.mapper.specs.CodeMapLaws.{staging-start, staging-next, staging-end}

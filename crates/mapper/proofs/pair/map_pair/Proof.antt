@@ -6,8 +6,8 @@ use Rattle.mapper.specs.Pendings.{Mergeable}
 use Rattle.mapper.specs.CodeRun.{heldIf}
 use Rattle.mapper.specs.CodePair.{pendingOf, keyIn, countIf}
 use Rattle.mapper.specs.PairLaws.{pair-joinable, pair-mergeable, pair-by}
-use Rattle.mapper.proofs.map.map_pair.Statement.{statement}
-use Rattle.mapper.proofs.map.map_pair.Tie as tie
+use Rattle.mapper.proofs.pair.map_pair.Statement.{statement}
+use Rattle.mapper.proofs.pair.map_pair.Tie as tie
 
 key-of-requires : tie.Need-key-of-requires
 key-of-requires c κs = search needs

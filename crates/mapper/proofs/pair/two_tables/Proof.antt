@@ -1,5 +1,5 @@
-use Rattle.mapper.proofs.map.two_tables.Statement.{statement}
-use Rattle.mapper.proofs.map.two_tables.Tie as tie
+use Rattle.mapper.proofs.pair.two_tables.Statement.{statement}
+use Rattle.mapper.proofs.pair.two_tables.Tie as tie
 
 returns : tie.Need-returns
 returns c = rw (c .if1 .taken)

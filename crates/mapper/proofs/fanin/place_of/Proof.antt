@@ -7,8 +7,8 @@ use Rattle.sheet.specs.Sheet.{gateOf}
 use Rattle.mapper.specs.CodePair.{placeIn}
 use Rattle.lists.specs.ListLaws.{every-head}
 use borrow.Author.Needs.{needs}
-use Rattle.mapper.proofs.map.place_of.Statement.{statement}
-use Rattle.mapper.proofs.map.place_of.Tie as tie
+use Rattle.mapper.proofs.fanin.place_of.Statement.{statement}
+use Rattle.mapper.proofs.fanin.place_of.Tie as tie
 
 enum-told : tie.Need-enum-told
 enum-told c = search needs

@@ -1,7 +1,7 @@
 use mathlib.Core.Path.{ap}
 use borrow.Author.Needs.{needs}
-use Rattle.mapper.proofs.map.leaf.Statement.{statement}
-use Rattle.mapper.proofs.map.leaf.Tie as tie
+use Rattle.mapper.proofs.fanin.leaf.Statement.{statement}
+use Rattle.mapper.proofs.fanin.leaf.Tie as tie
 
 single-requires : tie.Need-single-requires
 single-requires c κs = search needs

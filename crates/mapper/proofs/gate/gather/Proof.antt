@@ -10,8 +10,8 @@ use Rattle.sheet.specs.Limits.{mostGates, faninRoom}
 use Rattle.sheet.specs.Answers.{drawnGate}
 use Rattle.mapper.specs.CodeMap.{withFanin, Gathering}
 use Rattle.mapper.specs.CodeMapLaws.{noEdge, gathering-start, gather-net, gather-gate, gate-reached}
-use Rattle.mapper.proofs.map.gather.Statement.{statement}
-use Rattle.mapper.proofs.map.gather.Tie as tie
+use Rattle.mapper.proofs.gate.gather.Statement.{statement}
+use Rattle.mapper.proofs.gate.gather.Tie as tie
 
 abbrev Inv-loop : tie.InvT-loop
 Inv-loop gate fanins held count o₀ i₀ o i = Gathering (drawnGate fanins gate .fanins) held i o

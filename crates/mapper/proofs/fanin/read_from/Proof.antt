@@ -1,6 +1,6 @@
 use borrow.Author.Needs.{needs}
-use Rattle.mapper.proofs.map.read_from.Statement.{statement}
-use Rattle.mapper.proofs.map.read_from.Tie as tie
+use Rattle.mapper.proofs.fanin.read_from.Statement.{statement}
+use Rattle.mapper.proofs.fanin.read_from.Tie as tie
 
 enum-known-source : tie.Need-enum-known-source
 enum-known-source c = search needs

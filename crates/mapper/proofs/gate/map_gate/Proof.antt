@@ -1,8 +1,8 @@
 use mathlib.Core.Path.{ap}
 use Rattle.mapper.specs.CodeMapLaws.{gate-answer, gate-runnable, gate-mapped}
 use borrow.Author.Needs.{needs}
-use Rattle.mapper.proofs.map.map_gate.Statement.{statement}
-use Rattle.mapper.proofs.map.map_gate.Tie as tie
+use Rattle.mapper.proofs.gate.map_gate.Statement.{statement}
+use Rattle.mapper.proofs.gate.map_gate.Tie as tie
 
 best-plan-requires : tie.Need-best-plan-requires
 best-plan-requires c κs = search needs
