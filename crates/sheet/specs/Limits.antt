@@ -1,5 +1,5 @@
 -- The numbers that a sheet is held to. Definitions only.
-use Prim.Native.Nat.{ℕ}
+use Prim.Native.Nat.{ℕ, _+_}
 use Rattle.tree.specs.Limits.{codeBase}
 
 -- the most fields of a line
@@ -23,6 +23,6 @@ mostFanins = 10
 abbrev pub mostLeaves : ℕ
 mostLeaves = 256
 
--- room for the fanins of all gates of a sheet
+-- room for the fanins of all gates of a sheet: each reads a leaf, or a gate, that no other reads
 abbrev pub faninRoom : ℕ
-faninRoom = 512
+faninRoom = mostLeaves + mostGates + 1

@@ -24,8 +24,8 @@ pub const MOST_FANINS: usize = 10;
 // The most leaves of a sheet.
 pub const MOST_LEAVES: u16 = 256;
 
-// Room for the fanins of all gates of a sheet: each reads a leaf or a gate that no other reads.
-pub const FANIN_ROOM: usize = 512;
+// Room for the fanins of all gates of a sheet: each reads a leaf, or a gate, that no other reads.
+pub const FANIN_ROOM: usize = MOST_LEAVES as usize + MOST_GATES + 1;
 
 // How many numbers have a flag: all that a fanin may be written as, and those below.
 const CODES: usize = tree::CODE_BASE as usize + MOST_GATES + 1;
