@@ -1,10 +1,8 @@
 -- Mapping a sheet. First on lists: Run (the run of a gate's plan on tables) and Mapping (a sheet gate by gate); their laws are RunLaws,
--- SafeLaws, CountLaws and MappingLaws. Then what the code does, as that: Pendings, Merging, CodeRun, CodePair (a gate of two fanins) and
--- CodeMap, which has THE PROMISE OF THE MAPPING, `SheetMapped`; their laws are MergeLaws, CodeRunLaws, CodeMapLaws, PairLaws and SheetLaws.
+-- SafeLaws, CountLaws and MappingLaws. Then what the code does, as that: CodeRun, CodePair (a gate of two fanins) and CodeMap, which has
+-- THE PROMISE OF THE MAPPING, `SheetMapped`; their laws are CodeRunLaws, CodeMapLaws, PairLaws and SheetLaws.
 pub mod Run
 pub mod Mapping
-pub mod Pendings
-pub mod Merging
 pub mod CodeRun
 pub mod CodeMap
 pub mod CodePair
@@ -12,7 +10,6 @@ pub mod RunLaws
 pub mod SafeLaws
 pub mod CountLaws
 pub mod MappingLaws
-pub mod MergeLaws
 pub mod CodeRunLaws
 pub mod CodeMapLaws
 pub mod PairLaws

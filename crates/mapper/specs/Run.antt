@@ -7,24 +7,10 @@ use lib.ListN.{length, getD}
 use Rattle.lists.specs.Lists.{sorted}
 use Rattle.tree.specs.declared.Kind.{Kind}
 use Rattle.tree.specs.Tree.{turned, meet}
-use Rattle.cover.specs.Tables.{Table, output, tabled}
+use Rattle.cover.specs.Tables.{Table}
+use Rattle.merge.specs.Operands.{Operand, single, merged}
 use Rattle.cover.specs.declared.Token.{Token}
 use Rattle.cover.specs.declared.Token.the-variants.{Push as push, Join as join}
-
--- a table that is not placed, and whether it is read inverted
-pub record Operand : Type 0 where
-  pub inverted : Bool
-  pub table : Table
-
--- the table that has the value of one code
-abbrev pub single : ℕ → Table
-single c = record { drives = 0; inputs = c ∷ []; truth = 2 }
-
--- the table that holds a gate of two fanins
-unfoldable pub merged : Kind → Operand → Operand → Table
-merged k x y =
-    tabled 0 (sorted (x .table .inputs ++ y .table .inputs))
-    (λ e. meet k (turned (x .inverted) (output (x .table) e)) (turned (y .inverted) (output (y .table) e)))
 
 abbrev pub merge : Kind → Operand → Operand → Operand
 merge k x y = record { inverted = false; table = merged k x y }

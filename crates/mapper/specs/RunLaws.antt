@@ -28,7 +28,8 @@ use Rattle.cover.specs.Fragments.{Stands, as-drawn, as-made, ready-names, stand
 use Rattle.cover.specs.PlanLaws.{runs-append, plan-body}
 use Rattle.cover.specs.Placings.{inner, inside, own, placings, plan-placed}
 use Rattle.mapper.specs.Mapping.{Low, Early}
-use Rattle.mapper.specs.Run.{Operand, single, merged, merge, State, operand, tables, step, run}
+use Rattle.merge.specs.Operands.{Operand, single, merged}
+use Rattle.mapper.specs.Run.{merge, State, operand, tables, step, run}
 
 meet-unit-right : (k : Kind) (b : Bool) → meet k b (unit k) ≡ b
 meet-unit-right and true = refl

@@ -15,7 +15,8 @@ use Rattle.cover.specs.declared.Token.the-variants.{Join as join}
 use Rattle.cover.specs.Key.{leaf-key, Taken, held, cut}
 use Rattle.cover.specs.Tables.{Table}
 use Rattle.cover.specs.Plans.{Denotes, fanin, binary, Planned}
-use Rattle.mapper.specs.Run.{Operand, single, merged, merge, operand, tables, SafeRun}
+use Rattle.merge.specs.Operands.{Operand, single, merged}
+use Rattle.mapper.specs.Run.{merge, operand, tables, SafeRun}
 
 pub merged-length : (k : Kind) (x y : Operand) → length (merged k x y .inputs) ≡ length (x .table .inputs) + length (y .table .inputs)
 unfolding merged

@@ -7,8 +7,8 @@ ghost use Rattle.sheet.specs.Sheet.{gateOf};
 ghost use Rattle.mapper.specs.CodeMap.{leafOf};
 ghost use Rattle.mapper.specs.CodePair.{placeIn, readAs, keyIn};
 use crate::Held;
-use crate::merge::single;
 use cover::Key;
+use merge::single;
 use sheet::Source;
 
 // A net as a fanin.

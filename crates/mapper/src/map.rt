@@ -2,16 +2,16 @@
 ghost use mathlib.Core.Path.{_≡_};
 ghost use Prim.Native.Nat.{_+_, _≤_};
 ghost use Rattle.mapper.specs.CodeMap.{Staged, Sheetable, SheetMapped, flipped, driving};
-ghost use Rattle.mapper.specs.Merging.{Tabled};
+ghost use Rattle.merge.specs.Merging.{Tabled};
 use crate::fanin::leaf;
 use crate::fanin::place_of;
 use crate::fanin::read_from;
 use crate::gate::fanin_count;
 use crate::gate::gather;
 use crate::gate::map_gate;
-use crate::merge::inverted;
 use crate::pair::map_pair;
 use crate::run::Run;
+use merge::inverted;
 use sheet::Sheet;
 use table::Table;
 

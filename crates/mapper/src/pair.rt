@@ -4,12 +4,12 @@ ghost use Prim.Native.Nat.{_≤_};
 ghost use Rattle.mapper.specs.CodeMap.{Mappable};
 ghost use Rattle.mapper.specs.CodePair.{countIf, twoTables, pairOf, pairMapped};
 use crate::Held;
-use crate::Pending;
 use crate::fanin::key_of;
-use crate::merge::merge;
 use crate::run::hold;
 use cover::cuts_of;
 use cover::join;
+use merge::Pending;
+use merge::merge;
 use table::Table;
 use tree::Kind;
 

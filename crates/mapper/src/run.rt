@@ -2,12 +2,12 @@
 ghost use mathlib.Core.Path.{_≡_};
 ghost use Prim.Native.Nat.{_+_, _<_, _≤_};
 ghost use Rattle.mapper.specs.CodeRun.{pushed, placedIf, operandAt, replaced, heldIf, joined, Joins, Holds, Advances, Advanced, Runnable, Ran};
-use crate::Pending;
-use crate::merge::merge;
-use crate::merge::single;
 use cover::Key;
 use cover::Plan;
 use cover::Token;
+use merge::Pending;
+use merge::merge;
+use merge::single;
 use table::Table;
 use tree::Kind;
 

@@ -1,0 +1,81 @@
+-- `merge::merge` meets its contract: the laws of the whole are in MergeLaws. Assumes nothing.
+use mathlib.Core.Path.{_≡_}
+use lib.ListN.{length}
+use native.Mathlib.Omega.{arith}
+use Rattle.table.specs.Limits.{inputRoom}
+use Rattle.merge.specs.MergeLaws.{ordered-right, ordered-shape, inputs-room, merged-is}
+use borrow.Author.Needs.{needs}
+use Rattle.merge.proofs.merge.Statement.{statement}
+use Rattle.merge.proofs.merge.Tie as tie
+
+-- the left operand has room for six inputs
+shape : (c : tie.Start) → length (c .args .x .table .inputs) ≡ inputRoom
+shape c = search needs
+
+-- where the function starts
+abbrev start : tie.After-union → tie.Start
+start c = c .before .before .before .before .before .before .before .before
+
+cast-n : tie.Need-cast-n
+cast-n c = search needs
+
+cast-m : tie.Need-cast-m
+cast-m c = search needs
+
+union-requires : tie.Need-union-requires
+union-requires c κs =
+    let s = c .before .before .before .before .before .before .before in
+    (s .pre .fits, record { fits = omega (arith, s .pre .fits); shape = shape s }, ordered-right (s .pre))
+
+add-count : tie.Need-add-count
+add-count c = search needs
+
+values-requires : tie.Need-values-requires
+values-requires c κs = search needs
+
+turn-requires : tie.Need-turn-requires
+turn-requires c κs = search needs
+
+values-requires-2 : tie.Need-values-requires-2
+values-requires-2 c κs =
+    let u = c .before .before .before .before .before .before in
+    let s = start u in
+    (record { fits = s .pre .kept .fits; shape = ordered-shape (ordered-right (s .pre)) }, inputs-room (s .args .x) (s .args .y) (s .pre) (shape s) _ (u .union .ensures))
+
+turn-requires-2 : tie.Need-turn-requires-2
+turn-requires-2 c κs = search needs
+
+cast-t22 : tie.Need-cast-t22
+cast-t22 c = search needs
+
+meet-requires : tie.Need-meet-requires
+meet-requires c κs = search needs
+
+ones-requires : tie.Need-ones-requires
+ones-requires c κs = search needs
+
+returns : tie.Need-returns
+returns c =
+    let v = c .before .before .before in
+    let w = v .before .before .before .before in
+    let u = w .before .before .before in
+    let s = start u in
+    rw (c .ones .ensures)
+    (merged-is (s .args .x) (s .args .y) (s .pre) (shape s) _ (u .union .ensures) (s .args .kind) (w .values .ensures) (v .values2 .ensures) (v .before .before .before .turn .ensures) (c .before .before .turn2 .ensures) (c .before .meet .ensures))
+
+pub merge-spec : {M : Type 1} → statement M
+merge-spec =
+    tie.close
+    (tie.spec
+    cast-n
+    cast-m
+    union-requires
+    add-count
+    values-requires
+    turn-requires
+    values-requires-2
+    turn-requires-2
+    cast-t22
+    meet-requires
+    ones-requires
+    returns)

@@ -1,0 +1,28 @@
+-- The code's pending tables as operands of a plan's run. Definitions only.
+use Prim.Native.Nat.{_+_, _≤_}
+use mathlib.Core.Path.{_≡_}
+use Rattle.lists.specs.Lists.{Sorted}
+use Rattle.table.specs.declared.Table.{Table}
+use Rattle.table.specs.Limits.{inputRoom}
+use Rattle.table.specs.Records.{reads, tableOf, recordOf}
+use Rattle.merge.specs.declared.Pending.{Pending}
+use Rattle.merge.specs.Operands.{Operand}
+
+abbrev pub operandOf : Pending → Operand
+operandOf x = record { inverted = x .inverted; table = tableOf (x .table) }
+
+-- the record is that of its table: its unused inputs are zero, and it has no more inputs than there is room for
+pub record Kept (r : Table) : Type 0 where
+  pub fits : r .count ≤ inputRoom
+  pub padded : r ≡ recordOf (tableOf r)
+
+-- and its inputs are in order
+pub record Neat (r : Table) : Type 0 where
+  pub kept : Kept r
+  pub sorted : Sorted (reads r)
+
+-- two pending tables that fit into one
+pub record Mergeable (x y : Pending) : Type 0 where
+  pub fits : x .table .count + y .table .count ≤ inputRoom
+  pub kept : Kept (y .table)
+  pub sorted : Sorted (reads (y .table))
