@@ -4,9 +4,7 @@ use Prim.Native.Nat.{ℕ, suc, _+_, _≤_, _<_}
 use mathlib.Core.Bool.{Bool, true, false}
 use mathlib.Core.List.{List, [], _∷_, _++_}
 use lib.ListN.{length, getD}
-use Rattle.lists.specs.Lists.{sorted}
 use Rattle.tree.specs.declared.Kind.{Kind}
-use Rattle.tree.specs.Tree.{turned, meet}
 use Rattle.cover.specs.Tables.{Table}
 use Rattle.merge.specs.Operands.{Operand, single, merged}
 use Rattle.cover.specs.declared.Token.{Token}

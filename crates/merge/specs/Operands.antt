@@ -1,7 +1,7 @@
 -- Tables that are not placed yet, and what two of them are merged into. Definitions only: the laws are in MergeLaws.
 use Prim.Native.Nat.{ℕ}
 use mathlib.Core.Bool.{Bool}
-use mathlib.Core.List.{List, [], _∷_, _++_}
+use mathlib.Core.List.{[], _∷_, _++_}
 use Rattle.lists.specs.Lists.{sorted}
 use Rattle.tree.specs.declared.Kind.{Kind}
 use Rattle.tree.specs.Tree.{turned, meet}
