@@ -1,14 +1,14 @@
-"""The expected output of the program table_test: the first bad record of a run, as the user's scope paper (01, "Part") has it. The rules
+"""The expected output of the program records_test: the first bad record of a run, as the user's scope paper (01, "Part") has it. The rules
 are those of model.py.
 
-Run: python3 tests/part/runs.py > crates/table_test/stdout
+Run: python3 tests/part/runs.py > crates/records_test/stdout
 """
 
 import pathlib
 
 from model import Record, keeps_rules, opened
 
-CRATE = pathlib.Path(__file__).parents[2] / "crates/table_test"
+CRATE = pathlib.Path(__file__).parents[2] / "crates/records_test"
 
 
 def first_bad(k, capacity, tables):

@@ -6,9 +6,7 @@ pub mod LoopLaws
 pub mod RecordTest
 pub mod SeenTest
 pub mod RecordLaws
-pub mod RunTest
 pub mod RuleLaws
 pub mod TestedLaws
 pub mod SeenLaws
 pub mod WalkLaws
-pub mod RunLaws

@@ -1,7 +1,6 @@
 // Lookup tables as records of a part.
 pub mod inputs;
 pub mod rules;
-pub mod run;
 
 ghost use mathlib.Core.Path.{_≡_};
 ghost use Prim.Native.Nat.{min};

@@ -1,0 +1,2 @@
+mod LendPrefix
+mod ByValue

@@ -1,0 +1,2 @@
+pub mod RunTest
+pub mod RunLaws

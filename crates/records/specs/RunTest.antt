@@ -1,0 +1,45 @@
+-- The test of a run of records as a walk makes it, by what is kept of the records passed, and what its answer says.
+-- Definitions only: RunLaws has the proof that the walk finds what RecordTest says.
+use Prim.Native.Nat.{ℕ, _+_}
+use mathlib.Core.Bool.{true, false, cond, _&&_}
+use lib.Dec.{ltb, eqb}
+use Rattle.lists.specs.Tests.{within}
+use Rattle.table.specs.Limits.{inputRoom, tableRoom}
+use Rattle.table.specs.RecordTest.{Verdict, none, bad, refused}
+use Rattle.table.specs.SeenTest.{noneSeen, seenAfter, keepsIn}
+use Rattle.table.specs.declared.Table.{Table}
+use Rattle.table.specs.declared.rules.Seen.{Seen}
+use Rattle.records.specs.declared.Walk.{Walk}
+use Rattle.records.specs.declared.Found.{Found}
+use Rattle.records.specs.declared.Found.the-variants.{Nothing, At, KOutOfRange, CapacityOutOfRange}
+
+-- what the answer says, with 01's numbers
+abbrev pub verdictOf : Found → Verdict
+verdictOf Nothing = none
+verdictOf (At n) = bad n
+verdictOf KOutOfRange = refused 2
+verdictOf CapacityOutOfRange = refused 3
+
+abbrev pub stoppedOf : ℕ → Walk
+stoppedOf number = record { seen = noneSeen; at = 0; going = false; bad = false; k = 0; capacity = 0; refusal = number }
+
+abbrev pub startOf : ℕ → ℕ → ℕ → Walk
+startOf n k capacity = record { seen = noneSeen; at = 0; going = ltb 0 n; bad = false; k = k; capacity = capacity; refusal = 0 }
+
+abbrev pub beginOf : ℕ → ℕ → ℕ → Walk
+beginOf n k capacity = cond (within 2 inputRoom k) (cond (within 1 tableRoom capacity) (startOf n k capacity) (stoppedOf 3)) (stoppedOf 2)
+
+-- past a good record, and past a bad one
+abbrev pub onOf : Seen → ℕ → ℕ → ℕ → ℕ → ℕ → Walk
+onOf s at n k capacity refusal = record { seen = s; at = at + 1; going = ltb (at + 1) n; bad = false; k = k; capacity = capacity; refusal = refusal }
+
+abbrev pub badOf : Seen → ℕ → ℕ → ℕ → ℕ → Walk
+badOf s at k capacity refusal = record { seen = s; at = at + 1; going = false; bad = true; k = k; capacity = capacity; refusal = refusal }
+
+abbrev pub stepOf : Walk → Table → ℕ → Walk
+stepOf w t n =
+    cond (ltb (w .at) (w .capacity) && keepsIn (w .k) (w .seen) t) (onOf (seenAfter (w .seen) t) (w .at) n (w .k) (w .capacity) (w .refusal))
+    (badOf (w .seen) (w .at) (w .k) (w .capacity) (w .refusal))
+
+abbrev pub finishOf : Walk → Found
+finishOf w = cond (eqb (w .refusal) 2) KOutOfRange (cond (eqb (w .refusal) 3) CapacityOutOfRange (cond (w .bad) (At (w .at)) Nothing))
