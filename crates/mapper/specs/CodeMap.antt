@@ -97,8 +97,8 @@ abbrev pub HeldAll : List Mapped → List Held → Type 0
 HeldAll done hs = (j : ℕ) → j < length done → HeldIs (getD hs j noHeld) (getD done j unmapped)
 
 -- it has so many fanins among those of its sheet, whatever they are
-abbrev pub Counted : Gate → ℕ → Type 0
-Counted x n = (fs : List Edge) → length fs ≡ faninRoom → n ≡ length (drawnGate fs x .fanins)
+abbrev pub FaninsCounted : Gate → ℕ → Type 0
+FaninsCounted x n = (fs : List Edge) → length fs ≡ faninRoom → n ≡ length (drawnGate fs x .fanins)
 
 -- it has at most ten, and the gates that they read are in the array
 pub record Reaches (fs : List Edge) (x : Gate) : Type 0 where

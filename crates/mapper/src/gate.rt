@@ -1,7 +1,7 @@
 // Mapping a gate of any number of fanins.
 ghost use mathlib.Core.Path.{_≡_};
 ghost use Prim.Native.Nat.{_<_};
-ghost use Rattle.mapper.specs.CodeMap.{Begun, withFanin, Mappable, GateMapped, Counted, Reaches, Gathers};
+ghost use Rattle.mapper.specs.CodeMap.{Begun, withFanin, Mappable, GateMapped, FaninsCounted, Reaches, Gathers};
 use crate::Held;
 use crate::fanin::leaf;
 use crate::run::Operands;
@@ -15,19 +15,13 @@ use sheet::Edge;
 use sheet::FANIN_ROOM;
 use sheet::Gate;
 use sheet::Source;
-use table::Table;
 use tree::Kind;
 
 // No fanins.
 fn no_operands() -> Operands
     ensures { λ r. ⌜ Begun r ⌝ }
 {
-    let table = Table {
-        net: 0,
-        count: 0,
-        inputs: [0; 6],
-        truth: 0,
-    };
+    let table = table::blank();
     let none = Pending {
         inverted: false,
         table,
@@ -61,7 +55,7 @@ fn with_fanin(operands: Operands, inverted: bool, held: Held) -> Operands
 
 // How many fanins a gate has: those that its sheet has room for.
 pub fn fanin_count(gate: Gate) -> usize
-    ensures { λ r. ⌜ Counted gate r ⌝ }
+    ensures { λ r. ⌜ FaninsCounted gate r ⌝ }
 {
     let first = gate.first as usize;
     if FANIN_ROOM < first {

@@ -13,6 +13,8 @@ use Rattle.lists.specs.ListLaws.{every-none, every-cons, every-head, every-tail
 use Rattle.lists.specs.Cases.{by-eqb, by-leb}
 use Rattle.decimal.specs.Number.{Number, isDigit, digits, natural, unsigned, negated, signed, number, columns, fieldNumber}
 use Rattle.sheet.specs.Line.{after, line, with, cells, fields}
+use Rattle.sheet.specs.Limits.{mostFields}
+use Rattle.sheet.specs.SizeLaws.{fields-filled}
 use Rattle.sheet.specs.CutLaws.{line-step, line-cut}
 use Rattle.mapping.specs.Program.{both, openingNumbers}
 use Rattle.mapping.specs.OpeningLaws.{two-numbers}
@@ -84,25 +86,16 @@ with-some none p e = no-some e
 with-some (some y) none e = no-some e
 with-some (some y) (some ys) e = (cc, cc)
 
-with-none : (o : Option Number) (p : Option (List Number)) → with o p ≡ some [] → ⊥
-with-none none p e = no-some e
-with-none (some y) none e = no-some e
-with-none (some y) (some ys) e = let z : _≡_ {A = ℕ} 0 1 = cc in omega arith
-
 cells-some : (n : ℕ) (bs : List ℕ) {x : Number} {xs : List Number} → cells (suc n) bs ≡ some (x ∷ xs) →
     (fieldNumber (take columns bs) ≡ some x) × (cells n (drop columns bs) ≡ some xs)
 cells-some n [] e = let z : _≡_ {A = ℕ} 0 1 = cc in absurd (omega arith)
 cells-some n (b ∷ bs) e = with-some (fieldNumber (take columns (b ∷ bs))) (cells n (drop columns (b ∷ bs))) e
 
-cells-end : (n : ℕ) (bs : List ℕ) → cells (suc n) bs ≡ some [] → bs ≡ []
-cells-end n [] e = refl
-cells-end n (b ∷ bs) e = absurd (with-none (fieldNumber (take columns (b ∷ bs))) (cells n (drop columns (b ∷ bs))) e)
-
-fields-cells : (bs : List ℕ) {xs : List Number} → fields bs ≡ some xs → cells 12 bs ≡ some xs
+fields-cells : (bs : List ℕ) {xs : List Number} → fields bs ≡ some xs → cells mostFields bs ≡ some xs
 fields-cells [] e = no-some e
 fields-cells (b ∷ bs) e = e
 
-cells-fields : (bs : List ℕ) → 0 < length bs → fields bs ≡ cells 12 bs
+cells-fields : (bs : List ℕ) → 0 < length bs → fields bs ≡ cells mostFields bs
 cells-fields [] l = absurd (omega arith)
 cells-fields (b ∷ bs) l = refl
 
@@ -163,8 +156,7 @@ module _ (input : List ℕ) (x y : Number) where
       let b = cells-some 10 (drop columns bytes) (a .1) in
       let la = field-is (take columns bytes) (a .0) .0 in
       let lb = field-is (take columns (drop columns bytes)) (b .0) .0 in
-      let none-left = ap length (cells-end 9 (drop columns (drop columns bytes)) (b .1)) in
-      let long : length bytes ≡ 12 = omega (arith, la, lb, none-left, length-take columns bytes, length-take columns (drop columns bytes), length-drop columns bytes, length-drop columns (drop columns bytes)) in (
+      let long : length bytes ≡ 12 = omega (arith, la, lb, fields-filled bytes (x ∷ y ∷ []) f, length-take columns bytes, length-take columns (drop columns bytes), length-drop columns bytes) in (
         two-numbers input
             (ap (λ l. getD l 12 0) cut ∙ getD-at bytes 10 rest 0 12 long)
             (ap (λ l. fieldNumber (take columns l)) cut ∙ (ap fieldNumber (take-append-le columns bytes (10 ∷ rest) (omega (arith, long))) ∙ a .0))

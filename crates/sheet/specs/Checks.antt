@@ -16,11 +16,13 @@ use Rattle.sheet.specs.Line.{fields}
 use Rattle.sheet.specs.declared.Source.{Source}
 use Rattle.sheet.specs.declared.Source.the-variants.{Net as net, Gate as gate}
 use Rattle.sheet.specs.declared.Edge.{Edge as Fanin}
+use Rattle.sheet.specs.declared.Sheet.{Sheet}
 use Rattle.sheet.specs.Sheet.{DrawnSheet, Outcome, sheet, refused}
 use Rattle.sheet.specs.Step.{_>>=_, require, given}
 use Rattle.sheet.specs.Read.{readSheet}
 use Rattle.sheet.specs.Cut.{sheetText}
 use Rattle.sheet.specs.Trees.{treeOf}
+use Rattle.sheet.specs.Answers.{drawnSheet}
 
 -- of ASCII text
 abbrev pub bytes : String → List ℕ
@@ -95,6 +97,24 @@ firstSheet = record {
 
 abbrev secondSheet : DrawnSheet
 secondSheet = record { out = 21; inverted = true; gates = record { kind = and; fanins = up (net 20) ∷ down (net 5) ∷ [] } ∷ [] }
+
+-- the first as the code stores it, with what stands past the counts
+abbrev firstStored : Sheet
+firstStored = record {
+  out = 20;
+  inverted = false;
+  count = 3;
+  gates =
+      record { kind = or; count = 2; first = 0 }
+      ∷ record { kind = or; count = 2; first = 2 }
+      ∷ record { kind = and; count = 2; first = 4 }
+      ∷ record { kind = and; count = 0; first = 0 }
+      ∷ [];
+  fanins = up (net 1) ∷ up (net 2) ∷ up (net 3) ∷ up (net 4) ∷ up (gate 1) ∷ up (gate 2) ∷ up (net 0) ∷ [];
+}
+
+pub first-drawn : drawnSheet firstStored ≡ firstSheet
+first-drawn = refl
 
 pub first-cut : sheetText (bytes first ++ bytes second) ≡ (bytes first, bytes second)
 unfolding _>>=_ require given

@@ -19,7 +19,7 @@ Inv-loop gate fanins held count o₀ i₀ o i = Gathering (drawnGate fanins gate
 abbrev μ-loop : tie.MeasureT-loop
 μ-loop gate fanins held count o₀ i₀ o i = count - i
 
--- a sheet has room for 512 fanins: its type says so
+-- the array has as many fanins as a sheet has room for: its type says so
 wide : (s : tie.Start Inv-loop μ-loop) → length (s .args .t2) ≡ faninRoom
 wide s = s .good .1 .0 .1 .0 .1
 

@@ -54,7 +54,7 @@ blank-requires c κs = search needs
 loop-holds : tie.Need-loop-holds Inv-loop2 μ-loop2 Inv-loop μ-loop
 loop-holds c = going-start refl refl refl
 
--- a sheet has room for 512 fanins
+-- the sheet has as many fanins as there is room for: its type says so
 fanins-room : (s : tie.Start Inv-loop2 μ-loop2 Inv-loop μ-loop) → length (s .args .t1 .fanins) ≡ faninRoom
 fanins-room s = sym (length-map (s .args .t1 .fanins) (edge-field .into)) ∙ s .good .0 .1 .1 .1 .1 .1 .1 .0 .1 .0 .1
 
