@@ -1,4 +1,4 @@
-"""The expected output of the program cover_test, by trying every tree.
+"""The expected output of the program search_test, by trying every tree.
 
 A gate's fanins are given by keys: (tables below the root, inputs of the table that holds the root). A gate may be split into a
 tree of gates of two or more fanins each, over its fanins in any grouping; each new gate, and each fanin that is a gate itself
@@ -9,7 +9,7 @@ lexicographically least key over all trees and all choices.
 takes no key to be better than another before the end. `by_hand` lists the nested partitions of a group one by one, with every
 choice, and is held against it on small gates. Nothing here is shared with the search in crates/cover.
 
-Run: python3 tests/cover/exhaustive.py > crates/cover_test/stdout
+Run: python3 tests/cover/exhaustive.py > crates/search_test/stdout
 """
 
 import itertools

@@ -9,7 +9,7 @@ use lib.Dec.{leb}
 use lib.ListN.{length}
 use Rattle.lists.specs.TestLaws.{Reflects, reflects-le, reflects-true, by-reflects}
 use Rattle.cover.specs.Cover.{Least}
-use Rattle.cover.specs.Least.{least-unique}
+use Rattle.plan.specs.Least.{least-unique}
 use Rattle.cover.specs.Added.{Sheet, Fresh}
 use Rattle.table.specs.Limits.{KRange, CapacityRange}
 use Rattle.part.specs.declared.Part.{Part}

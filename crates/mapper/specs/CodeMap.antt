@@ -6,15 +6,15 @@ use lib.ListN.{length, getD, set, take}
 use Rattle.lists.specs.Lists.{Every, upto}
 use Rattle.tree.specs.declared.Kind.{Kind}
 use Rattle.tree.specs.Limits.{codeBase}
-use Rattle.cover.specs.declared.Key.{Key}
-use Rattle.cover.specs.declared.Token.{Token}
-use Rattle.cover.specs.Key.{leaf-key}
-use Rattle.cover.specs.Reach.{LeastReach}
-use Rattle.cover.specs.Plans.{Planned}
-use Rattle.cover.specs.Entries.{Good as GoodKeys}
+use Rattle.plan.specs.declared.Key.{Key}
+use Rattle.plan.specs.declared.Token.{Token}
+use Rattle.plan.specs.Key.{leaf-key}
+use Rattle.plan.specs.Reach.{LeastReach}
+use Rattle.plan.specs.Plans.{Planned}
+use Rattle.plan.specs.Entries.{Good as GoodKeys}
 use Rattle.cover.specs.Tables.{Table as LookupTable}
 use Rattle.cover.specs.Added.{AddedLeast}
-use Rattle.cover.specs.Limits.{mostBelow}
+use Rattle.plan.specs.Limits.{mostBelow}
 use Rattle.sheet.specs.declared.Edge.{Edge}
 use Rattle.sheet.specs.declared.Gate.{Gate}
 use Rattle.sheet.specs.declared.Sheet.{Sheet}

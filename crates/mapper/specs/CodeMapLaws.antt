@@ -14,13 +14,13 @@ use Rattle.lists.specs.ListLaws.{every-none, every-head, every-left, every-righ
 use Rattle.lists.specs.NumberLaws.{sorted-sorted}
 use Rattle.tree.specs.declared.Kind.{Kind}
 use Rattle.tree.specs.Limits.{codeBase}
-use Rattle.cover.specs.declared.Key.{Key}
-use Rattle.cover.specs.declared.Plan.{Plan}
-use Rattle.cover.specs.Key.{leaf-key}
-use Rattle.cover.specs.PlanOf.{Answer, PlanOf}
-use Rattle.cover.specs.PlanOfLaws.{plan-answer, answer-most}
+use Rattle.plan.specs.declared.Key.{Key}
+use Rattle.plan.specs.declared.Plan.{Plan}
+use Rattle.plan.specs.Key.{leaf-key}
+use Rattle.plan.specs.PlanOf.{Answer, PlanOf}
+use Rattle.plan.specs.PlanOfLaws.{plan-answer, answer-most}
 use Rattle.cover.specs.Placed.{codes*}
-use Rattle.cover.specs.Steps.{tokens}
+use Rattle.plan.specs.Steps.{tokens}
 use Rattle.table.specs.declared.Table.{Table}
 use Rattle.table.specs.Limits.{inputRoom}
 use Rattle.table.specs.Records.{tableOf, recordOf}

@@ -4,8 +4,8 @@ use mathlib.Core.Bool.{Bool, true, false}
 use mathlib.Core.List.{List, [], _∷_}
 use lib.ListN.{replicate}
 use Rattle.tree.specs.declared.Kind.{Kind}
-use Rattle.cover.specs.declared.Key.{Key}
-use Rattle.cover.specs.Key.{leaf-key, join, cuts}
+use Rattle.plan.specs.declared.Key.{Key}
+use Rattle.plan.specs.Key.{leaf-key, join, cuts}
 use Rattle.sheet.specs.declared.Source.{Source}
 use Rattle.sheet.specs.declared.Source.the-variants.{Net, Gate}
 use Rattle.table.specs.declared.Table.{Table}

@@ -12,9 +12,9 @@ use Rattle.cover.specs.Tables.{Table as LookupTable}
 use Rattle.merge.specs.declared.Pending.{Pending}
 use Rattle.mapper.specs.declared.run.Run.{Run}
 use Rattle.mapper.specs.declared.run.Operands.{Operands}
-use Rattle.cover.specs.declared.Token.{Token}
-use Rattle.cover.specs.declared.Plan.{Plan}
-use Rattle.cover.specs.Steps.{tokens}
+use Rattle.plan.specs.declared.Token.{Token}
+use Rattle.plan.specs.declared.Plan.{Plan}
+use Rattle.plan.specs.Steps.{tokens}
 use Rattle.merge.specs.Operands.{Operand, single, merged}
 use Rattle.mapper.specs.Run.{State, step, run, SafeStep, SafeRun}
 use Rattle.merge.specs.Pendings.{operandOf, Kept, Neat, Mergeable}

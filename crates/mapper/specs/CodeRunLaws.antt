@@ -20,10 +20,10 @@ use Rattle.table.specs.Records.{tableOf, recordOf}
 use Rattle.table.specs.RecordLaws.{read-back}
 use Rattle.table.specs.RuleLaws.{map-append}
 use Rattle.merge.specs.declared.Pending.{Pending}
-use Rattle.cover.specs.declared.Plan.{Plan}
-use Rattle.cover.specs.Steps.{tokens}
-use Rattle.cover.specs.declared.Token.{Token}
-use Rattle.cover.specs.declared.Token.the-variants.{Push, Join}
+use Rattle.plan.specs.declared.Plan.{Plan}
+use Rattle.plan.specs.Steps.{tokens}
+use Rattle.plan.specs.declared.Token.{Token}
+use Rattle.plan.specs.declared.Token.the-variants.{Push, Join}
 use Rattle.mapper.specs.declared.run.Run.{Run}
 use Rattle.mapper.specs.declared.run.Operands.{Operands}
 use Rattle.merge.specs.Operands.{Operand, single, merged}

@@ -9,15 +9,15 @@ use Rattle.lists.specs.Lists.{Every, Distinct, Permuted, Paired, gather, sum}
 use Rattle.tree.specs.declared.Kind.{Kind}
 use Rattle.tree.specs.declared.Kind.the-variants.{And as and}
 use Rattle.tree.specs.Tree.{Node, gate, Edges}
-use Rattle.cover.specs.declared.Key.{Key}
-use Rattle.cover.specs.declared.Token.{Token}
-use Rattle.cover.specs.Key.{leaf-key}
+use Rattle.plan.specs.declared.Key.{Key}
+use Rattle.plan.specs.declared.Token.{Token}
+use Rattle.plan.specs.Key.{leaf-key}
 use Rattle.cover.specs.Cover.{Cover, net, top, Fanins, end}
 use Rattle.cover.specs.Nets.{nets*}
-use Rattle.cover.specs.Reach.{Best}
+use Rattle.plan.specs.Reach.{Best}
 use Rattle.cover.specs.Tables.{Table, Placed, numbered}
 use Rattle.cover.specs.Placed.{tableOf, records*}
-use Rattle.cover.specs.Plans.{Body}
+use Rattle.plan.specs.Plans.{Body}
 use Rattle.sheet.specs.declared.Source.{Source}
 use Rattle.sheet.specs.declared.Source.the-variants.{Net, Gate}
 use Rattle.sheet.specs.declared.Edge.{Edge}

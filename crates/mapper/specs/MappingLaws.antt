@@ -12,20 +12,20 @@ use Rattle.lists.specs.MixLaws.{paired-append}
 use Rattle.lists.specs.NumberLaws.{sum-append, sum-same, sum-none}
 use Rattle.tree.specs.declared.Kind.{Kind}
 use Rattle.tree.specs.Tree.{Node, leaf, gate, leaves, leaves*}
-use Rattle.cover.specs.declared.Key.{Key}
-use Rattle.cover.specs.declared.Token.{Token}
+use Rattle.plan.specs.declared.Key.{Key}
+use Rattle.plan.specs.declared.Token.{Token}
 use Rattle.cover.specs.Cover.{Cover, net, top, tables, split}
 use Rattle.cover.specs.Nets.{split-nets, tables-most*}
 use Rattle.cover.specs.Tables.{Table, Placed, numbered}
 use Rattle.cover.specs.Eval.{numbered-append, numbered-length}
 use Rattle.cover.specs.Size.{records-length*}
-use Rattle.cover.specs.Least.{body-least}
+use Rattle.plan.specs.Least.{body-least}
 use Rattle.cover.specs.Placed.{tableOf}
-use Rattle.cover.specs.Reach.{LeastReach, Best, at-leaf, Bests, at-end, at-edge}
-use Rattle.cover.specs.ReachLaws.{best-gate}
-use Rattle.cover.specs.Plans.{Planned, drawn, Standing, Ready, ready-none, ready-edge}
-use Rattle.cover.specs.PlanLaws.{net-standing, body-standing, body-cover}
-use Rattle.cover.specs.Placings.{inner}
+use Rattle.plan.specs.Reach.{LeastReach, Best, at-leaf, Bests, at-end, at-edge}
+use Rattle.plan.specs.ReachLaws.{best-gate}
+use Rattle.plan.specs.Plans.{Planned, drawn, Standing, Ready, ready-none, ready-edge}
+use Rattle.plan.specs.PlanLaws.{net-standing, body-standing, body-cover}
+use Rattle.plan.specs.Placings.{inner}
 use Rattle.sheet.specs.declared.Source.{Source}
 use Rattle.sheet.specs.declared.Source.the-variants.{Net, Gate}
 use Rattle.sheet.specs.declared.Edge.{Edge}

@@ -9,17 +9,17 @@ use lib.ListN.{length, take, replicate, getD}
 use Rattle.lists.specs.Lists.{Every, empty, more, here, there, neither, left, right}
 use Rattle.lists.specs.ListLaws.{every-none, every-cons, every-head, every-tail}
 use Rattle.tree.specs.declared.Kind.{Kind}
-use Rattle.cover.specs.declared.Key.{Key}
-use Rattle.cover.specs.declared.Cuts.{Cuts}
-use Rattle.cover.specs.declared.Plan.{Plan}
-use Rattle.cover.specs.declared.Token.the-variants.{Push, Join}
-use Rattle.cover.specs.Key.{_≼_, join, cuts}
-use Rattle.cover.specs.KeyLaws.{join-way, join-mono, join-comm}
-use Rattle.cover.specs.Entries.{Fanin, Small, Joinable}
-use Rattle.cover.specs.Reach.{Reach, one, both, LeastReach}
-use Rattle.cover.specs.ReachLaws.{no-reach, least-single, reach-wide}
-use Rattle.cover.specs.Plans.{fanin, binary}
-use Rattle.cover.specs.PlanOf.{Answer}
+use Rattle.plan.specs.declared.Key.{Key}
+use Rattle.plan.specs.declared.Cuts.{Cuts}
+use Rattle.plan.specs.declared.Plan.{Plan}
+use Rattle.plan.specs.declared.Token.the-variants.{Push, Join}
+use Rattle.plan.specs.Key.{_≼_, join, cuts}
+use Rattle.plan.specs.KeyLaws.{join-way, join-mono, join-comm}
+use Rattle.plan.specs.Entries.{Fanin, Small, Joinable}
+use Rattle.plan.specs.Reach.{Reach, one, both, LeastReach}
+use Rattle.plan.specs.ReachLaws.{no-reach, least-single, reach-wide}
+use Rattle.plan.specs.Plans.{fanin, binary}
+use Rattle.plan.specs.PlanOf.{Answer}
 use Rattle.sheet.specs.declared.Source.{Source}
 use Rattle.sheet.specs.declared.Source.the-variants.{Net, Gate}
 use Rattle.sheet.specs.declared.Edge.{Edge}

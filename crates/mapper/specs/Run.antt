@@ -7,8 +7,8 @@ use lib.ListN.{length, getD}
 use Rattle.tree.specs.declared.Kind.{Kind}
 use Rattle.cover.specs.Tables.{Table}
 use Rattle.merge.specs.Operands.{Operand, single, merged}
-use Rattle.cover.specs.declared.Token.{Token}
-use Rattle.cover.specs.declared.Token.the-variants.{Push as push, Join as join}
+use Rattle.plan.specs.declared.Token.{Token}
+use Rattle.plan.specs.declared.Token.the-variants.{Push as push, Join as join}
 
 abbrev pub merge : Kind → Operand → Operand → Operand
 merge k x y = record { inverted = false; table = merged k x y }

@@ -19,14 +19,14 @@ use Rattle.cover.specs.Tables.{Table, output, tabled, numbered}
 use Rattle.cover.specs.Eval.{Agree, tabled-output, numbered-append}
 use Rattle.cover.specs.Placed.{code, codes, codes*, held, held*, tableOf, records*}
 use Rattle.cover.specs.Value.{held-same, held-same*}
-use Rattle.cover.specs.declared.Key.{Key}
-use Rattle.cover.specs.declared.Token.{Token}
-use Rattle.cover.specs.declared.Token.the-variants.{Join as join}
-use Rattle.cover.specs.Key.{Taken, held as kept, cut, Way}
-use Rattle.cover.specs.Plans.{Denotes, fanin, binary, Planned, Fragment, drawn, made, marked, place, Says, Runs, stop, pushed, joined, Ready, ready-none, ready-edge, Body}
-use Rattle.cover.specs.Fragments.{Stands, as-drawn, as-made, ready-names, stands-join}
-use Rattle.cover.specs.PlanLaws.{runs-append, plan-body}
-use Rattle.cover.specs.Placings.{inner, inside, own, placings, plan-placed}
+use Rattle.plan.specs.declared.Key.{Key}
+use Rattle.plan.specs.declared.Token.{Token}
+use Rattle.plan.specs.declared.Token.the-variants.{Join as join}
+use Rattle.plan.specs.Key.{Taken, held as kept, cut, Way}
+use Rattle.plan.specs.Plans.{Denotes, fanin, binary, Planned, Fragment, drawn, made, marked, place, Says, Runs, stop, pushed, joined, Ready, ready-none, ready-edge, Body}
+use Rattle.plan.specs.Fragments.{Stands, as-drawn, as-made, ready-names, stands-join}
+use Rattle.plan.specs.PlanLaws.{runs-append, plan-body}
+use Rattle.plan.specs.Placings.{inner, inside, own, placings, plan-placed}
 use Rattle.mapper.specs.Mapping.{Low, Early}
 use Rattle.merge.specs.Operands.{Operand, single, merged}
 use Rattle.mapper.specs.Run.{merge, State, operand, tables, step, run}

@@ -9,12 +9,12 @@ use Rattle.lists.specs.Lists.{upto}
 use Rattle.lists.specs.ListLaws.{permuted-length}
 use Rattle.lists.specs.NumberLaws.{sorted-permuted, upto-length}
 use Rattle.tree.specs.declared.Kind.{Kind}
-use Rattle.cover.specs.declared.Key.{Key}
-use Rattle.cover.specs.declared.Token.{Token}
-use Rattle.cover.specs.declared.Token.the-variants.{Join as join}
-use Rattle.cover.specs.Key.{leaf-key, Taken, held, cut}
+use Rattle.plan.specs.declared.Key.{Key}
+use Rattle.plan.specs.declared.Token.{Token}
+use Rattle.plan.specs.declared.Token.the-variants.{Join as join}
+use Rattle.plan.specs.Key.{leaf-key, Taken, held, cut}
 use Rattle.cover.specs.Tables.{Table}
-use Rattle.cover.specs.Plans.{Denotes, fanin, binary, Planned}
+use Rattle.plan.specs.Plans.{Denotes, fanin, binary, Planned}
 use Rattle.merge.specs.Operands.{Operand, single, merged}
 use Rattle.mapper.specs.Run.{merge, operand, tables, SafeRun}
 

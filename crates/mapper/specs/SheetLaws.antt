@@ -13,10 +13,10 @@ use Rattle.lists.specs.ListLaws.{every-none, every-cons, every-head, every-appe
 use Rattle.lists.specs.NumberLaws.{sorted-permuted}
 use Rattle.tree.specs.declared.Kind.the-variants.{And}
 use Rattle.tree.specs.Limits.{codeBase}
-use Rattle.cover.specs.Entries.{Small, Fanin}
-use Rattle.cover.specs.Reach.{LeastReach}
-use Rattle.cover.specs.ReachBounds.{reach-small}
-use Rattle.cover.specs.Plans.{Planned}
+use Rattle.plan.specs.Entries.{Small, Fanin}
+use Rattle.plan.specs.Reach.{LeastReach}
+use Rattle.plan.specs.ReachBounds.{reach-small}
+use Rattle.plan.specs.Plans.{Planned}
 use Rattle.cover.specs.Placed.{codes*, held*, tableOf as gateTable}
 use Rattle.cover.specs.Nets.{least-bounds}
 use Rattle.cover.specs.Added.{AddedLeast}

@@ -7,7 +7,7 @@ ghost use Rattle.sheet.specs.Sheet.{gateOf};
 ghost use Rattle.mapper.specs.CodeMap.{leafOf};
 ghost use Rattle.mapper.specs.CodePair.{placeIn, readAs, keyIn};
 use crate::Held;
-use cover::Key;
+use plan::Key;
 use merge::single;
 use sheet::Source;
 

@@ -6,8 +6,8 @@ ghost use Rattle.mapper.specs.CodePair.{countIf, twoTables, pairOf, pair
 use crate::Held;
 use crate::fanin::key_of;
 use crate::run::hold;
-use cover::cuts_of;
-use cover::join;
+use keys::cuts_of;
+use keys::join;
 use merge::Pending;
 use merge::merge;
 use table::Table;

@@ -2,9 +2,9 @@
 ghost use mathlib.Core.Path.{_≡_};
 ghost use Prim.Native.Nat.{_+_, _<_, _≤_};
 ghost use Rattle.mapper.specs.CodeRun.{pushed, placedIf, operandAt, replaced, heldIf, joined, Joins, Holds, Advances, Advanced, Runnable, Ran};
-use cover::Key;
-use cover::Plan;
-use cover::Token;
+use plan::Key;
+use plan::Plan;
+use plan::Token;
 use merge::Pending;
 use merge::merge;
 use merge::single;

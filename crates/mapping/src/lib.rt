@@ -156,7 +156,7 @@ fn add_sheets(opened: Part, input: &[u8], start: usize) -> End
     let mut sheet: u16 = 0;
     while at < input.len() {
         sheet += 1;
-        let next = sheet::read_next(input, at);
+        let next = sheet_reader::read_next(input, at);
         let answer = next.answer;
         if let Answer::Refused(why, line) = answer {
             let told = Told {

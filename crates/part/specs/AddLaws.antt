@@ -10,7 +10,7 @@ use Rattle.lists.specs.Lists.{_∈_, Every}
 use Rattle.lists.specs.Tests.{elem, within}
 use Rattle.lists.specs.TestLaws.{Reflects, reflects-le, reflects-eq, reflects-any, reflects-elem, reflects-within, by-reflects, by-either}
 use Rattle.cover.specs.Cover.{Least}
-use Rattle.cover.specs.Least.{least-unique}
+use Rattle.plan.specs.Least.{least-unique}
 use Rattle.cover.specs.Tables.{Table as LookupTable}
 use Rattle.cover.specs.Added.{Sheet, Fresh}
 use Rattle.cover.specs.AddedTables.{added-sized}

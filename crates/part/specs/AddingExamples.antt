@@ -3,8 +3,8 @@ use Prim.Native.Nat.{ℕ}
 use Prim.Native.String.{String}
 use mathlib.Core.Path.{_≡_, refl}
 use mathlib.Core.List.{List, [], _∷_, map}
-use Rattle.cover.specs.Key.{pack}
-use Rattle.cover.specs.Subsets.{least-of}
+use Rattle.plan.specs.Key.{pack}
+use Rattle.plan.specs.Subsets.{least-of}
 use Rattle.sheet.specs.Step.{_>>=_, require, given}
 use Rattle.sheet.specs.Checks.{bytes}
 use Rattle.part.specs.Parts.{blanks}

@@ -10,7 +10,7 @@ use Rattle.lists.specs.ListLaws.{every-none, every-cons, every-append}
 use Rattle.lists.specs.NumberLaws.{sum-append}
 use Rattle.tree.specs.Tree.{proper}
 use Rattle.cover.specs.Cover.{Least}
-use Rattle.cover.specs.Least.{least-unique, least-tables, least-is}
+use Rattle.plan.specs.Least.{least-unique, least-tables, least-is}
 use Rattle.cover.specs.Tables.{Table as LookupTable}
 use Rattle.cover.specs.Added.{Sheet}
 use Rattle.part.specs.Parts.{inUse, tablesOf, Shaped}

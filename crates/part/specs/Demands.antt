@@ -8,7 +8,7 @@ use mathlib.Core.List.{List, _++_, map}
 use lib.ListN.{length}
 use Rattle.lists.specs.Lists.{Every, sum}
 use Rattle.cover.specs.Cover.{Least}
-use Rattle.cover.specs.Least.{least-tables}
+use Rattle.plan.specs.Least.{least-tables}
 use Rattle.cover.specs.Tables.{Table as LookupTable, settled}
 use Rattle.cover.specs.Added.{Sheet, AddedLeast, Fresh, Met}
 use Rattle.table.specs.Limits.{tableBase}

@@ -12,7 +12,7 @@ use Rattle.lists.specs.Tests.{elem, either}
 use Rattle.lists.specs.TestLaws.{reflects-le, reflects-eq, reflects-or, reflects-elem, by-reflects, reflects-same, reflects-true}
 use Rattle.tree.specs.Tree.{leaves}
 use Rattle.cover.specs.Cover.{Least}
-use Rattle.cover.specs.Least.{least-unique}
+use Rattle.plan.specs.Least.{least-unique}
 use Rattle.cover.specs.Added.{Sheet, Fresh}
 use Rattle.table.specs.Limits.{tableBase}
 use Rattle.table.specs.Rules.{IsNet}

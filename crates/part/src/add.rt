@@ -92,7 +92,7 @@ impl Part {
         if !self.sound() {
             return self.refused(Adding::Unsound);
         }
-        let reading = sheet::read(text);
+        let reading = sheet_reader::read(text);
         let answer = reading.answer;
         if let Answer::Refused(why, line) = answer {
             return self.refused(Adding::Misread(why, line));

@@ -6,7 +6,6 @@ pub mod Read
 pub mod Cut
 pub mod Answers
 pub mod Promise
-pub mod Inside
 pub mod Trees
 pub mod Values
 pub mod Formed

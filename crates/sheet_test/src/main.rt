@@ -37,7 +37,7 @@ fn print_case(i: usize) {
 }
 
 fn print_one(text: &[u8]) {
-    let r = sheet::read(text);
+    let r = sheet_reader::read(text);
     let answer = r.answer;
     let sheet = r.sheet;
     print_answer(answer, sheet);
@@ -50,7 +50,7 @@ fn print_two(text: &[u8]) {
 
 // The place after the sheet.
 fn print_next(text: &[u8], start: usize) -> usize {
-    let r = sheet::read_next(text, start);
+    let r = sheet_reader::read_next(text, start);
     let answer = r.answer;
     let sheet = r.sheet;
     print_answer(answer, sheet);

@@ -1,0 +1,16 @@
+-- Subsets as bit masks, for a search that fills an array indexed by masks.
+-- Definitions only: the laws are in MaskLaws and MaskSearch; the array is in Entries.
+use Prim.Native.Nat.{ℕ, _/_, _%_}
+use mathlib.Core.Path.{_≡_}
+use mathlib.Core.List.{List, [], _∷_}
+use lib.Bits.{bitAnd}
+use Rattle.cover.specs.Cover.{pick}
+
+-- the elements of the list at the set bits of the mask; the first element is at the lowest bit
+abbrev pub select : {A : Type 0} → ℕ → List A → List A
+select s [] = []
+select s (k ∷ ks) = pick (s % 2) (select (s / 2) ks) (k ∷ select (s / 2) ks)
+
+-- each set bit of `u` is a set bit of `r`
+abbrev pub Within : ℕ → ℕ → Type 0
+Within u r = bitAnd u r ≡ u

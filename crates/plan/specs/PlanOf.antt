@@ -1,0 +1,42 @@
+-- What a plan for one gate has to be, from its fanins' keys: by cases on a test of the input. Definitions only.
+use Prim.Native.Nat.{ℕ, _+_, _*_}
+use mathlib.Core.Path.{_≡_}
+use mathlib.Core.Bool.{Bool, true, false, _&&_}
+use mathlib.Core.List.{List}
+use lib.Dec.{leb}
+use lib.ListN.{length, take, replicate}
+use Rattle.lists.specs.Lists.{upto}
+use Rattle.lists.specs.Tests.{all, within, either}
+use Rattle.plan.specs.declared.Key.{Key}
+use Rattle.plan.specs.declared.Token.the-variants.{Push as push}
+use Rattle.plan.specs.declared.Plan.{Plan}
+use Rattle.plan.specs.Key.{key}
+use Rattle.plan.specs.Limits.{leastInputs, mostInputs, leastFanins, mostFanins, mostBelow, mostSteps}
+use Rattle.plan.specs.Plans.{Planned}
+use Rattle.plan.specs.Reach.{LeastReach}
+use Rattle.plan.specs.Steps.{tokens}
+
+-- the key of a fanin has from 1 to K inputs, and few enough tables below
+unfoldable pub faninTest : ℕ → Key → Bool
+faninTest K a = within 1 K (a .width) && leb (a .below) mostBelow
+
+-- the first `count` keys can be searched
+unfoldable pub goodInput : ℕ → ℕ → List Key → Bool
+goodInput K count keys =
+    within leastInputs mostInputs K && (within leastFanins mostFanins count && all (faninTest K) (take count keys))
+
+-- a plan of no steps
+abbrev pub blank : Bool → Key → Plan
+blank b a = record { ok = b; key = a; len = 0; steps = replicate mostSteps (record { token = push 0 }) }
+
+-- a plan for fanins with these keys: it joins each of them once, and no plan has a better key
+pub record Answer (K : ℕ) (ks : List Key) (r : Plan) : Type 0 where
+  pub ok : r .ok ≡ true
+  pub least : LeastReach K ks (r .key)
+  pub planned : Planned K ks (upto (length ks)) (tokens r) (r .key)
+  pub len : r .len + 1 ≡ 2 * length ks
+  pub size : length (r .steps) ≡ mostSteps
+
+-- the promise: input that is not good is answered by zeros
+abbrev pub PlanOf : ℕ → ℕ → List Key → Plan → Type 0
+PlanOf K count keys r = either (goodInput K count keys) (Answer K (take count keys) r) (r ≡ blank false (key 0 0))

@@ -1,0 +1,50 @@
+-- Laws of what is promised of a plan: when input is good, and what a plan's steps and key are bounded by.
+use Prim.Native.Nat.{ℕ, _≤_}
+use native.Mathlib.Omega.{arith}
+use mathlib.Core.Path.{_≡_}
+use mathlib.Core.List.{List}
+use lib.Dec.{T}
+use lib.ListN.{length, take}
+use lib.Seq.{length-take-le}
+use Rattle.lists.specs.Cases.{and-split}
+use Rattle.lists.specs.Tests.{within}
+use Rattle.lists.specs.TestLaws.{Reflects, reflects-le, reflects-map, reflects-and, reflects-all, reflects-within, by-either}
+use Rattle.plan.specs.declared.Key.{Key}
+use Rattle.plan.specs.declared.Plan.{Plan}
+use Rattle.plan.specs.Limits.{leastInputs, mostInputs, leastFanins, mostFanins, mostBelow, mostSteps}
+use Rattle.plan.specs.Entries.{Fanin, Good}
+use Rattle.plan.specs.PlanOf.{faninTest, goodInput, Answer, PlanOf}
+
+reflects-fanin : (K : ℕ) (a : Key) → Reflects (faninTest K a) (Fanin K a)
+unfolding faninTest
+reflects-fanin K a =
+    reflects-map (λ h. record { some = h .0 .0; most = h .0 .1; few = h .1 }) (λ f. ((f .some, f .most), f .few))
+    (reflects-and (reflects-within 1 K (a .width)) (reflects-le (a .below) mostBelow))
+
+-- the input is good where its keys can be searched
+pub reflects-good : (K count : ℕ) (keys : List Key) → length (take count keys) ≡ count →
+    Reflects (goodInput K count keys) (Good K (take count keys))
+unfolding goodInput
+reflects-good K count keys e =
+    reflects-map
+    (λ h. record { table = h .0; count = rw e (h .1 .0); keys = h .1 .1 })
+    (λ g. (g .table, (rw e at (g .count), g .keys)))
+    (reflects-and (reflects-within leastInputs mostInputs K)
+    (reflects-and (reflects-within leastFanins mostFanins count) (reflects-all (faninTest K) (reflects-fanin K) (take count keys))))
+
+-- and then there are as many keys as are counted
+pub good-size : (K count : ℕ) (keys : List Key) → mostFanins ≤ length keys → T (goodInput K count keys) → length (take count keys) ≡ count
+unfolding goodInput
+good-size K count keys l h =
+    let p = and-split (within leastInputs mostInputs K) _ h in
+    let q = and-split (within leastFanins mostFanins count) _ (p .1) in
+    length-take-le count keys (omega (arith, (reflects-within leastFanins mostFanins count) .to (q .0)))
+
+-- good input has an answer
+pub plan-answer : (K count : ℕ) (keys : List Key) {r : Plan} → length (take count keys) ≡ count → Good K (take count keys) →
+    PlanOf K count keys r → Answer K (take count keys) r
+plan-answer K count keys e g = by-either (reflects-good K count keys e) (λ h a. a) (λ n z. absurd (n g))
+
+module _ {K : ℕ} {ks : List Key} {r : Plan} (a : Answer K ks r) where
+  pub answer-most : Good K ks → r .len ≤ mostSteps
+  answer-most g = omega (arith, a .len, g .count .1)

@@ -1,0 +1,159 @@
+// Runs the search on the gates of the worked examples, on input that is not good, and on 200 gates with keys from a fixed
+// generator. For each it prints a line: ok or not, the tables below, the inputs, and the steps of the plan.
+// The expected lines are those of tests/cover/exhaustive.py, which tries every tree.
+use plan::Key;
+use plan::Plan;
+ghost use Prim.Native.Nat.{_<_, _≤_};
+
+const OUT: i32 = 1;
+
+fn leaf() -> Key {
+    Key { below: 0, width: 1 }
+}
+
+fn show_number(n: u64) {
+    io::print_decimal(OUT, n);
+}
+
+fn show(p: Plan) {
+    let key = p.key;
+    if p.ok {
+        io::write_all(OUT, b"1 ");
+    } else {
+        io::write_all(OUT, b"0 ");
+    }
+    show_number(key.below as u64);
+    io::write_all(OUT, b" ");
+    show_number(key.width as u64);
+    io::write_all(OUT, b" ");
+    show_number(p.len as u64);
+    io::write_all(OUT, b"\n");
+}
+
+// The key of a gate of that many leaves, or of a leaf.
+fn gate_of(k: u8, leaves: u8) -> Key {
+    if leaves == 1 {
+        return leaf();
+    }
+    let p = search::best_plan(k, leaves, [leaf(); 10]);
+    p.key
+}
+
+// The root of an example: each fanin is a gate of that many leaves, or a leaf.
+fn example(k: u8, count: u8, leaves: [u8; 10]) {
+    let mut keys = [leaf(); 10];
+    let mut i: usize = 0;
+    while i < 10 {
+        keys[i] = gate_of(k, leaves[i]);
+        i += 1;
+    }
+    show(search::best_plan(k, count, keys));
+}
+
+fn examples() {
+    example(2, 2, [1, 1, 1, 1, 1, 1, 1, 1, 1, 1]);
+    example(2, 5, [1, 1, 1, 1, 1, 1, 1, 1, 1, 1]);
+    example(5, 10, [1, 1, 1, 1, 1, 1, 1, 1, 1, 1]);
+    example(6, 10, [1, 1, 1, 1, 1, 1, 1, 1, 1, 1]);
+    example(4, 2, [2, 2, 1, 1, 1, 1, 1, 1, 1, 1]);
+    example(3, 2, [2, 2, 1, 1, 1, 1, 1, 1, 1, 1]);
+    example(4, 3, [5, 1, 1, 1, 1, 1, 1, 1, 1, 1]);
+    example(5, 5, [3, 2, 2, 2, 2, 1, 1, 1, 1, 1]);
+    example(4, 5, [3, 2, 2, 2, 2, 1, 1, 1, 1, 1]);
+    example(5, 3, [3, 3, 3, 1, 1, 1, 1, 1, 1, 1]);
+}
+
+// A gate of three fanins, the first with the key.
+fn with_key(k: u8, count: u8, key: Key) {
+    let mut keys = [leaf(); 10];
+    keys[0] = key;
+    show(search::best_plan(k, count, keys));
+}
+
+fn not_good() {
+    with_key(1, 3, leaf());
+    with_key(7, 3, leaf());
+    with_key(4, 1, leaf());
+    with_key(4, 11, leaf());
+    with_key(4, 3, Key { below: 0, width: 0 });
+    with_key(4, 3, Key { below: 0, width: 5 });
+    with_key(
+        4,
+        3,
+        Key {
+            below: 256,
+            width: 2,
+        },
+    );
+}
+
+// The generator: its next state, and a number from the upper bits.
+fn next(state: u64) -> u64
+    requires { ⌜ state < 2147483648 ⌝ }
+    ensures { λ r. ⌜ r < 2147483648 ⌝ }
+{
+    (state * 1103515245 + 12345) % 2147483648
+}
+
+// A gate from the generator, and the state after it.
+struct Drawn {
+    state: u64,
+    k: u8,
+    count: u8,
+    keys: [Key; 10],
+}
+
+// A key of at most k inputs.
+fn key_from(k: u8, a: u64, b: u64) -> Key {
+    let below = (a / 65536 % 4) as u16;
+    let width = (1 + b / 65536 % 6) as u8;
+    if k < width {
+        Key { below, width: k }
+    } else {
+        Key { below, width }
+    }
+}
+
+fn draw(start: u64) -> Drawn
+    requires { ⌜ start < 2147483648 ⌝ }
+    ensures { λ r. ⌜ r .state < 2147483648 ⌝ }
+{
+    let first = next(start);
+    let second = next(first);
+    let k = (2 + first / 65536 % 5) as u8;
+    let count = (2 + second / 65536 % 9) as u8;
+    let mut keys = [leaf(); 10];
+    let mut state = second;
+    let mut i: usize = 0;
+    while i < 10 {
+        let a = next(state);
+        let b = next(a);
+        keys[i] = key_from(k, a, b);
+        state = b;
+        i += 1;
+    }
+    Drawn {
+        state,
+        k,
+        count,
+        keys,
+    }
+}
+
+fn generated() {
+    let mut state: u64 = 1;
+    let mut i: usize = 0;
+    while i < 200 {
+        let d = draw(state);
+        let keys = d.keys;
+        show(search::best_plan(d.k, d.count, keys));
+        state = d.state;
+        i += 1;
+    }
+}
+
+fn main() {
+    examples();
+    not_good();
+    generated();
+}

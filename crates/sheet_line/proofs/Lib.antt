@@ -1,0 +1,5 @@
+pub mod LineLaws
+pub mod HeadLaws
+pub mod GateLaws
+pub mod FieldLaws
+pub mod FaninLaws

@@ -1,0 +1,4 @@
+pub mod StoreLaws
+pub mod LinesLaws
+pub mod UnreadLaws
+pub mod SheetLaws
