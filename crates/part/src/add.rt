@@ -14,7 +14,7 @@ use mapper::map::map;
 use sheet::Answer;
 use sheet::Sheet;
 use table::Table;
-use table::inputs::reads_net;
+use table_inputs::reads_net;
 
 // What tables do with a net: one drives it, one reads it.
 struct Uses {

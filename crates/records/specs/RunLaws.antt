@@ -18,7 +18,7 @@ use Rattle.table.specs.SeenLaws.{stands-none, stands-after, keeps-stands}
 use Rattle.table.specs.WalkLaws.{walk-ends, walk-full, walk-stops, walk-goes, before-next}
 use Rattle.records.specs.RunTest.{verdictOf, stoppedOf, startOf, beginOf, onOf, badOf, stepOf, finishOf}
 use Rattle.table.specs.declared.Table.{Table}
-use Rattle.table.specs.declared.rules.Seen.{Seen}
+use Rattle.table.specs.declared.Seen.{Seen}
 use Rattle.records.specs.declared.Walk.{Walk}
 
 -- a test on a bool, with its equation in hand

@@ -8,7 +8,7 @@ use Rattle.table.specs.Limits.{inputRoom, tableRoom}
 use Rattle.table.specs.RecordTest.{Verdict, none, bad, refused}
 use Rattle.table.specs.SeenTest.{noneSeen, seenAfter, keepsIn}
 use Rattle.table.specs.declared.Table.{Table}
-use Rattle.table.specs.declared.rules.Seen.{Seen}
+use Rattle.table.specs.declared.Seen.{Seen}
 use Rattle.records.specs.declared.Walk.{Walk}
 use Rattle.records.specs.declared.Found.{Found}
 use Rattle.records.specs.declared.Found.the-variants.{Nothing, At, KOutOfRange, CapacityOutOfRange}

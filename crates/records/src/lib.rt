@@ -9,10 +9,10 @@ ghost use Rattle.records.specs.RunTest.{beginOf, stepOf, stoppedOf, fini
 use table::INPUT_ROOM;
 use table::TABLE_ROOM;
 use table::Table;
-use table::rules::Seen;
-use table::rules::after;
-use table::rules::keeps;
-use table::rules::none_seen;
+use table::Seen;
+use table_rules::after;
+use table_rules::keeps;
+use table_rules::none_seen;
 use table::within;
 
 // What the test of a run finds: no bad record, the first bad one counted from 1, or that K or the capacity is out of range.

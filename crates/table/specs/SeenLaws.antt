@@ -17,7 +17,7 @@ use Rattle.table.specs.Records.{reads, blank}
 use Rattle.table.specs.RecordTest.{isCode, padded, sized, sourced, clear, unclaimed, keeps}
 use Rattle.table.specs.SeenTest.{Stands, noneSeen, claimAll, seenAfter, sourcedIn, unclaimedIn, keepsIn}
 use Rattle.table.specs.declared.Table.{Table}
-use Rattle.table.specs.declared.rules.Seen.{Seen}
+use Rattle.table.specs.declared.Seen.{Seen}
 
 pub stands-none : Stands noneSeen []
 unfolding noneSeen

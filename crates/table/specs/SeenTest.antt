@@ -12,7 +12,7 @@ use Rattle.table.specs.Limits.{tableBase, tableRoom}
 use Rattle.table.specs.Records.{reads, blank}
 use Rattle.table.specs.RecordTest.{padded, coded, sized, clear}
 use Rattle.table.specs.declared.Table.{Table}
-use Rattle.table.specs.declared.rules.Seen.{Seen}
+use Rattle.table.specs.declared.Seen.{Seen}
 
 -- what is kept stands for the records: their number, for each net whether none of them drives or reads it, and for each of them
 -- whether it drives no net

@@ -1,7 +1,4 @@
 // Lookup tables as records of a part.
-pub mod inputs;
-pub mod rules;
-
 ghost use mathlib.Core.Path.{_≡_};
 ghost use Prim.Native.Nat.{min};
 ghost use Rattle.lists.specs.Tests.{within as inRange};
@@ -18,6 +15,14 @@ pub struct Table {
     pub count: u8,
     pub inputs: [u16; 6],
     pub truth: u64,
+}
+
+// What the rules need to know of the records seen so far: how many there are, which nets a record drives or reads, and which of
+// the records drive a net.
+pub struct Seen {
+    pub count: u16,
+    pub claimed: [bool; 1000],
+    pub drives: [bool; 800],
 }
 
 // A record of zeros.

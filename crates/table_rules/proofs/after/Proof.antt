@@ -1,0 +1,66 @@
+use Prim.Native.Nat.{_+_}
+use mathlib.Core.Path.{ap, _∙_}
+use mathlib.Core.Bool.{not}
+use borrow.Author.Needs.{needs}
+use borrow.Author.Tests.{lt-ltb, le-ltb}
+use lib.Dec.{eqb}
+use lib.ListN.{set, take}
+use Rattle.table.specs.Records.{reads}
+use Rattle.table.specs.SeenTest.{claimAll}
+use Rattle.table.proofs.Shape.{room, take-room}
+use Rattle.table_rules.proofs.after.Statement.{statement}
+use Rattle.table_rules.proofs.after.Tie as tie
+
+returns : tie.Need-returns
+returns c = rw (le-ltb _ _ (c .if1 .taken))
+
+slice-aggregate-claim : tie.Need-slice-aggregate-claim
+slice-aggregate-claim c = search needs
+
+claim-requires : tie.Need-claim-requires
+claim-requires c κs = search needs
+
+slice-aggregate-claim-all : tie.Need-slice-aggregate-claim-all
+slice-aggregate-claim-all c = search needs
+
+in-use-requires : tie.Need-in-use-requires
+in-use-requires c κs = search needs
+
+claim-all-requires : tie.Need-claim-all-requires
+claim-all-requires c κs = search needs
+
+cast-drives : tie.Need-cast-drives
+cast-drives c = search needs
+
+array-write-drives : tie.Need-array-write-drives
+array-write-drives c = search needs
+
+add-t16 : tie.Need-add-t16
+add-t16 c = search needs
+
+returns-2 : tie.Need-returns-2
+returns-2 c =
+    let s = c .before .before .before .before .before .before .before .before .before .before .before .before in
+    let r = s .args .r in
+    let q = s .args .seen in
+    let m = c .before .before .before .before .before .before .claim .last .0 in
+    rw (lt-ltb _ _ (c .before .before .before .before .before .before .before .before .before .before .before .if1 .left))
+    (ap (λ l. record { count = q .count + 1; claimed = l; drives = set (q .drives) (q .count) (not (eqb (r .net) 0)) })
+    (c .before .before .claim-all .ensures ∙ ap (λ n. claimAll m (take n (r .inputs))) (c .before .before .before .in-use .ensures)
+    ∙ ap (claimAll m) (take-room (r .inputs) (r .count) (room r (s .good .1 .0 .1 .1 .1 .1 .0 .1 .0 .1)))
+    ∙ ap (λ l. claimAll l (reads r)) (c .before .before .before .before .before .before .claim .ensures)))
+
+pub after-spec : {M : Type 1} → statement M
+after-spec =
+    tie.close
+    (tie.spec
+    returns
+    slice-aggregate-claim
+    claim-requires
+    slice-aggregate-claim-all
+    in-use-requires
+    claim-all-requires
+    cast-drives
+    array-write-drives
+    add-t16
+    returns-2)

@@ -1,0 +1,36 @@
+use mathlib.Core.Path.{sym, ap, _∙_}
+use mathlib.Core.Bool.{not}
+use borrow.Author.Needs.{needs}
+use borrow.Author.Tests.{eq-eqb, ne-eqb}
+use lib.ListN.{take}
+use Rattle.lists.specs.Tests.{elem}
+use Rattle.table.proofs.Shape.{room, take-room}
+use Rattle.table_rules.proofs.unclaimed.Statement.{statement}
+use Rattle.table_rules.proofs.unclaimed.Tie as tie
+
+returns : tie.Need-returns
+returns c = rw (eq-eqb _ _ (c .if1 .taken))
+
+is-claimed-requires : tie.Need-is-claimed-requires
+is-claimed-requires c κs = search needs
+
+returns-2 : tie.Need-returns-2
+returns-2 c = rw (ne-eqb _ _ (c .before .before .if1 .left), sym (c .before .is-claimed .ensures) ∙ c .if2 .taken)
+
+in-use-requires : tie.Need-in-use-requires
+in-use-requires c κs = search needs
+
+reads-net-requires : tie.Need-reads-net-requires
+reads-net-requires c κs = search needs
+
+returns-3 : tie.Need-returns-3
+returns-3 c =
+    let s = c .before .before .before .before .before .before .before in
+    let r = s .args .r in
+    rw (ne-eqb _ _ (c .before .before .before .before .if1 .left), sym (c .before .before .before .is-claimed .ensures) ∙ c .before .before .if2 .left)
+    (ap not (c .reads-net .ensures ∙ ap (λ n. elem (r .net) (take n (r .inputs))) (c .before .in-use .ensures)
+    ∙ ap (elem (r .net)) (take-room (r .inputs) (r .count) (room r (s .good .1 .0 .1 .1 .1 .1 .0 .1 .0 .1)))))
+
+pub unclaimed-spec : {M : Type 1} → statement M
+unclaimed-spec =
+    tie.close (tie.spec returns is-claimed-requires returns-2 in-use-requires reads-net-requires returns-3)
