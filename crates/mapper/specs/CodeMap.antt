@@ -28,13 +28,13 @@ use Rattle.table.specs.Limits.{inputRoom, tableRoom}
 use Rattle.table.specs.Records.{tableOf, recordOf}
 use Rattle.mapper.specs.declared.map.Mapping.{Mapping}
 use Rattle.mapper.specs.declared.run.Run.{Run}
-use Rattle.merge.specs.Pendings.{Kept, Neat}
-use Rattle.merge.specs.Merging.{invertedOf}
+use Rattle.pending.specs.Pendings.{Kept, Neat}
+use Rattle.pending.specs.Merging.{invertedOf}
 use Rattle.mapper.specs.Mapping.{Mapped, unmapped, keysOf, heldTable, operandsOf, Progress}
 use Rattle.mapper.specs.declared.run.Operands.{Operands}
 use Rattle.mapper.specs.declared.Held.{Held}
 use Rattle.mapper.specs.declared.gate.MappedGate.{MappedGate}
-use Rattle.merge.specs.Operands.{single}
+use Rattle.pending.specs.Operands.{single}
 use Rattle.mapper.specs.Run.{run}
 use Rattle.mapper.specs.CodeRun.{noTable, noPending, operandAt, faninsOf, Good, begun, stateOf, Holds}
 use mathlib.Core.List.{List, _++_, map}

@@ -37,9 +37,9 @@ use Rattle.mapper.specs.declared.run.Run.{Run}
 use Rattle.mapper.specs.declared.run.Operands.{Operands}
 use Rattle.mapper.specs.declared.Held.{Held}
 use Rattle.mapper.specs.declared.map.Mapping.{Mapping}
-use Rattle.merge.specs.Operands.{single}
-use Rattle.merge.specs.declared.Pending.{Pending}
-use Rattle.merge.specs.Pendings.{operandOf, Neat}
+use Rattle.pending.specs.Operands.{single}
+use Rattle.pending.specs.declared.Pending.{Pending}
+use Rattle.pending.specs.Pendings.{operandOf, Neat}
 use Rattle.mapper.specs.CodeRun.{noTable, noPending, operandAt, faninsOf, Runnable, Ran}
 use Rattle.mapper.specs.CodeRunLaws.{map-at, kept-count, fanin-count, record-neat, stored-all}
 use Rattle.mapper.specs.SafeLaws.{safe-planned}

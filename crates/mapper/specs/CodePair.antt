@@ -10,13 +10,13 @@ use Rattle.sheet.specs.declared.Source.{Source}
 use Rattle.sheet.specs.declared.Source.the-variants.{Net, Gate}
 use Rattle.table.specs.declared.Table.{Table}
 use Rattle.table.specs.Records.{recordOf}
-use Rattle.merge.specs.declared.Pending.{Pending}
+use Rattle.pending.specs.declared.Pending.{Pending}
 use Rattle.mapper.specs.declared.run.Operands.{Operands}
 use Rattle.mapper.specs.declared.run.Run.{Run}
 use Rattle.mapper.specs.declared.Held.{Held}
 use Rattle.mapper.specs.declared.pair.MappedPair.{MappedPair}
-use Rattle.merge.specs.Operands.{merged}
-use Rattle.merge.specs.Pendings.{operandOf}
+use Rattle.pending.specs.Operands.{merged}
+use Rattle.pending.specs.Pendings.{operandOf}
 use Rattle.mapper.specs.CodeRun.{noTable, noPending, pushed, heldIf}
 use Rattle.mapper.specs.CodeMap.{leafOf, withFanin}
 

@@ -9,15 +9,15 @@ use Rattle.tree.specs.declared.Kind.{Kind}
 use Rattle.tree.specs.Limits.{codeBase}
 use Rattle.table.specs.Records.{tableOf, recordOf}
 use Rattle.cover.specs.Tables.{Table as LookupTable}
-use Rattle.merge.specs.declared.Pending.{Pending}
+use Rattle.pending.specs.declared.Pending.{Pending}
 use Rattle.mapper.specs.declared.run.Run.{Run}
 use Rattle.mapper.specs.declared.run.Operands.{Operands}
 use Rattle.plan.specs.declared.Token.{Token}
 use Rattle.plan.specs.declared.Plan.{Plan}
 use Rattle.plan.specs.Steps.{tokens}
-use Rattle.merge.specs.Operands.{Operand, single, merged}
+use Rattle.pending.specs.Operands.{Operand, single, merged}
 use Rattle.mapper.specs.Run.{State, step, run, SafeStep, SafeRun}
-use Rattle.merge.specs.Pendings.{operandOf, Kept, Neat, Mergeable}
+use Rattle.pending.specs.Pendings.{operandOf, Kept, Neat, Mergeable}
 
 -- one operand more
 abbrev pub pushed : Run → Pending → Run

@@ -19,17 +19,17 @@ use Rattle.table.specs.Limits.{inputRoom}
 use Rattle.table.specs.Records.{tableOf, recordOf}
 use Rattle.table.specs.RecordLaws.{read-back}
 use Rattle.table.specs.RuleLaws.{map-append}
-use Rattle.merge.specs.declared.Pending.{Pending}
+use Rattle.pending.specs.declared.Pending.{Pending}
 use Rattle.plan.specs.declared.Plan.{Plan}
 use Rattle.plan.specs.Steps.{tokens}
 use Rattle.plan.specs.declared.Token.{Token}
 use Rattle.plan.specs.declared.Token.the-variants.{Push, Join}
 use Rattle.mapper.specs.declared.run.Run.{Run}
 use Rattle.mapper.specs.declared.run.Operands.{Operands}
-use Rattle.merge.specs.Operands.{Operand, single, merged}
+use Rattle.pending.specs.Operands.{Operand, single, merged}
 use Rattle.mapper.specs.Run.{operand, tables, joinTop, step, run, SafeJoin, SafeStep, SafeRun}
 use Rattle.mapper.specs.SafeLaws.{merged-length}
-use Rattle.merge.specs.Pendings.{operandOf, Kept, Neat}
+use Rattle.pending.specs.Pendings.{operandOf, Kept, Neat}
 use Rattle.mapper.specs.CodeRun.{pushed, placedIf, noTable, noPending, operandAt, replaced, heldIf, leftOf, leftPlaced, rightOf, joined, Joins, stackOf, placedOf, stateOf, Holds, faninsOf, Good, Advances, Advanced, begun, Runnable, Ran, Following}
 
 -- ---- the code's steps

@@ -23,7 +23,7 @@ use Rattle.sheet.specs.declared.Source.the-variants.{Net, Gate}
 use Rattle.sheet.specs.declared.Edge.{Edge}
 use Rattle.sheet.specs.Sheet.{DrawnGate, leafNets, gatesRead}
 use Rattle.sheet.specs.Trees.{treesOf}
-use Rattle.merge.specs.Operands.{Operand, single}
+use Rattle.pending.specs.Operands.{Operand, single}
 use Rattle.mapper.specs.Run.{run}
 
 -- a gate that was mapped: its fanins, split, with what is placed among them, and its best key

@@ -34,7 +34,7 @@ use Rattle.sheet.specs.Trees.{nodeOf, edgesOf, treesOf, treeOf, drawn as drawnS
 use Rattle.sheet.specs.Formed.{WellFormed}
 use Rattle.sheet.specs.TreeLaws.{without, from-end}
 use Rattle.cover.specs.Added.{Legal, AddedLeast}
-use Rattle.merge.specs.Operands.{single}
+use Rattle.pending.specs.Operands.{single}
 use Rattle.mapper.specs.Mapping.{Mapped, unmapped, mappedAt, leafCount, Stood, keyOf, sourceCover, keysOf, coversOf, Low, heldTable, innerOf, sourceTable, operandsOf, Progress, Next}
 use Rattle.mapper.specs.CountLaws.{mapped-sums}
 use Rattle.mapper.specs.RunLaws.{single-is, Shows, Gated, gated}

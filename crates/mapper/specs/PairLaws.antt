@@ -31,9 +31,9 @@ use Rattle.mapper.specs.declared.run.Operands.{Operands}
 use Rattle.mapper.specs.declared.Held.{Held}
 use Rattle.mapper.specs.declared.gate.MappedGate.{MappedGate}
 use Rattle.mapper.specs.declared.map.Mapping.{Mapping}
-use Rattle.merge.specs.declared.Pending.{Pending}
-use Rattle.merge.specs.Operands.{merged}
-use Rattle.merge.specs.Pendings.{operandOf, Mergeable}
+use Rattle.pending.specs.declared.Pending.{Pending}
+use Rattle.pending.specs.Operands.{merged}
+use Rattle.pending.specs.Pendings.{operandOf, Mergeable}
 use Rattle.table.specs.declared.Table.{Table}
 use Rattle.table.specs.Records.{recordOf}
 use Rattle.mapper.specs.CodeRun.{operandAt, heldIf, pushed, leftPlaced, joined, Joins, Holds, Following, Runnable, Ran}

@@ -28,7 +28,7 @@ use Rattle.plan.specs.Fragments.{Stands, as-drawn, as-made, ready-names, stands
 use Rattle.plan.specs.PlanLaws.{runs-append, plan-body}
 use Rattle.plan.specs.Placings.{inner, inside, own, placings, plan-placed}
 use Rattle.mapper.specs.Mapping.{Low, Early}
-use Rattle.merge.specs.Operands.{Operand, single, merged}
+use Rattle.pending.specs.Operands.{Operand, single, merged}
 use Rattle.mapper.specs.Run.{merge, State, operand, tables, step, run}
 
 meet-unit-right : (k : Kind) (b : Bool) → meet k b (unit k) ≡ b

@@ -15,7 +15,7 @@ use Rattle.plan.specs.declared.Token.the-variants.{Join as join}
 use Rattle.plan.specs.Key.{leaf-key, Taken, held, cut}
 use Rattle.cover.specs.Tables.{Table}
 use Rattle.plan.specs.Plans.{Denotes, fanin, binary, Planned}
-use Rattle.merge.specs.Operands.{Operand, single, merged}
+use Rattle.pending.specs.Operands.{Operand, single, merged}
 use Rattle.mapper.specs.Run.{merge, operand, tables, SafeRun}
 
 pub merged-length : (k : Kind) (x y : Operand) → length (merged k x y .inputs) ≡ length (x .table .inputs) + length (y .table .inputs)

@@ -45,13 +45,13 @@ use Rattle.mapper.specs.declared.Held.{Held}
 use Rattle.mapper.specs.declared.gate.MappedGate.{MappedGate}
 use Rattle.mapper.specs.declared.map.Mapping.{Mapping}
 use Rattle.mapper.specs.Run.{run}
-use Rattle.merge.specs.Pendings.{operandOf, Kept}
+use Rattle.pending.specs.Pendings.{operandOf, Kept}
 use Rattle.mapper.specs.CodeRun.{noTable, operandAt, stackOf, placedOf, stateOf, begun}
 use Rattle.mapper.specs.Mapping.{Mapped, unmapped, mappedAt, keyOf, keysOf, heldTable, Progress, Next}
 use Rattle.mapper.specs.CodeMap.{keysIn, Mappable, GateMapped, HeldIs, noHeld, HeldAll, Gathered, Gathering, Staged, Reaches, Gathers, tablesIn, Sheetable, SheetMapped, Going, flipped, driving, rooted}
 use Rattle.mapper.specs.MappingLaws.{source-standing, mapping-start, mapping-next, mapping-added, done-count}
-use Rattle.merge.specs.Merging.{Tabled}
-use Rattle.merge.specs.MergeLaws.{tabled-record, tabled-inverted}
+use Rattle.pending.specs.Merging.{Tabled}
+use Rattle.pending.specs.MergeLaws.{tabled-record, tabled-inverted}
 use Rattle.mapper.specs.CountLaws.{staged-few}
 
 -- ---- a gate of a well-formed sheet

@@ -10,7 +10,7 @@ use crate::run::follow;
 use crate::run::operand;
 use plan::Key;
 use search::best_plan;
-use merge::Pending;
+use pending::Pending;
 use sheet::Edge;
 use sheet::FANIN_ROOM;
 use sheet::Gate;

@@ -2,7 +2,7 @@
 ghost use mathlib.Core.Path.{_≡_};
 ghost use Prim.Native.Nat.{_+_, _≤_};
 ghost use Rattle.mapper.specs.CodeMap.{Staged, Sheetable, SheetMapped, flipped, driving};
-ghost use Rattle.merge.specs.Merging.{Tabled};
+ghost use Rattle.pending.specs.Merging.{Tabled};
 use crate::fanin::leaf;
 use crate::fanin::place_of;
 use crate::fanin::read_from;

@@ -8,7 +8,7 @@ use crate::fanin::key_of;
 use crate::run::hold;
 use keys::cuts_of;
 use keys::join;
-use merge::Pending;
+use pending::Pending;
 use merge::merge;
 use table::Table;
 use tree::Kind;

@@ -5,7 +5,7 @@ ghost use Rattle.mapper.specs.CodeRun.{pushed, placedIf, operandAt, repl
 use plan::Key;
 use plan::Plan;
 use plan::Token;
-use merge::Pending;
+use pending::Pending;
 use merge::merge;
 use merge::single;
 use table::Table;

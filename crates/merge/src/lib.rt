@@ -8,17 +8,12 @@ ghost use Rattle.tree.specs.Tree.{turned, meet as meetOf};
 ghost use Rattle.cover.specs.Bits.{bit as bitOf, digit as digitOf, place as placeOf};
 ghost use Rattle.table.specs.Limits.{inputRoom};
 ghost use Rattle.table.specs.Records.{recordOf};
-ghost use Rattle.merge.specs.Operands.{single as singleOf, merged};
-ghost use Rattle.merge.specs.Pendings.{operandOf, Mergeable};
-ghost use Rattle.merge.specs.Merging.{padded, columnsOf, valueAt, Rows, Words, Room, Filled, Ordered, Tabled, invertedOf};
+ghost use Rattle.pending.specs.Operands.{single as singleOf, merged};
+ghost use Rattle.pending.specs.Pendings.{operandOf, Mergeable};
+ghost use Rattle.pending.specs.Merging.{padded, columnsOf, valueAt, Rows, Words, Room, Filled, Ordered, Tabled, invertedOf};
+use pending::Pending;
 use table::Table;
 use tree::Kind;
-
-// A table that is not placed yet, and whether what reads it reads it inverted.
-pub struct Pending {
-    pub inverted: bool,
-    pub table: Table,
-}
 
 // For each place of an input the rows' bits there. No row has a bit at 6.
 const COLUMNS: [u64; 7] = [

@@ -5,8 +5,8 @@ use mathlib.Core.Path.{_≡_, ap, _∙_}
 use lib.ListN.{take}
 use denote.Ref.{now}
 use Rattle.table.specs.Limits.{inputRoom}
-use Rattle.merge.specs.Merging.{padded, columnOf, columnsOf}
-use Rattle.merge.specs.MergeLaws.{place-low, column-is, columns-none, columns-next}
+use Rattle.pending.specs.Merging.{padded, columnOf, columnsOf}
+use Rattle.pending.specs.MergeLaws.{place-low, column-is, columns-none, columns-next}
 use Rattle.merge.proofs.columns.Statement.{statement}
 use Rattle.merge.proofs.columns.Tie as tie
 

@@ -3,7 +3,7 @@ use Prim.Native.Nat.{_-_, _≤_}
 use native.Mathlib.Omega.{arith}
 use mathlib.Core.Path.{_≡_}
 use denote.Ref.{now}
-use Rattle.merge.specs.MergeLaws.{Folded, folded-none, folded-next}
+use Rattle.pending.specs.MergeLaws.{Folded, folded-none, folded-next}
 use Rattle.merge.proofs.fold.Statement.{statement}
 use Rattle.merge.proofs.fold.Tie as tie
 

@@ -3,7 +3,7 @@ use Prim.Native.Nat.{_-_}
 use native.Mathlib.Omega.{arith}
 use mathlib.Core.Logic.{⊎-elim}
 use denote.Ref.{now}
-use Rattle.merge.specs.MergeLaws.{Passed, passed-none, passed-stay, passed-up, passed-all}
+use Rattle.pending.specs.MergeLaws.{Passed, passed-none, passed-stay, passed-up, passed-all}
 use Rattle.merge.proofs.insert.Statement.{statement}
 use Rattle.merge.proofs.insert.Tie as tie
 

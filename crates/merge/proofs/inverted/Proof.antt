@@ -1,7 +1,7 @@
 -- `merge::inverted` meets its contract. Assumes nothing.
 use Prim.Native.Nat.{_-_, _^_}
 use mathlib.Core.Path.{sym, ap, _∙_}
-use Rattle.merge.specs.MergeLaws.{complement}
+use Rattle.pending.specs.MergeLaws.{complement}
 use borrow.Author.Needs.{needs}
 use Rattle.merge.proofs.inverted.Statement.{statement}
 use Rattle.merge.proofs.inverted.Tie as tie

@@ -2,7 +2,7 @@
 use Rattle.tree.specs.Tree.{meet}
 use Rattle.cover.specs.Bits.{bit}
 use mathlib.Core.Path.{sym, ap, _∙_}
-use Rattle.merge.specs.MergeLaws.{bit-and, bit-or}
+use Rattle.pending.specs.MergeLaws.{bit-and, bit-or}
 use borrow.Author.Needs.{needs}
 use Rattle.merge.proofs.meet.Statement.{statement}
 use Rattle.merge.proofs.meet.Tie as tie

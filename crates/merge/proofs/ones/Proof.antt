@@ -1,6 +1,6 @@
 -- `merge::ones` meets its contract. Assumes nothing.
 use native.Mathlib.Omega.{arith}
-use Rattle.merge.specs.MergeLaws.{rows-low, rows-some, ones-are}
+use Rattle.pending.specs.MergeLaws.{rows-low, rows-some, ones-are}
 use borrow.Author.Needs.{needs}
 use Rattle.merge.proofs.ones.Statement.{statement}
 use Rattle.merge.proofs.ones.Tie as tie

@@ -3,8 +3,8 @@ use Prim.Native.Nat.{_-_, _≤_}
 use native.Mathlib.Omega.{arith}
 use mathlib.Core.Path.{_≡_}
 use Rattle.cover.specs.Bits.{bit, digit}
-use Rattle.merge.specs.Merging.{Words}
-use Rattle.merge.specs.MergeLaws.{words-none, words-next, pair-bit}
+use Rattle.pending.specs.Merging.{Words}
+use Rattle.pending.specs.MergeLaws.{words-none, words-next, pair-bit}
 use Rattle.merge.proofs.pairs.Statement.{statement}
 use Rattle.merge.proofs.pairs.Tie as tie
 

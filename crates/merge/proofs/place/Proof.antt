@@ -8,7 +8,7 @@ use native.Mathlib.Numerals.{add-one}
 use lib.ListN.{take}
 use lib.Seq.{slice}
 use Rattle.cover.specs.Bits.{place}
-use Rattle.merge.specs.MergeLaws.{slice-none, place-here, place-later}
+use Rattle.pending.specs.MergeLaws.{slice-none, place-here, place-later}
 use Rattle.merge.proofs.place.Statement.{statement}
 use Rattle.merge.proofs.place.Tie as tie
 

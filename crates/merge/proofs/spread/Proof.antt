@@ -4,7 +4,7 @@ use Prim.Native.Nat.{_-_, _≤_, _<_}
 use native.Mathlib.Omega.{arith}
 use denote.Ref.{now}
 use borrow.Author.Needs.{needs}
-use Rattle.merge.specs.MergeLaws.{Level, level-first, level-next, level-last, rows-low, rows-are}
+use Rattle.pending.specs.MergeLaws.{Level, level-first, level-next, level-last, rows-low, rows-are}
 use Rattle.merge.proofs.spread.Statement.{statement}
 use Rattle.merge.proofs.spread.Tie as tie
 

@@ -3,7 +3,7 @@ use Rattle.tree.specs.Tree.{turned}
 use Rattle.cover.specs.Bits.{bit}
 use native.Mathlib.Omega.{arith}
 use mathlib.Core.Path.{sym, ap, _∙_}
-use Rattle.merge.specs.MergeLaws.{bit-turned}
+use Rattle.pending.specs.MergeLaws.{bit-turned}
 use borrow.Author.Needs.{needs}
 use Rattle.merge.proofs.turn.Statement.{statement}
 use Rattle.merge.proofs.turn.Tie as tie

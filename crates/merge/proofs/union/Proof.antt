@@ -3,8 +3,8 @@ use native.Mathlib.Omega.{arith}
 use Prim.Native.Nat.{_<_}
 use lib.ListN.{take}
 use denote.Ref.{now}
-use Rattle.merge.specs.Merging.{Ordered}
-use Rattle.merge.specs.MergeLaws.{Gathered, gathered-none, gathered-ordered, gathered-next, gathered-all}
+use Rattle.pending.specs.Merging.{Ordered}
+use Rattle.pending.specs.MergeLaws.{Gathered, gathered-none, gathered-ordered, gathered-next, gathered-all}
 use Rattle.merge.proofs.union.Statement.{statement}
 use Rattle.merge.proofs.union.Tie as tie
 

@@ -2,8 +2,8 @@
 use mathlib.Core.Path.{_≡_}
 use lib.ListN.{take}
 use denote.Ref.{now}
-use Rattle.merge.specs.Merging.{columnsOf, Filled}
-use Rattle.merge.specs.MergeLaws.{padded-filled, columns-length}
+use Rattle.pending.specs.Merging.{columnsOf, Filled}
+use Rattle.pending.specs.MergeLaws.{padded-filled, columns-length}
 use borrow.Author.Needs.{needs}
 use Rattle.merge.proofs.values.Statement.{statement}
 use Rattle.merge.proofs.values.Tie as tie

@@ -2,7 +2,7 @@ use mathlib.Core.Path.{_≡_, sym, ap, ap₂, _∙_, subst₂}
 use borrow.Author.Needs.{needs}
 use Rattle.plan.specs.Key.{cuts}
 use Rattle.plan.specs.Entries.{Joinable}
-use Rattle.merge.specs.Pendings.{Mergeable}
+use Rattle.pending.specs.Pendings.{Mergeable}
 use Rattle.mapper.specs.CodeRun.{heldIf}
 use Rattle.mapper.specs.CodePair.{pendingOf, keyIn, countIf}
 use Rattle.mapper.specs.PairLaws.{pair-joinable, pair-mergeable, pair-by}

@@ -1,6 +1,6 @@
 use mathlib.Core.Path.{_≡_, ap, _∙_, subst₂}
 use native.Mathlib.Omega.{arith}
-use Rattle.merge.specs.Pendings.{Mergeable}
+use Rattle.pending.specs.Pendings.{Mergeable}
 use Rattle.mapper.specs.CodeRun.{leftOf, rightOf}
 use Rattle.mapper.specs.CodeRunLaws.{placed-depth, placed-count, joined-by}
 use borrow.Author.Needs.{needs}

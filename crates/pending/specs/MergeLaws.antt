@@ -25,10 +25,10 @@ use Rattle.cover.specs.BitLaws.{bit-shift, bit-truthOf, truthOf-lt, truthOf-onl
 use Rattle.table.specs.Limits.{inputRoom}
 use Rattle.table.specs.declared.Table.{Table}
 use Rattle.table.specs.Records.{reads, tableOf, recordOf}
-use Rattle.merge.specs.declared.Pending.{Pending}
-use Rattle.merge.specs.Operands.{merged}
-use Rattle.merge.specs.Pendings.{operandOf, Mergeable}
-use Rattle.merge.specs.Merging.{padded, columnOf, columnsOf, valueAt, Rows, Words, Room, Filled, Ordered, Tabled, invertedOf}
+use Rattle.pending.specs.declared.Pending.{Pending}
+use Rattle.pending.specs.Operands.{merged}
+use Rattle.pending.specs.Pendings.{operandOf, Mergeable}
+use Rattle.pending.specs.Merging.{padded, columnOf, columnsOf, valueAt, Rows, Words, Room, Filled, Ordered, Tabled, invertedOf}
 
 -- ---- a part of a list
 

@@ -5,8 +5,8 @@ use Rattle.lists.specs.Lists.{Sorted}
 use Rattle.table.specs.declared.Table.{Table}
 use Rattle.table.specs.Limits.{inputRoom}
 use Rattle.table.specs.Records.{reads, tableOf, recordOf}
-use Rattle.merge.specs.declared.Pending.{Pending}
-use Rattle.merge.specs.Operands.{Operand}
+use Rattle.pending.specs.declared.Pending.{Pending}
+use Rattle.pending.specs.Operands.{Operand}
 
 abbrev pub operandOf : Pending → Operand
 operandOf x = record { inverted = x .inverted; table = tableOf (x .table) }

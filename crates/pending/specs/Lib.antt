@@ -1,0 +1,4 @@
+pub mod Operands
+pub mod Pendings
+pub mod Merging
+pub mod MergeLaws
