@@ -1,14 +1,118 @@
-// Mapping one sheet to lookup tables.
+// Mapping a sheet to lookup tables, gate by gate.
+ghost use mathlib.Core.Path.{_≡_};
+ghost use Prim.Native.Nat.{_+_, _≤_};
+ghost use Rattle.mapper_laws.specs.CodeMap.{Staged, Sheetable, SheetMapped, flipped, driving};
+ghost use Rattle.pending.specs.Merging.{Tabled};
+use gate_mapper::fanin::leaf;
+use gate_mapper::fanin::place_of;
+use gate_mapper::fanin::read_from;
+use gate_mapper::gate::fanin_count;
+use gate_mapper::gate::gather;
+use gate_mapper::gate::map_gate;
+use gate_mapper::pair::map_pair;
+use mapper_laws::Mapping;
+use mapper_laws::Run;
+use merge::inverted;
+use sheet::Sheet;
 use table::Table;
 
-mod fanin;
-mod gate;
-pub mod map;
-mod pair;
-mod run;
+// The tables that a run placed, staged after the others.
+fn stage(mapping: Mapping, run: Run) -> Mapping
+    requires { ⌜ (mapping .count + run .placed ≤ 256) × (run .placed ≤ 18) ⌝ }
+    ensures { λ r. ⌜ Staged mapping run r ⌝ }
+{
+    let placed = run.placed as usize;
+    let start = mapping.count as usize;
+    let mut m = mapping;
+    let mut i: usize = 0;
+    while i < placed {
+        let t = run.tables[i];
+        let at = start + i;
+        m.tables[at] = t;
+        i += 1;
+    }
+    m.count = mapping.count + run.placed as u16;
+    m
+}
 
-// A mapped gate that is not placed: how many tables stand below the one that holds it, and that table.
-pub struct Held {
-    pub below: u16,
-    pub table: Table,
+// The table with its value turned over, where the flag says so.
+fn flip_if(flip: bool, table: Table) -> Table
+    requires { ⌜ Tabled table ⌝ }
+    ensures { λ r. ⌜ r ≡ flipped flip table ⌝ }
+{
+    if flip { inverted(table) } else { table }
+}
+
+// The root's table: it drives the output net, and has its value turned over where the flag says so.
+fn root_table(out: u16, flip: bool, table: Table) -> Table
+    requires { ⌜ Tabled table ⌝ }
+    ensures { λ r. ⌜ r ≡ driving out (flipped flip table) ⌝ }
+{
+    let mut root = flip_if(flip, table);
+    root.net = out;
+    root
+}
+
+// Maps a sheet to tables of at most k inputs, gate by gate, where so many tables stand before them.
+pub fn map(sheet: Sheet, k: u8, used: u16) -> Mapping
+    requires { ⌜ Sheetable k used sheet ⌝ }
+    ensures { λ r. ⌜ SheetMapped k used sheet r ⌝ }
+{
+    let gates = sheet.count as usize;
+    let mut held = [leaf(0); 255];
+    let none = table::blank();
+    let mut m = Mapping {
+        count: 0,
+        tables: [none; 256],
+    };
+    let mut g: usize = 0;
+    while g < gates {
+        let gate = sheet.gates[g];
+        let kind = gate.kind;
+        let first = used + m.count;
+        if fanin_count(gate) == 2 {
+            let place = gate.first as usize;
+            let low = sheet.fanins[place];
+            let high = sheet.fanins[place + 1];
+            let low_source = low.source;
+            let high_source = high.source;
+            let low_at = place_of(low_source);
+            let high_at = place_of(high_source);
+            let x = read_from(low_source, held[low_at]);
+            let y = read_from(high_source, held[high_at]);
+            let pair = map_pair(k, first, kind, low.inverted, x, high.inverted, y);
+            let h = pair.held;
+            held[g] = h;
+            let placed = pair.placed as usize;
+            let staged = m.count;
+            let start = staged as usize;
+            let mut i: usize = 0;
+            while i < placed {
+                let t = pair.tables[i];
+                let at = start + i;
+                m.tables[at] = t;
+                i += 1;
+            }
+            m.count = staged + pair.placed as u16;
+            g += 1;
+        } else {
+            let fanins = sheet.fanins;
+            let operands = gather(gate, fanins, held);
+            let x = map_gate(k, first, kind, operands);
+            let h = x.held;
+            held[g] = h;
+            let run = x.run;
+            m = stage(m, run);
+            g += 1;
+        }
+    }
+    let at = gates - 1;
+    let root = held[at];
+    let table = root.table;
+    let last = root_table(sheet.out, sheet.inverted, table);
+    let count = m.count;
+    let end = count as usize;
+    m.tables[end] = last;
+    m.count = count + 1;
+    m
 }

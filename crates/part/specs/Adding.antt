@@ -13,7 +13,7 @@ use Rattle.sheet.specs.Trees.{drawn}
 use Rattle.cover.specs.Added.{Sheet}
 use Rattle.table.specs.declared.Table.{Table}
 use Rattle.table.specs.Records.{reads}
-use Rattle.mapper.specs.declared.map.Mapping.{Mapping}
+use Rattle.mapper_laws.specs.declared.Mapping.{Mapping}
 use Rattle.part.specs.Sheets.{Reading, sheet, refused as turnedDown}
 use Rattle.part.specs.Adds.{Answer, accepted, refused, Result}
 use Rattle.part.specs.declared.Part.{Part}

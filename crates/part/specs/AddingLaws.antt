@@ -27,9 +27,9 @@ use Rattle.table.specs.Limits.{tableBase}
 use Rattle.table.specs.Records.{reads, tableOf, recordOf}
 use Rattle.table.specs.Rules.{AllZero, Padded}
 use Rattle.table.specs.LoopLaws.{take-next, take-none}
-use Rattle.mapper.specs.declared.map.Mapping.{Mapping}
-use Rattle.mapper.specs.CodeRun.{noTable}
-use Rattle.mapper.specs.CodeMap.{tablesIn, SheetMapped}
+use Rattle.mapper_laws.specs.declared.Mapping.{Mapping}
+use Rattle.mapper_laws.specs.CodeRun.{noTable}
+use Rattle.mapper_laws.specs.CodeMap.{tablesIn, SheetMapped}
 use Rattle.part.specs.Parts.{inUse, tablesOf, Shaped}
 use Rattle.part.specs.Sound.{Sound}
 use Rattle.part.specs.SoundTest.{sound}

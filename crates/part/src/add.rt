@@ -10,7 +10,7 @@ ghost use Rattle.part.specs.Adding.{readOf, sheetOf, addingAnswer, withT
 use crate::Added;
 use crate::Adding;
 use crate::Part;
-use mapper::map::map;
+use mapper::map;
 use sheet::Answer;
 use sheet::Sheet;
 use table::Table;

@@ -17,11 +17,11 @@ use table::INPUT_ROOM;
 use table::TABLE_ROOM;
 use table::Table;
 use table::blank;
+use table::within;
 use table_rules::after;
 use table_rules::is_blank;
 use table_rules::keeps;
 use table_rules::none_seen;
-use table::within;
 
 // A part of the row module: the most inputs of a table, how many tables it can hold, how many it holds, and the tables.
 pub struct Part {

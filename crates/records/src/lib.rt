@@ -7,13 +7,13 @@ ghost use lib.ListN.{take};
 ghost use Rattle.table.specs.RecordTest.{tested};
 ghost use Rattle.records.specs.RunTest.{beginOf, stepOf, stoppedOf, finishOf, verdictOf};
 use table::INPUT_ROOM;
+use table::Seen;
 use table::TABLE_ROOM;
 use table::Table;
-use table::Seen;
+use table::within;
 use table_rules::after;
 use table_rules::keeps;
 use table_rules::none_seen;
-use table::within;
 
 // What the test of a run finds: no bad record, the first bad one counted from 1, or that K or the capacity is out of range.
 // RunTest in specs/ gives the refusals' numbers.

@@ -9,7 +9,7 @@ use lib.ListN.{length, getD, set}
 use lib.Seq.{paste, paste-zero, paste-suc}
 use Rattle.table.specs.declared.Table.{Table}
 use Rattle.table.specs.Limits.{tableRoom}
-use Rattle.mapper.specs.declared.map.Mapping.{Mapping}
+use Rattle.mapper_laws.specs.declared.Mapping.{Mapping}
 use Rattle.part.specs.Parts.{tablesOf, Shaped}
 use Rattle.part.specs.Adds.{accepted, isDriven, isRead, Offer}
 use Rattle.part.specs.Adding.{sheetOf}

@@ -1,0 +1,114 @@
+-- The mapping of a sheet, gate by gate: what is known of each gate that was mapped, and of the tables staged so far.
+-- Definitions only: the laws are in MappingLaws.
+use Prim.Native.Nat.{ℕ, _+_, _-_, _≤_, _<_}
+use mathlib.Core.Path.{_≡_}
+use mathlib.Core.Bool.{Bool, false}
+use mathlib.Core.List.{List, [], _∷_, _++_, map}
+use lib.ListN.{length, getD}
+use Rattle.lists.specs.Lists.{Every, Distinct, Permuted, Paired, gather, sum}
+use Rattle.tree.specs.declared.Kind.{Kind}
+use Rattle.tree.specs.declared.Kind.the-variants.{And as and}
+use Rattle.tree.specs.Tree.{Node, gate, Edges}
+use Rattle.plan.specs.declared.Key.{Key}
+use Rattle.plan.specs.declared.Token.{Token}
+use Rattle.plan.specs.Key.{leaf-key}
+use Rattle.cover.specs.Cover.{Cover, net, top, Fanins, end}
+use Rattle.cover.specs.Nets.{nets*}
+use Rattle.plan.specs.Reach.{Best}
+use Rattle.cover.specs.Tables.{Table, Placed, numbered}
+use Rattle.cover.specs.Placed.{tableOf, records*}
+use Rattle.plan.specs.Plans.{Body}
+use Rattle.sheet.specs.declared.Source.{Source}
+use Rattle.sheet.specs.declared.Source.the-variants.{Net, Gate}
+use Rattle.sheet.specs.declared.Edge.{Edge}
+use Rattle.sheet.specs.Sheet.{DrawnGate, leafNets, gatesRead}
+use Rattle.sheet.specs.Trees.{treesOf}
+use Rattle.pending.specs.Operands.{Operand, single}
+use Rattle.mapper_laws.specs.Run.{run}
+
+-- a gate that was mapped: its fanins, split, with what is placed among them, and its best key
+pub record Mapped : Type 0 where
+  pub kind : Kind
+  pub body : Fanins
+  pub key : Key
+
+abbrev pub unmapped : Mapped
+unmapped = record { kind = and; body = end; key = leaf-key }
+
+-- gate g, counted from 1
+abbrev pub mappedAt : List Mapped → ℕ → Mapped
+mappedAt done g = getD done (g - 1) unmapped
+
+-- how many leaves stand under it
+abbrev pub leafCount : Mapped → ℕ
+leafCount d = length (nets* (d .body))
+
+-- it is not placed
+abbrev pub coverOf : Mapped → Cover
+coverOf d = top 0 (d .kind) (d .body)
+
+-- a mapped gate of the tree t: its body is that of a cover with the best key
+pub record Stood (K : ℕ) (t : Node) (d : Mapped) : Type 0 where
+  pub edges : Edges
+  pub tree : t ≡ gate (d .kind) edges
+  pub is : Body K edges (d .key) (d .body)
+  pub best : Best K t (d .key)
+
+-- ---- what a fanin reads: its key, its cover, and its operand
+
+abbrev pub keyOf : List Mapped → Source → Key
+keyOf done (Net n) = leaf-key
+keyOf done (Gate g) = mappedAt done g .key
+
+abbrev pub sourceCover : List Mapped → Source → Cover
+sourceCover done (Net n) = net n
+sourceCover done (Gate g) = coverOf (mappedAt done g)
+
+abbrev pub keysOf : List Mapped → List Edge → List Key
+keysOf done = map (λ f. keyOf done (f .source))
+
+abbrev pub coversOf : List Mapped → List Edge → List (Bool × Cover)
+coversOf done = map (λ f. (f .inverted, sourceCover done (f .source)))
+
+-- a code stands after b tables: it is a net's, or that of one of the tables
+abbrev pub Low : (base b : ℕ) → Table → Type 0
+Low base b t = Every (λ c. c ≤ base + b) (t .inputs)
+
+-- each table reads codes below its own
+abbrev pub Early : (base : ℕ) → List Placed → Type 0
+Early base = Every (λ p. Every (λ c. c < base + p .0) (p .1 .inputs))
+
+module _ (base : ℕ) where
+  -- the table that holds the gate, and the tables within its fanins
+  abbrev pub heldTable : Mapped → Table
+  heldTable d = tableOf base 0 false (d .kind) (d .body)
+
+  abbrev pub innerOf : Mapped → List Placed
+  innerOf d = records* base (d .body) (d .kind)
+
+  abbrev pub sourceTable : List Mapped → Source → Table
+  sourceTable done (Net n) = single n
+  sourceTable done (Gate g) = heldTable (mappedAt done g)
+
+  abbrev pub operandsOf : List Mapped → List Edge → List Operand
+  operandsOf done = map (λ f. record { inverted = f .inverted; table = sourceTable done (f .source) })
+
+  -- The gates `gs` were mapped, where n tables stand before the staged ones. Together with the tables within each gate that was read,
+  -- the staged tables are those within all gates: a gate that is read takes its tables along.
+  pub record Progress (n K : ℕ) (gs : List DrawnGate) (done : List Mapped) (staged : List Table) : Type 0 where
+    pub stood : Paired (Stood K) (treesOf [] gs) done
+    pub read : Every (λ j. (1 ≤ j) × (j ≤ length done)) (gatesRead gs)
+    pub low : Every (λ d. Low base (n + length staged) (heldTable d)) done
+    pub taken : Permuted (numbered n staged ++ gather (λ j. innerOf (mappedAt done j)) (gatesRead gs)) (gather innerOf done)
+    pub earlier : Early base (numbered n staged)
+    pub leaves : length (leafNets gs) + sum (λ j. leafCount (mappedAt done j)) (gatesRead gs) ≡ sum leafCount done
+
+  -- one gate more: what the run of its plan leaves, and what is known then
+  pub record Next (n K : ℕ) (gs : List DrawnGate) (done : List Mapped) (staged : List Table) (g : DrawnGate) (plan : List Token) (a : Key) : Type 0 where
+    pub body : Fanins
+    pub new : List Table
+    pub ends : run base (n + length staged) (g .kind) (operandsOf done (g .fanins)) plan (record { stack = []; placed = [] })
+        ≡ record { stack = record { inverted = false; table = tableOf base 0 false (g .kind) body } ∷ []; placed = new }
+    pub progress : Progress n K (gs ++ (g ∷ [])) (done ++ (record { kind = g .kind; body = body; key = a } ∷ [])) (staged ++ new)
+    pub is : (es : Edges) × Body K es a body
+    pub below : Distinct (gatesRead (gs ++ (g ∷ []))) → a .below + 2 ≤ length (leafNets (gs ++ (g ∷ [])))

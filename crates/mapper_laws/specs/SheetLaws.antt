@@ -1,0 +1,402 @@
+-- The code's mapping of a whole sheet: gate by gate, and the root's table last.
+use Prim.Native.Nat.{ℕ, zero, suc, _+_, _-_, _<_, _≤_}
+use native.Mathlib.Numerals.{add-one}
+use native.Mathlib.Omega.{arith}
+use mathlib.Core.Path.{_≡_, refl, sym, ap, ap₂, _∙_, subst}
+use mathlib.Core.Bool.{Bool, true, false}
+use mathlib.Core.List.{List, [], _∷_, _++_, map}
+use lib.ListN.{List·getD-append, length, getD, set, take, drop, length-map, length-set, length-append, length-replicate, replicate, take-append-drop}
+use lib.Seq.{take-length, getD-append-add, getD-take, length-take-le, take-suc, take-suc-set, getD-set-same, getD-set-other}
+use Rattle.lists.specs.Cases.{by-eqb}
+use Rattle.lists.specs.Lists.{Every, Distinct, gather, sorted, upto}
+use Rattle.lists.specs.ListLaws.{every-none, every-cons, every-head, every-append, every-left, every-right, every-at, permuted-length, gather-append}
+use Rattle.lists.specs.NumberLaws.{sorted-permuted}
+use Rattle.tree.specs.declared.Kind.the-variants.{And}
+use Rattle.tree.specs.Limits.{codeBase}
+use Rattle.plan.specs.Entries.{Small, Fanin}
+use Rattle.plan.specs.Reach.{LeastReach}
+use Rattle.plan.specs.ReachBounds.{reach-small}
+use Rattle.plan.specs.Plans.{Planned}
+use Rattle.cover.specs.Placed.{codes*, held*, tableOf as gateTable}
+use Rattle.cover.specs.Nets.{least-bounds}
+use Rattle.cover.specs.Added.{AddedLeast}
+use Rattle.cover.specs.Size.{codes-length*}
+use Rattle.cover.specs.Tables.{Table as LookupTable}
+use Rattle.sheet.specs.declared.Source.{Source}
+use Rattle.sheet.specs.declared.Source.the-variants.{Net, Gate}
+use Rattle.sheet.specs.declared.Edge.{Edge}
+use Rattle.sheet.specs.Limits.{mostGates}
+use Rattle.sheet.specs.Sheet.{DrawnGate, DrawnSheet, gateOf, faninNets, faninGates, leafNets, gatesRead}
+use Rattle.sheet.specs.Trees.{drawn}
+use Rattle.sheet.specs.TreeLaws.{drawn-legal, leaves-count}
+use Rattle.sheet.specs.declared.Sheet.{Sheet}
+use Rattle.sheet.specs.declared.Gate.{Gate as SheetGate}
+use Rattle.sheet.specs.Answers.{drawnGate, drawnSheet}
+use Rattle.sheet.specs.Formed.{Before, Earlier, WellFormed}
+use Rattle.sheet.specs.ReadLaws.{gates-distinct}
+use Rattle.table.specs.declared.Table.{Table}
+use Rattle.table.specs.Limits.{inputRoom, tableRoom}
+use Rattle.table.specs.Records.{tableOf, recordOf}
+use Rattle.table.specs.RecordLaws.{read-back}
+use Rattle.table.specs.RuleLaws.{map-append}
+use Rattle.mapper_laws.specs.CodeRunLaws.{map-at, stack-length, placed-length}
+use Rattle.mapper_laws.specs.declared.Operands.{Operands}
+use Rattle.mapper_laws.specs.declared.Held.{Held}
+use Rattle.mapper_laws.specs.declared.MappedGate.{MappedGate}
+use Rattle.mapper_laws.specs.declared.Mapping.{Mapping}
+use Rattle.mapper_laws.specs.Run.{run}
+use Rattle.pending.specs.Pendings.{operandOf, Kept}
+use Rattle.mapper_laws.specs.CodeRun.{noTable, operandAt, stackOf, placedOf, stateOf, begun}
+use Rattle.mapper_laws.specs.Mapping.{Mapped, unmapped, mappedAt, keyOf, keysOf, heldTable, Progress, Next}
+use Rattle.mapper_laws.specs.CodeMap.{keysIn, Mappable, GateMapped, HeldIs, noHeld, HeldAll, Gathered, Gathering, Staged, Reaches, Gathers, tablesIn, Sheetable, SheetMapped, Going, flipped, driving, rooted}
+use Rattle.mapper_laws.specs.MappingLaws.{source-standing, mapping-start, mapping-next, mapping-added, done-count}
+use Rattle.pending.specs.Merging.{Tabled}
+use Rattle.pending.specs.MergeLaws.{tabled-record, tabled-inverted}
+use Rattle.mapper_laws.specs.CountLaws.{staged-few}
+
+-- ---- a gate of a well-formed sheet
+
+abbrev pub noGate : DrawnGate
+noGate = record { kind = And; fanins = [] }
+
+earlier-at : (n : ℕ) (gs : List DrawnGate) (i : ℕ) (z : DrawnGate) → Earlier n gs → i < length gs → Every (Before (n + i)) (faninGates (getD gs i z .fanins))
+earlier-at n [] i z e l = absurd (omega arith)
+earlier-at n (x ∷ gs) zero z e l = λ j m. let b = e .0 j m in (b .0, omega arith)
+earlier-at n (x ∷ gs) (suc i) z e l = λ j m. let b = earlier-at (suc n) gs i z (e .1) (omega arith) j m in (b .0, omega arith)
+
+gather-at : {A B : Type 0} {P : B → Type 0} (f : A → List B) (xs : List A) (i : ℕ) (z : A) → Every P (gather f xs) → i < length xs → Every P (f (getD xs i z))
+gather-at f [] i z h l = absurd (omega arith)
+gather-at f (x ∷ xs) zero z h l = every-left (f x) (gather f xs) h
+gather-at {P = P} f (x ∷ xs) (suc i) z h l = gather-at {P = P} f xs i z (every-right (f x) (gather f xs) h) (omega arith)
+
+distinct-left : (xs ys : List ℕ) → Distinct (xs ++ ys) → Distinct xs
+distinct-left [] ys d = tt
+distinct-left (x ∷ xs) ys d = (every-left xs ys (d .0), distinct-left xs ys (d .1))
+
+take-every : {A : Type 0} (P : A → Type 0) (xs : List A) (n : ℕ) (z : A) → n ≤ length xs → ((i : ℕ) → i < n → P (getD xs i z)) → Every P (take n xs)
+take-every P xs zero z l h = every-none _
+take-every P [] (suc n) z l h = absurd (omega arith)
+take-every P (x ∷ xs) (suc n) z l h = every-cons (h 0 (omega arith)) (take-every P xs n z (omega arith) (λ i m. h (suc i) (omega arith)))
+
+-- what is known of gate g, counted from 0
+pub record Facts (s : DrawnSheet) (g : ℕ) (x : DrawnGate) : Type 0 where
+  pub many : (2 ≤ length (x .fanins)) × (length (x .fanins) ≤ 10)
+  pub before : Every (λ j. (1 ≤ j) × (j ≤ g)) (faninGates (x .fanins))
+  pub nets : Every (λ n. n ≤ codeBase) (faninNets (x .fanins))
+  pub leaves : length (leafNets (take (suc g) (s .gates))) ≤ 256
+  pub once : Distinct (gatesRead (take (suc g) (s .gates)))
+
+pub facts : (s : DrawnSheet) → WellFormed s → (g : ℕ) (z : DrawnGate) → g < length (s .gates) → Facts s g (getD (s .gates) g z)
+facts s w g z l = record {
+  many = every-at (s .gates) g z (w .fanin-counts) l;
+  before = λ j m. let b = earlier-at 1 (s .gates) g z (w .earlier) l j m in (b .0, omega arith);
+  nets = λ n m. let b = gather-at (λ x. faninNets (x .fanins)) (s .gates) g z (w .leaf-nets) l n m in omega arith;
+  leaves = omega (arith, w .leaf-count, ap length (split-at (λ x. faninNets (x .fanins))), length-append (leafNets (take (suc g) (s .gates))) (leafNets (drop (suc g) (s .gates))));
+  once = distinct-left (gatesRead (take (suc g) (s .gates))) (gatesRead (drop (suc g) (s .gates))) (subst Distinct (split-at (λ x. faninGates (x .fanins))) (gates-distinct s w));
+}
+  where
+    split-at : (f : DrawnGate → List ℕ) → gather f (s .gates) ≡ gather f (take (suc g) (s .gates)) ++ gather f (drop (suc g) (s .gates))
+    split-at f = ap (gather f) (sym (take-append-drop (suc g) (s .gates))) ∙ gather-append f (take (suc g) (s .gates)) (drop (suc g) (s .gates))
+
+-- ---- one gate
+
+-- the keys of the fanins can be searched
+fanin-keys : {K : ℕ} (two : 2 ≤ K) {used : ℕ} {gs : List DrawnGate} {done : List Mapped} {ts : List LookupTable} → Progress codeBase used K gs done ts →
+    (held : List Held) → HeldAll done held → (fs : List Edge) → Every (λ j. (1 ≤ j) × (j ≤ length done)) (faninGates fs) → Every (Fanin K) (keysOf done fs)
+fanin-keys two p held a [] m = every-none _
+fanin-keys {K} two {done = done} p held a (f ∷ fs) m =
+    every-cons (one (f .source) (every-left (gateOf (f .source)) (faninGates fs) m)) (fanin-keys two p held a fs (every-right (gateOf (f .source)) (faninGates fs) m))
+  where
+    one : (s : Source) → Every (λ j. (1 ≤ j) × (j ≤ length done)) (gateOf s) → Fanin K (keyOf done s)
+    one (Net n) m = record { some = omega arith; most = omega arith; few = omega arith }
+    one (Gate g) m =
+        let b = every-head m in
+        let h = a (g - 1) (omega arith) in
+        let c = source-standing K two (p .stood) (Gate g) m in
+        record { some = h .fits .0; most = omega (arith, c .inputs, c .small); few = h .few }
+
+module _ {K used : ℕ} {s : DrawnSheet} {g : ℕ} {held : List Held} {m : Mapping} {x : DrawnGate} {o : Operands}
+    (two : 2 ≤ K) (six : K ≤ inputRoom) (start : used ≤ tableRoom) (y : Going K used (s .gates) g held m) (l : g < length (s .gates))
+    (s-few : length (s .gates) ≤ mostGates) (is : getD (s .gates) g noGate ≡ x) (f : Facts s g x)
+    (q : Gathering (x .fanins) held (length (x .fanins)) o) where
+  before-length : length (y .done) ≡ g
+  before-length = done-count codeBase (y .progress) ∙ length-take-le g (s .gates) (y .at)
+
+  are-mapped : Every (λ j. (1 ≤ j) × (j ≤ length (y .done))) (faninGates (x .fanins))
+  are-mapped j i = let b = f .before j i in (b .0, omega (arith, before-length))
+
+  all-gathered : Gathered (y .done) (x .fanins) o
+  all-gathered = subst (λ fs. Gathered (y .done) fs o) (take-length (x .fanins)) (q .gathered (y .done) (y .all) are-mapped)
+
+  key-list : Every (Fanin K) (keysIn o)
+  key-list = rw (all-gathered .keys) (fanin-keys two (y .progress) held (y .all) (x .fanins) are-mapped)
+
+  key-length : length (keysIn o) ≡ length (x .fanins)
+  key-length = ap length (all-gathered .keys) ∙ length-map (x .fanins) (λ f. keyOf (y .done) (f .source))
+
+  pub gate-mappable : Mappable K (used + m .count) o
+  gate-mappable = record {
+    before = omega (arith, start, y .few);
+    good = record { count = omega (arith, q .count, f .many .1); room = q .room; neat = all-gathered .neat };
+    keys = record { table = (two, six); count = (omega (arith, key-length, f .many .0), omega (arith, key-length, f .many .1)); keys = key-list };
+    key-room = q .key-room;
+    widths = all-gathered .widths;
+  }
+
+  module _ {r : MappedGate} (p : GateMapped K (used + m .count) (x .kind) o r) where
+    staged-count : length (tablesIn (m .count) (m .tables)) ≡ m .count
+    staged-count = length-map (take (m .count) (m .tables)) tableOf ∙ length-take-le (m .count) (m .tables) (omega (arith, y .few, y .table-room))
+
+    next : Next codeBase used K (take g (s .gates)) (y .done) (tablesIn (m .count) (m .tables)) x (p .tokens) (p .key)
+    next = mapping-next codeBase used K two (y .progress) x (f .many .0) (f .nets) are-mapped
+        (subst (λ ks. LeastReach K ks (p .key)) (all-gathered .keys) (p .least))
+        (subst (λ ks. Planned K ks (upto (length ks)) (p .tokens) (p .key)) (all-gathered .keys) (p .planned))
+
+    abbrev mapped : Mapped
+    mapped = record { kind = x .kind; body = next .body; key = p .key }
+
+    ends : stateOf (r .run) ≡ record { stack = record { inverted = false; table = heldTable codeBase mapped } ∷ []; placed = next .new }
+    ends =
+        p .state
+        ∙ ap₂ (λ n fs. run codeBase n (x .kind) fs (p .tokens) begun) (ap (λ n. used + n) (sym staged-count)) (all-gathered .fanins)
+        ∙ next .ends
+
+    one-deep : r .run .depth ≡ 1
+    one-deep = sym (stack-length (r .run .depth) (r .run .stack)) ∙ ap (λ z. length (z .stack)) ends
+
+    top-operand : operandOf (operandAt (r .run) 0) ≡ record { inverted = false; table = heldTable codeBase mapped }
+    top-operand =
+        let e : operandOf (operandAt (r .run) 0) ∷ [] ≡ record { inverted = false; table = heldTable codeBase mapped } ∷ []
+        = ap (λ d. stackOf d (r .run .stack)) (sym one-deep) ∙ ap (λ z. z .stack) ends in
+        cc e
+
+    held-table : r .held .table ≡ recordOf (heldTable codeBase mapped)
+    held-table =
+        p .table
+        ∙ (p .holds .operands 0 (omega (arith, one-deep))) .kept .padded
+        ∙ ap (λ z. recordOf (z .table)) top-operand
+
+    new-tables : placedOf (r .run) ≡ next .new
+    new-tables = ap (λ z. z .placed) ends
+
+    last-gate : take (suc g) (s .gates) ≡ take g (s .gates) ++ (x ∷ [])
+    last-gate = take-suc (s .gates) g noGate l ∙ ap (λ z. take g (s .gates) ++ (z ∷ [])) is
+
+    read-once : Distinct (gatesRead (take g (s .gates) ++ (x ∷ [])))
+    read-once = subst (λ gs. Distinct (gatesRead gs)) last-gate (f .once)
+
+    few-leaves : length (leafNets (take g (s .gates) ++ (x ∷ []))) ≤ 256
+    few-leaves = subst (λ gs. length (leafNets gs) ≤ 256) last-gate (f .leaves)
+
+    pub stage-room : (m .count + r .run .placed ≤ 256) × (r .run .placed ≤ 18)
+    stage-room = (
+      omega (
+        arith,
+        staged-few codeBase (next .progress) read-once,
+        few-leaves,
+        length-append (tablesIn (m .count) (m .tables)) (next .new),
+        staged-count,
+        ap length new-tables,
+        placed-length (r .run) (p .holds),
+      ),
+      p .holds .placed,
+    )
+
+    small : Small K (p .key)
+    small = reach-small two key-list (omega (arith, key-length, f .many .1)) (p .least .reach)
+
+    held-is : HeldIs (r .held) mapped
+    held-is = record {
+      table = held-table;
+      below = p .below;
+      width = sym (permuted-length (sorted-permuted (codes* codeBase (next .body)))) ∙ codes-length* codeBase (next .body) ∙ next .is .1 .inputs;
+      fits = (small .some, omega (arith, small .most, six));
+      few = omega (arith, next .below read-once, few-leaves);
+    }
+
+    held-all : HeldAll (y .done ++ (mapped ∷ [])) (set held g (r .held))
+    held-all j i =
+        by-eqb (λ b. HeldIs (getD (set held g (r .held)) j noHeld) (getD (y .done ++ (mapped ∷ [])) j unmapped)) j g
+        (λ e.
+        let d : getD (y .done ++ (mapped ∷ [])) j unmapped ≡ mapped
+        = ap (λ n. getD (y .done ++ (mapped ∷ [])) n unmapped) (let k : j ≡ length (y .done) + 0 = omega (arith, before-length) in k) ∙ getD-append-add (y .done) (mapped ∷ []) 0 unmapped in
+        let h : getD (set held g (r .held)) j noHeld ≡ r .held
+        = ap (λ n. getD (set held g (r .held)) n noHeld) e ∙ getD-set-same held g (r .held) noHeld (omega (arith, y .held-room, y .at, l, s-few)) in
+        rw (d, h) held-is)
+        (λ e.
+        let k : j < length (y .done) = omega (arith, i, length-append (y .done) (mapped ∷ []), before-length) in
+        rw (getD-set-other held g j (r .held) noHeld e, List·getD-append (y .done) (mapped ∷ []) unmapped j k) (y .all j k))
+
+    module _ {n : Mapping} (z : Staged m (r .run) n) where
+      tables-now : tablesIn (n .count) (n .tables) ≡ tablesIn (m .count) (m .tables) ++ next .new
+      tables-now =
+          ap (map tableOf) (z .tables) ∙ map-append tableOf (take (m .count) (m .tables)) (take (r .run .placed) (r .run .tables))
+          ∙ ap (λ ts. tablesIn (m .count) (m .tables) ++ ts) new-tables
+
+      run-kept : Every Kept (take (r .run .placed) (r .run .tables))
+      run-kept = take-every Kept (r .run .tables) (r .run .placed) noTable (omega (arith, p .holds .table-room, p .holds .placed)) (p .holds .kept)
+
+      -- ONE GATE MORE
+      pub going-next : Going K used (s .gates) (g + 1) (set held g (r .held)) n
+      going-next = record {
+        done = y .done ++ (mapped ∷ []);
+        progress = rw (add-one g, last-gate, tables-now) (next .progress);
+        at = omega arith;
+        all = held-all;
+        kept = rw (z .tables) (every-append (take (m .count) (m .tables)) _ (y .kept) run-kept);
+        few = omega (arith, z .count, stage-room .0);
+        held-room = length-set held g (r .held) ∙ y .held-room;
+        table-room = z .room;
+      }
+
+-- ---- the beginning and the end
+
+pub going-start : {K used : ℕ} {gs : List DrawnGate} {held : List Held} {m : Mapping} → m .count ≡ 0 → length (m .tables) ≡ 256 → length held ≡ mostGates → Going K used gs 0 held m
+going-start {K} {used} {m = m} e l h = record {
+  done = [];
+  progress = rw e (mapping-start codeBase used K);
+  at = omega arith;
+  all = λ j i. absurd (omega arith);
+  kept = rw e (every-none _);
+  few = omega arith;
+  held-room = h;
+  table-room = l;
+}
+
+root-record : (out : ℕ) (v : Bool) (d : Mapped) → driving out (flipped v (recordOf (heldTable codeBase d))) ≡ recordOf (gateTable codeBase out v (d .kind) (d .body))
+root-record out false d = refl
+root-record out true d = ap (driving out) (tabled-inverted 0 (sorted (codes* codeBase (d .body))) (held* codeBase (d .body) (d .kind)))
+
+module _ {K used : ℕ} {s : DrawnSheet} {g : ℕ} {held : List Held} {m : Mapping}
+    (two : 2 ≤ K) (w : WellFormed s) (y : Going K used (s .gates) g held m) (l : length (s .gates) ≤ g) where
+  ended : Progress codeBase used K (s .gates) (y .done) (tablesIn (m .count) (m .tables))
+  ended =
+      let e : g ≡ length (s .gates) = omega (arith, y .at) in
+      subst (λ gs. Progress codeBase used K gs (y .done) (tablesIn (m .count) (m .tables))) (ap (λ n. take n (s .gates)) e ∙ take-length (s .gates)) (y .progress)
+
+  abbrev rootHeld : Held
+  rootHeld = getD held (length (s .gates) - 1) noHeld
+
+  abbrev root : Mapped
+  root = mappedAt (y .done) (length (s .gates))
+
+  root-held : HeldIs rootHeld root
+  root-held = y .all (length (s .gates) - 1) (omega (arith, done-count codeBase ended, w .gate-count .0))
+
+  abbrev rootTable : LookupTable
+  rootTable = gateTable codeBase (s .out) (s .inverted) (root .kind) (root .body)
+
+  last-record : driving (s .out) (flipped (s .inverted) (rootHeld .table)) ≡ recordOf rootTable
+  last-record = ap (λ t. driving (s .out) (flipped (s .inverted) t)) (root-held .table) ∙ root-record (s .out) (s .inverted) root
+
+  added : (old : List LookupTable) → length old ≡ used → AddedLeast codeBase K old (tablesIn (m .count) (m .tables) ++ (rootTable ∷ [])) (drawn s)
+  added = mapping-added codeBase used K two s w (drawn-legal s w) ended
+
+  records-count : length (tablesIn (m .count) (m .tables)) ≡ m .count
+  records-count = length-map (take (m .count) (m .tables)) tableOf ∙ length-take-le (m .count) (m .tables) (omega (arith, y .few, y .table-room))
+
+  pub root-room : (m .count + 2 ≤ 256) × Tabled (rootHeld .table)
+  root-room = (
+    omega (
+      arith,
+      least-bounds K (added (replicate used rootTable) (length-replicate used rootTable) .fewest) .0,
+      leaves-count s w,
+      length-append (tablesIn (m .count) (m .tables)) (rootTable ∷ []),
+      records-count,
+    ),
+    rw (root-held .table) (tabled-record 0 (sorted (codes* codeBase (root .body))) (held* codeBase (root .body) (root .kind)) (omega (arith, root-held .width, root-held .fits .1))),
+  )
+
+  -- THE MAPPING OF THE SHEET
+  module _ {c : Sheet} (e : drawnSheet c ≡ s) where
+    pub going-end : SheetMapped K used c (rooted m (s .out) (s .inverted) (rootHeld .table))
+    going-end = record {
+      room = length-set (m .tables) (m .count) (driving (s .out) (flipped (s .inverted) (rootHeld .table))) ∙ y .table-room;
+      few = omega (arith, root-room .0);
+      kept = λ i j.
+          by-eqb (λ b. Kept (getD (set (m .tables) (m .count) last) i noTable)) i (m .count)
+          (λ q. rw (q, getD-set-same (m .tables) (m .count) last noTable (omega (arith, root-room .0, y .table-room)), last-record) root-kept)
+          (λ q. rw (getD-set-other (m .tables) (m .count) i last noTable q) (kept-at i (omega arith)));
+      least = λ old f. rw now (subst (λ z. AddedLeast codeBase K old (tablesIn (m .count) (m .tables) ++ (rootTable ∷ [])) (drawn z)) (sym e) (added old f));
+    }
+      where
+        last : Table
+        last = driving (s .out) (flipped (s .inverted) (rootHeld .table))
+
+        root-kept : Kept (recordOf rootTable)
+        root-kept = record { fits = omega (arith, root-held .width, root-held .fits .1); padded = ap recordOf (sym (read-back rootTable)) }
+
+        kept-at : (i : ℕ) → i < m .count → Kept (getD (m .tables) i noTable)
+        kept-at i l =
+            rw (← (getD-take (m .count) (m .tables) i noTable l))
+            (every-at {P = Kept} (take (m .count) (m .tables)) i noTable (y .kept) (omega (arith, l, length-take-le (m .count) (m .tables) (omega (arith, y .few, y .table-room)))))
+
+        now : tablesIn (m .count + 1) (set (m .tables) (m .count) (driving (s .out) (flipped (s .inverted) (rootHeld .table)))) ≡ tablesIn (m .count) (m .tables) ++ (rootTable ∷ [])
+        now =
+            ap (λ n. tablesIn n (set (m .tables) (m .count) (driving (s .out) (flipped (s .inverted) (rootHeld .table))))) (add-one (m .count))
+            ∙ ap (map tableOf) (take-suc-set (m .tables) (m .count) (driving (s .out) (flipped (s .inverted) (rootHeld .table))) (omega (arith, root-room .0, y .table-room)))
+            ∙ map-append tableOf (take (m .count) (m .tables)) (driving (s .out) (flipped (s .inverted) (rootHeld .table)) ∷ [])
+            ∙ ap (λ t. tablesIn (m .count) (m .tables) ++ (t ∷ [])) (ap tableOf last-record ∙ read-back rootTable)
+
+-- ---- for the code's sheet
+
+-- what an array gives past its end: no gate
+abbrev pub noSheetGate : SheetGate
+noSheetGate = record { kind = And; count = 0; first = 0 }
+
+module _ {K used : ℕ} (c : Sheet) (p : Sheetable K used c) (room : length (c .gates) ≡ mostGates) (most : c .count ≤ mostGates) where
+  drawn-count : length (drawnSheet c .gates) ≡ c .count
+  drawn-count = length-map (take (c .count) (c .gates)) (drawnGate (c .fanins)) ∙ length-take-le (c .count) (c .gates) (omega (arith, room))
+
+  pub some-gates : 1 ≤ c .count
+  some-gates = omega (arith, drawn-count, p .formed .gate-count .0)
+
+  module _ {g : ℕ} {held : List Held} {m : Mapping} (y : Going K used (drawnSheet c .gates) g held m) where
+    module _ (l : g < c .count) where
+      abbrev here : SheetGate
+      here = getD (c .gates) g noSheetGate
+
+      inside : g < length (drawnSheet c .gates)
+      inside = omega (arith, drawn-count)
+
+      here-drawn : getD (drawnSheet c .gates) g noGate ≡ drawnGate (c .fanins) here
+      here-drawn =
+          map-at (drawnGate (c .fanins)) (take (c .count) (c .gates)) g noSheetGate noGate (omega (arith, length-take-le (c .count) (c .gates) (omega (arith, room))))
+          ∙ ap (drawnGate (c .fanins)) (getD-take (c .count) (c .gates) g noSheetGate l)
+
+      here-facts : Facts (drawnSheet c) g (drawnGate (c .fanins) here)
+      here-facts = subst (λ x. Facts (drawnSheet c) g x) here-drawn (facts (drawnSheet c) (p .formed) g noGate inside)
+
+      drawn-few : length (drawnSheet c .gates) ≤ mostGates
+      drawn-few = omega (arith, drawn-count)
+
+      pub step-reaches : Reaches (c .fanins) here
+      step-reaches = record {
+        few = here-facts .many .1;
+        gates = λ j i. let b = here-facts .before j i in (b .0, omega arith);
+      }
+
+      pub step-mappable : {o : Operands} → Gathers (c .fanins) here held o → Mappable K (used + m .count) o
+      step-mappable q = gate-mappable (p .table .0) (p .table .1) (p .before) y inside drawn-few here-drawn here-facts q
+
+      pub step-room : {o : Operands} {r : MappedGate} → Gathers (c .fanins) here held o → GateMapped K (used + m .count) (here .kind) o r →
+          (m .count + r .run .placed ≤ 256) × (r .run .placed ≤ 18)
+      step-room q e = stage-room (p .table .0) (p .table .1) (p .before) y inside drawn-few here-drawn here-facts q e
+
+      pub step-next : {o : Operands} {r : MappedGate} {n : Mapping} → Gathers (c .fanins) here held o → GateMapped K (used + m .count) (here .kind) o r → Staged m (r .run) n →
+          Going K used (drawnSheet c .gates) (g + 1) (set held g (r .held)) n
+      step-next q e z = going-next (p .table .0) (p .table .1) (p .before) y inside drawn-few here-drawn here-facts q e z
+
+    module _ (l : c .count ≤ g) where
+      ended-at : length (drawnSheet c .gates) - 1 ≡ c .count - 1
+      ended-at = ap (λ n. n - 1) drawn-count
+
+      pub end-room : (m .count < 256) × Tabled (getD held (c .count - 1) noHeld .table)
+      end-room =
+          let r = root-room (p .table .0) (p .formed) y (omega (arith, drawn-count)) in
+          (omega (arith, r .0), subst (λ n. Tabled (getD held n noHeld .table)) ended-at (r .1))
+
+      pub end-mapped : {n : Mapping} → n ≡ rooted m (c .out) (c .inverted) (getD held (c .count - 1) noHeld .table) → SheetMapped K used c n
+      end-mapped e =
+          rw e (subst (λ n. SheetMapped K used c (rooted m (c .out) (c .inverted) (getD held n noHeld .table))) ended-at
+          (going-end (p .table .0) (p .formed) y (omega (arith, drawn-count)) refl))
