@@ -1,0 +1,4 @@
+pub mod Written
+pub mod Checks
+pub mod LineLaws
+pub mod RoundTrip
