@@ -1,4 +1,5 @@
--- A drawn sheet as text: 01, "Sheet". Definitions only: that reading it gives the sheet back is in RoundTrip.
+-- A drawn sheet as text: 01, "Sheet". Definitions only: that reading it gives the sheet back is in RoundTrip,
+-- and that no other text is read as the sheet in OneText.
 use Prim.Native.Nat.{ℕ}
 use mathlib.Core.Bool.{Bool, false}
 use mathlib.Core.List.{List, [], _∷_, _++_, map}
