@@ -1,16 +1,17 @@
 -- READING WHAT WAS WRITTEN GIVES THE SHEET BACK: a well-formed sheet passes each test of the reading.
-use Prim.Native.Nat.{ℕ, suc, _+_, _-_, _≤_}
+use Prim.Native.Nat.{ℕ, suc, _+_, _-_, _≤_, _<_}
 use native.Mathlib.Omega.{arith}
 use mathlib.Core.Path.{_≡_, refl, sym, ap, ap₂, _∙_}
-use mathlib.Core.Bool.{Bool, true, false, not, cond, _&&_}
-use mathlib.Core.Option.{Option, none, some}
+use mathlib.Core.Bool.{Bool, true, false, not}
+use mathlib.Core.Option.{Option, some}
 use mathlib.Core.List.{List, [], _∷_, _++_, map, append-assoc, append-nil}
-use lib.Dec.{T, ltb}
+use lib.Dec.{T}
 use lib.ListN.{length, length-append, length-map}
+use borrow.Author.Tests.{le-leb, lt-leb, lt-ltb}
 use Rattle.lists.specs.Lists.{_∈_, first, later, Every, Distinct, gather}
 use Rattle.lists.specs.ListLaws.{every-none, every-cons, every-head, every-tail, every-left, every-right, permuted-to}
 use Rattle.lists.specs.Tests.{elem}
-use Rattle.lists.specs.TestLaws.{reflects-lt, reflects-eq, reflects-not, reflects-and, reflects-elem, reflects-within, reflects-true, by-reflects}
+use Rattle.lists.specs.TestLaws.{reflects-lt, reflects-eq, reflects-not, reflects-elem, reflects-within, reflects-true}
 use Rattle.tree.specs.declared.Kind.{Kind}
 use Rattle.tree.specs.declared.Kind.the-variants.{And as and, Or as or}
 use Rattle.tree.specs.Limits.{greatestNet}
@@ -74,13 +75,14 @@ head-back s w =
 -- ---- fanins
 
 source-back : (g : ℕ) (s : Source) → Every Net (netOf s) → Every (Before g) (gateOf s) → sourceOf g (codeOf s) ≡ some s
-source-back g (net n) h k = ap (λ b. cond b (some (net n)) (cond (ltb gateBase n && ltb n (gateBase + g)) (some (gate (n - gateBase))) none)) (reflects-true (reflects-within 1 greatestNet n) (every-head h))
+source-back g (net n) h k = rw (reflects-true (reflects-within 1 greatestNet n) (every-head h))
 source-back g (gate j) h k =
     let r = every-head k in
-    by-reflects (λ b. cond b (some (net (gateBase + j))) (cond (ltb gateBase (gateBase + j) && ltb (gateBase + j) (gateBase + g)) (some (gate (gateBase + j - gateBase))) none) ≡ some (gate j))
-    (reflects-within 1 greatestNet (gateBase + j))
-    (λ w. absurd (omega arith))
-    (λ w. ap₂ (λ b n. cond b (some (gate n)) none) (reflects-true (reflects-and (reflects-lt gateBase (gateBase + j)) (reflects-lt (gateBase + j) (gateBase + g))) (omega arith, omega arith)) (omega arith))
+    let low : gateBase < gateBase + j = omega arith in
+    let high : gateBase + j < gateBase + g = omega arith in
+    let above : greatestNet < gateBase + j = omega arith in
+    rw (le-leb 1 (gateBase + j) (omega arith), lt-leb (gateBase + j) greatestNet above, lt-ltb gateBase (gateBase + j) low, lt-ltb (gateBase + j) (gateBase + g) high)
+    (ap (λ n. some (gate n)) (omega arith))
 
 -- the nets `ns` and the gates `gs` can be read on top of those seen
 record Unseen (out : ℕ) (seen : Seen) (ns gs : List ℕ) : Type 0 where
