@@ -17,12 +17,13 @@ use Rattle.table.specs.Limits.{inputRoom}
 use Rattle.table.specs.Records.{reads, tableOf, blank}
 use Rattle.table.specs.Rules.{AllZero, Blank, NamesTable, Padded, places}
 use Rattle.table.specs.RuleLaws.{old-place, placed}
 use Rattle.part.specs.Parts.{inUse, Shaped}
 use Rattle.part.specs.Sound.{Sound}
-use Rattle.part.specs.ExtendLaws.{every-take, every-drop, used-count}
+use Rattle.part.specs.SoundLaws.{used-count}
+use Rattle.demands.specs.ExtendLaws.{every-take, every-drop}
 use Rattle.part.specs.Listing.{tableLine, lineOf, listOf}
 use Rattle.table.specs.declared.Table.{Table}
 use Rattle.part.specs.declared.Part.{Part}
 
 -- ---- a record in its line
 

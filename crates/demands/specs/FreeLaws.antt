@@ -15,11 +15,11 @@ use Rattle.cover.specs.Eval.{in-driven, driven-in, numbered-is}
 use Rattle.table.specs.Limits.{tableBase}
 use Rattle.table.specs.Records.{tableOf}
 use Rattle.table.specs.Rules.{IsNet, places, Rules}
 use Rattle.part.specs.Parts.{inUse, tablesOf}
 use Rattle.part.specs.Sound.{Sound}
-use Rattle.part.specs.AddLaws.{Driven}
+use Rattle.demands.specs.Nets.{Driven}
 use Rattle.table.specs.declared.Table.{Table}
 use Rattle.part.specs.declared.Part.{Part}
 
 map-same : (d e : ℕ → Bool) (xs : List ℕ) → Every (λ x. d x ≡ e x) xs → map d xs ≡ map e xs
 map-same d e [] h = refl

@@ -12,12 +12,11 @@ use Rattle.table.specs.Limits.{KRange, CapacityRange}
 use Rattle.part.specs.declared.Part.{Part}
 use Rattle.part.specs.Parts.{tablesOf}
 use Rattle.part.specs.Sound.{Sound}
-use Rattle.part.specs.Sheets.{sheet, refused as unread}
+use Rattle.part.specs.Sheets.{sheet, refused as unread, readOf}
 use Rattle.part.specs.Adds.{Answer, accepted, refused, Result, empty}
-use Rattle.part.specs.AddLaws.{Driven, Read}
-use Rattle.part.specs.Adding.{readOf}
+use Rattle.demands.specs.Nets.{Driven, Read}
 use Rattle.listing.specs.Lines as Lines
 use Rattle.listing.specs.Lines.{wrote, pasted}
 
 -- ---- opening
 
