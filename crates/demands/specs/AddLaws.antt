@@ -128,7 +128,7 @@ module _ (p : Part) (text : List ℕ) (q : Part) (a : Answer) where
           (λ l. full s (o .0) h e (fresh s (tablesOf p) d r) (o .1) (omega arith)) (o .2)))
 
 module _ (p : Part) (shape : Shaped p) where
-  same-kept : (q : Part) → q ≡ p → Kept p q
+  pub same-kept : (q : Part) → q ≡ p → Kept p q
   same-kept q e = subst (λ q. Kept p q) (sym e) (record { same-k = refl; same-capacity = refl; shaped = shape; sound = λ h. h })
 
   pub kept : {text : List ℕ} {q : Part} {a : Answer} → Outcome p text q a → Kept p q

@@ -22,6 +22,8 @@ use Rattle.demands.specs.Calls.{add, final, Chain, call}
 use Rattle.part.specs.Examples.{part}
 use Rattle.part.specs.declared.Part.{Part}
 use Rattle.demands.specs.Calls as calls
+use Rattle.demands.specs.Demands as Demands
+use Rattle.demands.specs.Demands.{Total, more}
 
 -- net 20 = (1 or 2) and (3 or 4), and net 21 = not (20 and not 5)
 abbrev first : Sheet
@@ -134,6 +136,10 @@ add-2 = rw second-read (1, least-2, record { new = table-2; least = added-2; par
 
 abbrev results : List Result
 results = record { part = middle; answer = accepted } ∷ record { part = end-part; answer = accepted } ∷ []
+
+-- the sum of the sheets' least numbers is the part's used count
+sum : Total 4 (first ∷ second ∷ []) (part .used)
+sum = more least-1 (more least-2 Demands.none)
 
 -- the promises can be kept
 chain : Chain start (add first-text ∷ add second-text ∷ []) results

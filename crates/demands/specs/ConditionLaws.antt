@@ -1,5 +1,5 @@
 -- DEMAND 1, of each entry point that can turn something down: `Part::open`, `Part::add`, `write_line` and `write_list`, each about what its
--- contract says. The results are `opening-told`, `add-told`, `line-told` and `list-told`; Conditions has what they say.
+-- contract says. The results are `opening-told`, `add-told`, `line-told` and `list-told`; Demands has what they say.
 use Prim.Native.Nat.{ℕ, _+_, _-_, _≤_}
 use native.Mathlib.Omega.{arith}
 use mathlib.Core.Path.{_≡_, refl, sym, ap, _∙_, subst}
@@ -20,17 +20,15 @@ use Rattle.part.specs.SoundLaws.{sound-reflects}
 use Rattle.part.specs.Sheets.{Reading, sheet, readOf}
 use Rattle.part.specs.Adds.{Answer, accepted, refused, opened, isDriven, isRead, Add}
 use Rattle.demands.specs.AddLaws.{driven-reflects, read-reflects, opened-cases, Outcome, unsound, misread, driven, read, full, taken, outcome, not-refused, refused-stays}
-use Rattle.demands.specs.CountLaws.{least-number}
-use Rattle.demands.specs.Demands.{leastNumber}
 use Rattle.demands.specs.Settled as Settled
-use Rattle.demands.specs.Settled.{answerOf}
+use Rattle.demands.specs.Settled.{leastNumber, answerOf}
 use Rattle.demands.specs.ReadingLaws.{reads-right}
-use Rattle.demands.specs.SettledLaws.{add-answer}
+use Rattle.demands.specs.SettledLaws.{least-number, add-answer}
 use Rattle.part.specs.Listing.{lineOf, listOf}
 use Rattle.listing.specs.Lines as Lines
 use Rattle.listing.specs.Lines.{wrote, pasted, turnedDown, fitted, lineWritten, listWritten}
-use Rattle.demands.specs.Conditions.{OpeningCondition, bad-k, bad-capacity, OpeningTold, AddCondition, not-sound, out-driven, out-read, no-room, not-read, Addable, AddTold}
-use Rattle.demands.specs.Conditions.{WriteCondition, part-unsound, not-there, too-short, WriteTold}
+use Rattle.demands.specs.Demands.{OpeningCondition, bad-k, bad-capacity, OpeningTold, AddCondition, not-sound, out-driven, out-read, no-room, not-read, Addable, AddTold}
+use Rattle.demands.specs.Demands.{WriteCondition, part-unsound, not-there, too-short, WriteTold}
 
 reflects-false : {b : Bool} {P : Type 0} → Reflects b P → ¬ P → b ≡ false
 reflects-false r n = by-reflects (λ c. c ≡ false) r (λ h. absurd (n h)) (λ m. refl)

@@ -1,36 +1,24 @@
 -- Demand 3: over every list of calls, from any part, the tables taken, their number, and the used count.
-use Prim.Native.Nat.{ℕ, _+_, _-_, _≤_}
+use Prim.Native.Nat.{ℕ, _+_, _-_}
 use native.Mathlib.Omega.{arith}
-use mathlib.Core.Path.{_≡_, sym, ap, ap₂, _∙_, subst}
-use mathlib.Core.List.{List, _++_}
-use lib.Dec.{T}
+use mathlib.Core.Path.{_≡_, refl, sym, ap, ap₂, _∙_, subst}
+use mathlib.Core.List.{List, _∷_, _++_}
 use lib.ListN.{length}
-use Rattle.lists.specs.Lists.{_∈_, Every}
-use Rattle.lists.specs.ListLaws.{every-none, every-cons, every-append}
-use Rattle.lists.specs.NumberLaws.{sum-append}
-use Rattle.tree.specs.Tree.{proper}
+use Rattle.lists.specs.Lists.{_∈_}
 use Rattle.cover.specs.Cover.{Least}
-use Rattle.cover.specs.Least.{least-unique, least-tables, least-is}
+use Rattle.cover.specs.Least.{least-unique}
 use Rattle.cover.specs.Tables.{Table as LookupTable}
 use Rattle.cover.specs.Added.{Sheet}
 use Rattle.part.specs.Parts.{inUse, tablesOf, Shaped}
 use Rattle.part.specs.Sound.{Sound}
 use Rattle.part.specs.Sheets.{Reading, sheet, refused as unread, readOf}
-use Rattle.demands.specs.Readable.{Readable}
-use Rattle.demands.specs.ReadingLaws.{reads-right}
-use Rattle.part.specs.Adds.{Answer, accepted, Result, Refused, Accepted}
-use Rattle.demands.specs.ExtendLaws.{extended-inUse, extended-tables}
-use Rattle.demands.specs.AddLaws.{Kept, Outcome, unsound, misread, driven, read, full, taken, outcome, kept, not-refused}
-use Rattle.demands.specs.Calls.{Call, add, final, sheetsRead, ifAccepted, Promise, sheetsOf, Chain, done, call, acceptedIn, Link, here, next}
-use Rattle.demands.specs.Demands.{leastNumber, total, left, Passes, Taken, Room, CallAccounted, Counted}
+use Rattle.part.specs.Adds.{Answer, accepted, refused, Result, Refused, Accepted}
 use Rattle.part.specs.declared.Part.{Part}
-
--- the least number of a sheet that was read
-pub least-number : (k : ℕ) → 2 ≤ k → (s : Sheet) → Readable s → Least k (s .tree) (leastNumber k s)
-unfolding leastNumber
-least-number k two s r =
-    let g = r .root in
-    subst (λ t. Least k t (least-tables k t)) (sym (g .2)) (least-is k two (g .0) (g .1) (subst (λ t. T (proper t)) (g .2) (r .proper)))
+use Rattle.demands.specs.ReadingLaws.{refused-below}
+use Rattle.demands.specs.ExtendLaws.{extended-inUse, extended-tables}
+use Rattle.demands.specs.AddLaws.{Kept, Outcome, unsound, misread, driven, read, full, taken, outcome, kept, same-kept, not-refused}
+use Rattle.demands.specs.Calls.{Call, add, final, sheetsRead, ifAccepted, Promise, sheetsOf, Chain, done, call, acceptedIn, Link, here, next}
+use Rattle.demands.specs.Demands.{Total, none, more, left, Passes, Taken, Room, CallAccounted, Demand3}
 
 -- two readings
 pub same-sheet : {v : Reading} {s t : Sheet} → v ≡ sheet s → v ≡ sheet t → s ≡ t
@@ -39,27 +27,42 @@ same-sheet e f = cc
 not-read : {v : Reading} {number place : ℕ} {s : Sheet} → v ≡ unread number place → v ≡ sheet s → ⊥
 not-read e f = let z : _≡_ {A = ℕ} 0 1 = cc in omega arith
 
+-- two refusals
+same-number : {a : Answer} {m l n k : ℕ} → a ≡ refused m l → a ≡ refused n k → m ≡ n
+same-number e f = cc
+
+-- ---- sums of least numbers
+
+-- there is only one
+pub total-unique : {k m n : ℕ} {ss : List Sheet} → Total k ss m → Total k ss n → m ≡ n
+total-unique none none = refl
+total-unique (more l t) (more i u) = ap₂ _+_ (least-unique l i) (total-unique t u)
+
+total-append : {k m n : ℕ} {ss ts : List Sheet} → Total k ss m → Total k ts n → Total k (ss ++ ts) (m + n)
+total-append {k} {n = n} {ts = ts} none u = let e : n ≡ 0 + n = omega arith in subst (Total k ts) e u
+total-append {k} {n = n} {ts = ts} (more {s = s} {ss = ss} {n = a} {m = b} l t) u =
+    let e : a + (b + n) ≡ a + b + n = omega arith in
+    subst (Total k (s ∷ (ss ++ ts))) e (more l (total-append t u))
+
+-- the count v is u plus the sum of the sheets' least numbers
+abbrev Grown : ℕ → List Sheet → ℕ → ℕ → Type 0
+Grown k ss u v = (n : ℕ) × Total k ss n × (v ≡ u + n)
+
 -- ---- one add
 
 module _ (p : Part) (shape : Shaped p) (text : List ℕ) where
-  least-read : (s : Sheet) → Sound p → readOf text ≡ sheet s → Least (p .k) (s .tree) (leastNumber (p .k) s)
-  least-read s h e = least-number (p .k) (h .k-range .0) s (reads-right text s e)
-
-  accepted-taken : (s : Sheet) (q : Part) (a : Answer) → Sound p → readOf text ≡ sheet s → (t : Accepted p s q a) →
-      Taken (p .k) p text q s (t .new)
+  accepted-taken : (s : Sheet) (q : Part) (a : Answer) → Sound p → readOf text ≡ sheet s → (t : Accepted p s q a) → Taken (p .k) p text q s (t .new)
   accepted-taken s q a h e t = record {
     read = e;
     records = ap inUse (t .part) ∙ extended-inUse p shape h (t .new);
     tables = ap tablesOf (t .part) ∙ extended-tables p shape h (t .new);
-    cover = t .least;
-    least = least-read s h e;
-    number = least-unique (t .least .fewest) (least-read s h e);
+    cover = t .least .added;
+    least = t .least .fewest;
     used = ap (λ q. q .used) (t .part);
   }
 
   -- the tables taken
-  outcome-taken : {q : Part} {a : Answer} → Outcome p text q a → a ≡ accepted →
-      (s : Sheet) × (new : List LookupTable) × Taken (p .k) p text q s new
+  outcome-taken : {q : Part} {a : Answer} → Outcome p text q a → a ≡ accepted → (s : Sheet) × (new : List LookupTable) × Taken (p .k) p text q s new
   outcome-taken (unsound n r) f = absurd (not-refused (r .1) f)
   outcome-taken (misread number place h e r) f = absurd (not-refused (r .1) f)
   outcome-taken (driven s h e d r) f = absurd (not-refused (r .1) f)
@@ -77,105 +80,101 @@ module _ (p : Part) (shape : Shaped p) (text : List ℕ) where
       let j = same-sheet e (g .read) in
       absurd (g .fresh (i .0) (i .1) .1 (subst (λ x. x .out ∈ i .0 .inputs) j (i .2)))
   outcome-room (full u n h e f l m r) s g =
-      let b = least-read s h (g .read) in
-      let i : n ≡ leastNumber (p .k) s = least-unique (subst (λ x. Least (p .k) (x .tree) n) (same-sheet e (g .read)) l) b in
-      record { least = b; refuses = (λ x. omega arith, λ x. r .1); accepts = (λ x. absurd (not-refused (r .1) x), λ x. absurd (omega arith)) }
-  outcome-room (taken u h e f t room) s g =
-      let b = least-read s h (g .read) in
-      let i : length (t .new) ≡ leastNumber (p .k) s = least-unique (subst (λ x. Least (p .k) (x .tree) (length (t .new))) (same-sheet e (g .read)) (t .least .fewest)) b in
+      let b : Least (p .k) (s .tree) n = subst (λ x. Least (p .k) (x .tree) n) (same-sheet e (g .read)) l in
       record {
-        least = b;
-        refuses = (λ x. absurd (not-refused x (t .answer)), λ x. absurd (omega (arith, room, i, x)));
-        accepts = (λ x. omega (arith, room, i), λ x. t .answer);
+        some = (n, b);
+        refuses = λ x c. (λ y. omega (arith, m, least-unique b c), λ y. r .1);
+        accepts = λ x c. (λ y. absurd (not-refused (r .1) y), λ y. absurd (omega (arith, m, y, least-unique b c)));
+      }
+  outcome-room (taken u h e f t room) s g =
+      let b : Least (p .k) (s .tree) (length (t .new)) = subst (λ x. Least (p .k) (x .tree) (length (t .new))) (same-sheet e (g .read)) (t .least .fewest) in
+      record {
+        some = (length (t .new), b);
+        refuses = λ x c. (λ y. absurd (not-refused y (t .answer)), λ y. absurd (omega (arith, room, y, least-unique b c)));
+        accepts = λ x c. (λ y. omega (arith, room, least-unique b c), λ y. t .answer);
       }
 
+  -- 23 for no other
+  outcome-only : {q : Part} {a : Answer} → Outcome p text q a → a ≡ refused 23 0 → (s : Sheet) × Passes p text s
+  outcome-only (unsound n r) f = absurd (omega (arith, same-number (r .1) f))
+  outcome-only (misread number place h e r) f = absurd (omega (arith, same-number (r .1) f, refused-below text number place e))
+  outcome-only (driven s h e d r) f = absurd (omega (arith, same-number (r .1) f))
+  outcome-only (read s h e d i r) f = absurd (omega (arith, same-number (r .1) f))
+  outcome-only (full s n h e g l m r) f = (s, record { sound = h; read = e; fresh = g })
+  outcome-only (taken s h e g t room) f = absurd (not-refused f (t .answer))
+
   -- the used count
-  none-used : (number place : ℕ) (q : Part) (a : Answer) → Refused p number place q a →
-      q .used ≡ p .used + total (p .k) (ifAccepted a (sheetsRead (readOf text)))
-  none-used number place q a r =
-      ap (λ q. q .used) (r .0) ∙ subst (λ a. p .used ≡ p .used + total (p .k) (ifAccepted a (sheetsRead (readOf text)))) (sym (r .1)) (omega arith)
+  none-grown : (number place : ℕ) (q : Part) (a : Answer) → Refused p number place q a →
+      Grown (p .k) (ifAccepted a (sheetsRead (readOf text))) (p .used) (q .used)
+  none-grown number place q a r = (
+    0,
+    subst (λ a. Total (p .k) (ifAccepted a (sheetsRead (readOf text))) 0) (sym (r .1)) none,
+    omega (arith, ap (λ q. q .used) (r .0)),
+  )
 
-  none-least : (number place : ℕ) (q : Part) (a : Answer) → Refused p number place q a →
-      Every (λ s. Least (p .k) (s .tree) (leastNumber (p .k) s)) (ifAccepted a (sheetsRead (readOf text)))
-  none-least number place q a r =
-      subst (λ a. Every (λ s. Least (p .k) (s .tree) (leastNumber (p .k) s)) (ifAccepted a (sheetsRead (readOf text)))) (sym (r .1)) (every-none _)
-
-  outcome-used : {q : Part} {a : Answer} → Outcome p text q a → q .used ≡ p .used + total (p .k) (ifAccepted a (sheetsRead (readOf text)))
-  outcome-used (unsound n r) = none-used _ _ _ _ r
-  outcome-used (misread number place h e r) = none-used _ _ _ _ r
-  outcome-used (driven s h e d r) = none-used _ _ _ _ r
-  outcome-used (read s h e d i r) = none-used _ _ _ _ r
-  outcome-used (full s n h e f l m r) = none-used _ _ _ _ r
-  outcome-used {q} {a} (taken s h e f t room) =
-      let z = accepted-taken s q a h e t in
-      let i : total (p .k) (ifAccepted a (sheetsRead (readOf text))) ≡ leastNumber (p .k) s + 0 =
-      ap₂ (λ b v. total (p .k) (ifAccepted b (sheetsRead v))) (t .answer) e in
-      omega (arith, z .used, z .number, i)
-
-  -- the accepted sheet's least number
-  outcome-least : {q : Part} {a : Answer} → Outcome p text q a →
-      Every (λ s. Least (p .k) (s .tree) (leastNumber (p .k) s)) (ifAccepted a (sheetsRead (readOf text)))
-  outcome-least (unsound n r) = none-least _ _ _ _ r
-  outcome-least (misread number place h e r) = none-least _ _ _ _ r
-  outcome-least (driven s h e d r) = none-least _ _ _ _ r
-  outcome-least (read s h e d i r) = none-least _ _ _ _ r
-  outcome-least (full s n h e f l m r) = none-least _ _ _ _ r
-  outcome-least (taken s h e f t room) =
-      subst (Every (λ s. Least (p .k) (s .tree) (leastNumber (p .k) s))) (sym (ap₂ (λ a v. ifAccepted a (sheetsRead v)) (t .answer) e))
-      (every-cons (least-read s h e) (every-none _))
+  outcome-grown : {q : Part} {a : Answer} → Outcome p text q a → Grown (p .k) (ifAccepted a (sheetsRead (readOf text))) (p .used) (q .used)
+  outcome-grown (unsound n r) = none-grown _ _ _ _ r
+  outcome-grown (misread number place h e r) = none-grown _ _ _ _ r
+  outcome-grown (driven s h e d r) = none-grown _ _ _ _ r
+  outcome-grown (read s h e d i r) = none-grown _ _ _ _ r
+  outcome-grown (full s n h e f l m r) = none-grown _ _ _ _ r
+  outcome-grown (taken s h e f t room) = (
+    length (t .new) + 0,
+    subst (λ us. Total (p .k) us (length (t .new) + 0)) (sym (ap₂ (λ b v. ifAccepted b (sheetsRead v)) (t .answer) e)) (more (t .least .fewest) none),
+    omega (arith, ap (λ q. q .used) (t .part)),
+  )
 
 -- ---- a call
 
 pub call-kept : (p : Part) → Shaped p → (c : Call) (q : Part) (a : Answer) → Promise p c q a → Kept p q
 call-kept p shape (add text) q a h = kept p shape (outcome p text q a h)
 
-pub call-used : (p : Part) → Shaped p → (c : Call) (q : Part) (a : Answer) → Promise p c q a →
-    q .used ≡ p .used + total (p .k) (ifAccepted a (sheetsOf c))
-call-used p shape (add text) q a h = outcome-used p shape text (outcome p text q a h)
+call-grown : (p : Part) → Shaped p → (c : Call) (q : Part) (a : Answer) → Promise p c q a → Grown (p .k) (ifAccepted a (sheetsOf c)) (p .used) (q .used)
+call-grown p shape (add text) q a h = outcome-grown p shape text (outcome p text q a h)
 
-call-least : (p : Part) → Shaped p → (c : Call) (q : Part) (a : Answer) → Promise p c q a →
-    Every (λ s. Least (p .k) (s .tree) (leastNumber (p .k) s)) (ifAccepted a (sheetsOf c))
-call-least p shape (add text) q a h = outcome-least p shape text (outcome p text q a h)
-
-call-accounted : (p : Part) → Shaped p → (c : Call) (r : Result) → Promise p c (r .part) (r .answer) →
-    CallAccounted (p .k) (p .capacity - p .used) p c r
+call-accounted : (p : Part) → Shaped p → (c : Call) (r : Result) → Promise p c (r .part) (r .answer) → CallAccounted (p .k) (p .capacity - p .used) p c r
 call-accounted p shape (add text) r h =
     let o = outcome p text (r .part) (r .answer) h in
-    record { taken = outcome-taken p shape text o; room = outcome-room p shape text o }
+    record { taken = outcome-taken p shape text o; room = outcome-room p shape text o; only = outcome-only p shape text o }
 
 -- ---- a chain of calls
 
-chain-used : {p : Part} {cs : List Call} {rs : List Result} → Chain p cs rs → Shaped p →
-    (final p rs) .used ≡ p .used + total (p .k) (acceptedIn cs rs)
-chain-used done shape = omega arith
-chain-used {p} (call {c = c} {cs = cs} {r = r} {rs = rs} h t) shape =
+pub chain-kept : {p : Part} {cs : List Call} {rs : List Result} → Chain p cs rs → Shaped p → Kept p (final p rs)
+chain-kept {p} done shape = same-kept p shape p refl
+chain-kept {p} (call {c = c} {r = r} h t) shape =
     let k = call-kept p shape c (r .part) (r .answer) h in
-    let u = call-used p shape c (r .part) (r .answer) h in
-    let ih = subst (λ n. (final (r .part) rs) .used ≡ r .part .used + total n (acceptedIn cs rs)) (k .same-k) (chain-used t (k .shaped)) in
-    omega (arith, ih, u, sum-append (leastNumber (p .k)) (ifAccepted (r .answer) (sheetsOf c)) (acceptedIn cs rs))
+    let i = chain-kept t (k .shaped) in
+    record {
+      same-k = i .same-k ∙ k .same-k;
+      same-capacity = i .same-capacity ∙ k .same-capacity;
+      shaped = i .shaped;
+      sound = λ s. i .sound (k .sound s);
+    }
 
-chain-least : {p : Part} {cs : List Call} {rs : List Result} → Chain p cs rs → Shaped p →
-    Every (λ s. Least (p .k) (s .tree) (leastNumber (p .k) s)) (acceptedIn cs rs)
-chain-least done shape = every-none _
-chain-least {p} (call {c = c} {cs = cs} {r = r} {rs = rs} h t) shape =
+chain-grown : {p : Part} {cs : List Call} {rs : List Result} → Chain p cs rs → Shaped p → Grown (p .k) (acceptedIn cs rs) (p .used) ((final p rs) .used)
+chain-grown done shape = (0, none, omega arith)
+chain-grown {p} (call {c = c} {cs = cs} {r = r} {rs = rs} h t) shape =
     let k = call-kept p shape c (r .part) (r .answer) h in
-    every-append (ifAccepted (r .answer) (sheetsOf c)) (acceptedIn cs rs) (call-least p shape c (r .part) (r .answer) h)
-    (subst (λ n. Every (λ s. Least n (s .tree) (leastNumber n s)) (acceptedIn cs rs)) (k .same-k) (chain-least t (k .shaped)))
+    let g = call-grown p shape c (r .part) (r .answer) h in
+    let i = subst (λ n. Grown n (acceptedIn cs rs) (r .part .used) ((final (r .part) rs) .used)) (k .same-k) (chain-grown t (k .shaped)) in
+    (g .0 + i .0, total-append (g .1) (i .1), omega (arith, g .2, i .2))
+
+-- a call with the number left for it
+abbrev Counts : ℕ → Part → List Sheet → Part → Call → Result → Type 0
+Counts k p ss o c r = (n : ℕ) × Total k ss n × CallAccounted k (left p n) o c r
 
 chain-each : {p o : Part} {cs : List Call} {rs : List Result} {ss : List Sheet} {d : Call} {t : Result} → Link p cs rs ss o d t →
-    Chain p cs rs → Shaped p → CallAccounted (p .k) (left p ss) o d t
+    Chain p cs rs → Shaped p → Counts (p .k) p ss o d t
 chain-each {p} {d = d} {t = t} here (call h rest) shape =
-    let e : p .capacity - p .used ≡ p .capacity - p .used - 0 = omega arith in
-    subst (λ n. CallAccounted (p .k) n p d t) e (call-accounted p shape d t h)
+    let e : p .capacity - p .used ≡ left p 0 = omega arith in
+    (0, none, subst (λ n. CallAccounted (p .k) n p d t) e (call-accounted p shape d t h))
 chain-each {p} {o} {d = d} {t = t} (next {c = c} {r = r} {ss = ss} l) (call h rest) shape =
     let k = call-kept p shape c (r .part) (r .answer) h in
-    let u = call-used p shape c (r .part) (r .answer) h in
-    let e : left (r .part) ss ≡ p .capacity - r .part .used - total (p .k) ss = ap₂ (λ n m. n - r .part .used - total m ss) (k .same-capacity) (k .same-k) in
-    let f : left (r .part) ss ≡ left p (ifAccepted (r .answer) (sheetsOf c) ++ ss) =
-    omega (arith, e, u, sum-append (leastNumber (p .k)) (ifAccepted (r .answer) (sheetsOf c)) ss) in
-    subst (λ n. CallAccounted n (left p (ifAccepted (r .answer) (sheetsOf c) ++ ss)) o d t) (k .same-k)
-    (subst (λ n. CallAccounted (r .part .k) n o d t) f (chain-each l rest (k .shaped)))
+    let g = call-grown p shape c (r .part) (r .answer) h in
+    let i = subst (λ n. Counts n (r .part) ss o d t) (k .same-k) (chain-each l rest (k .shaped)) in
+    let e : left (r .part) (i .0) ≡ left p (g .0 + i .0) = omega (arith, g .2, k .same-capacity) in
+    (g .0 + i .0, total-append (g .1) (i .1), subst (λ n. CallAccounted (p .k) n o d t) e (i .2))
 
 -- DEMAND 3
-pub counted : (p : Part) → Shaped p → (cs : List Call) (rs : List Result) → Chain p cs rs → Counted p cs rs
-counted p shape cs rs h = record { each = λ ss o c r l. chain-each l h shape; least = chain-least h shape; used = chain-used h shape }
+pub counted : (p : Part) → Shaped p → (cs : List Call) (rs : List Result) → Chain p cs rs → Demand3 p cs rs
+counted p shape cs rs h = record { each = λ ss o c r l. chain-each l h shape; used = chain-grown h shape }

@@ -42,7 +42,7 @@ module _ {A : Type 0} where
   every-replicate P zero x h = every-none _
   every-replicate P (suc n) x h = every-cons h (every-replicate P n x h)
 
-  every-map : {B : Type 0} (P : A → Type 0) (f : B → A) (xs : List B) → Every (λ x. P (f x)) xs → Every P (map f xs)
+  pub every-map : {B : Type 0} (P : A → Type 0) (f : B → A) (xs : List B) → Every (λ x. P (f x)) xs → Every P (map f xs)
   every-map P f [] h = every-none _
   every-map P f (x ∷ xs) h = every-cons (every-head h) (every-map P f xs (every-tail h))
 

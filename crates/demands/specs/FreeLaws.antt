@@ -81,9 +81,9 @@ module _ (k : ℕ) (rs : List Table) (h : Rules k rs) where
       out = ap (λ bs. bit (t .truth) (index bs)) (map-same d e (t .inputs) reads)
 
 -- THE VALUES OF A SOUND PART depend on the free nets alone
-pub free-nets : (p : Part) → Sound p → (σ τ : ℕ → Bool) → ((n : ℕ) → IsNet n → ¬ (Driven n (tablesOf p)) → σ n ≡ τ n) → (n : ℕ) → IsNet n →
+pub values-by-free-nets : (p : Part) → Sound p → (σ τ : ℕ → Bool) → ((n : ℕ) → IsNet n → ¬ (Driven n (tablesOf p)) → σ n ≡ τ n) → (n : ℕ) → IsNet n →
     settled tableBase (tablesOf p) σ n ≡ settled tableBase (tablesOf p) τ n
-free-nets p h σ τ g n l = values-same (p .k) (inUse p) (h .rules) 0 (tablesOf p) (λ q m. m) σ τ unwritten n (inl l)
+values-by-free-nets p h σ τ g n l = values-same (p .k) (inUse p) (h .rules) 0 (tablesOf p) (λ q m. m) σ τ unwritten n (inl l)
   where
     -- a net that is driven is written
     driven-written : (c : ℕ) → 1 ≤ c → Driven c (tablesOf p) → Written (p .k) (inUse p) (h .rules) (places (inUse p)) c

@@ -1,7 +1,6 @@
 pub mod Nets
 pub mod Readable
 pub mod Calls
-pub mod Conditions
 pub mod Demands
 pub mod Settled
 pub mod ReadingLaws

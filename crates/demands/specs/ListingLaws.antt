@@ -197,8 +197,8 @@ module _ (p q : Part) (fp : Shaped p) (fq : Shaped q) (hp : Sound p) (hq : Sound
       every-cons (a .0) (lines-only ts (every-tail f) (a .1))
 
   -- TWO SOUND PARTS WITH THE SAME LIST are the same part
-  pub same-list : listOf p ≡ listOf q → p ≡ q
-  same-list e =
+  pub list-says-all : listOf p ≡ listOf q → p ≡ q
+  list-says-all e =
       let a = top-only (gather (lineOf p) (map suc (upto (p .used)))) (gather (lineOf q) (map suc (upto (q .used)))) e in
       let b : gather (lineOf p) (map suc (upto (p .used))) ≡ gather (lineOf q) (map suc (upto (p .used))) =
       a .3 ∙ ap (λ n. gather (lineOf q) (map suc (upto n))) (sym (a .2)) in

@@ -29,8 +29,8 @@ use Rattle.demands.specs.ReadingLaws.{reads-right}
 use Rattle.part.specs.Adds.{Answer, accepted, refused, Result, extended, isRead, Refused, Accepted, Fill, Offer, Take, Add}
 use Rattle.demands.specs.AddLaws.{driven-reflects, read-reflects}
 use Rattle.demands.specs.Calls.{Call, add, Promise, Chain, call}
-use Rattle.demands.specs.Demands.{leastNumber}
-use Rattle.demands.specs.CountLaws.{least-number}
+use Rattle.demands.specs.Settled.{leastNumber}
+use Rattle.demands.specs.SettledLaws.{least-number}
 use Rattle.part.specs.declared.Part.{Part}
 use Rattle.demands.specs.Calls as calls
 

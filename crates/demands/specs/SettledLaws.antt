@@ -6,13 +6,13 @@ use mathlib.Core.Path.{_≡_, refl, sym, ap, ap₂, _∙_, subst}
 use mathlib.Core.Logic.{_⊎_, inl, inr}
 use mathlib.Core.Bool.{true, cond, _||_}
 use mathlib.Core.List.{List, _∷_, _++_, map}
-use lib.Dec.{leb, eqb}
+use lib.Dec.{T, leb, eqb}
 use lib.ListN.{length}
 use Rattle.lists.specs.Tests.{elem, either}
 use Rattle.lists.specs.TestLaws.{reflects-le, reflects-eq, reflects-or, reflects-elem, by-reflects, reflects-same, reflects-true}
-use Rattle.tree.specs.Tree.{leaves}
+use Rattle.tree.specs.Tree.{proper, leaves}
 use Rattle.cover.specs.Cover.{Least}
-use Rattle.cover.specs.Least.{least-unique}
+use Rattle.cover.specs.Least.{least-unique, least-tables, least-is}
 use Rattle.cover.specs.Added.{Sheet, Fresh}
 use Rattle.table.specs.Limits.{tableBase}
 use Rattle.table.specs.Rules.{IsNet}
@@ -27,11 +27,18 @@ use Rattle.demands.specs.Nets.{Driven, Read}
 use Rattle.demands.specs.AddLaws.{driven-reflects, read-reflects, Outcome, unsound, misread, driven, read, full, taken as took, outcome, not-refused}
 use Rattle.demands.specs.LeafLaws.{reads-after, reads-still, drives-after, drives-still}
 use Rattle.demands.specs.Calls.{Call, add, final, Promise, Chain, done, call}
-use Rattle.demands.specs.Demands.{leastNumber}
+use Rattle.demands.specs.Readable.{Readable}
 use Rattle.demands.specs.ReadingLaws.{reads-right}
-use Rattle.demands.specs.CountLaws.{least-number, same-sheet, call-kept}
-use Rattle.demands.specs.Settled.{Alike, offered, taken, answerOf}
+use Rattle.demands.specs.CountLaws.{same-sheet, call-kept}
+use Rattle.demands.specs.Settled.{leastNumber, Alike, offered, taken, answerOf}
 use Rattle.part.specs.declared.Part.{Part}
+
+-- the least number of a sheet that was read
+pub least-number : (k : ℕ) → 2 ≤ k → (s : Sheet) → Readable s → Least k (s .tree) (leastNumber k s)
+unfolding leastNumber
+least-number k two s r =
+    let g = r .root in
+    subst (λ t. Least k t (least-tables k t)) (sym (g .2)) (least-is k two (g .0) (g .1) (subst (λ t. T (proper t)) (g .2) (r .proper)))
 
 pub alike-refl : (p : Part) → Alike p p
 alike-refl p = record { k = refl; capacity = refl; used = refl; sound = refl; driven = λ n h. refl; read = λ n h. refl }

@@ -1,26 +1,38 @@
--- Demand 2: over every list of calls from an opening, the tables of each accepted sheet have at most K inputs, and in the last part
--- its output net has the value of its tree. And of a part that is not sound: every call answers 20 and leaves it as it is.
+-- Demand 2: in a sound part each table has at most K inputs; and over every list of calls from an opening, in the last part the output
+-- net of each accepted sheet has the value that its gates give. And of a part that is not sound: every call answers 20 and leaves it as it is.
 use Prim.Native.Nat.{ℕ, _≤_}
+use native.Mathlib.Omega.{arith}
 use mathlib.Core.Path.{_≡_, refl, sym, ap, ap₂, _∙_, subst}
+use mathlib.Core.Bool.{Bool}
 use mathlib.Core.List.{List, [], _∷_, _++_, append-assoc, append-nil, Memᴰ·append-left, Memᴰ·append-right}
-use lib.ListN.{length}
+use lib.ListN.{length, length-take}
 use Rattle.lists.specs.Lists.{_∈_, first, later, Every}
 use Rattle.lists.specs.ListLaws.{every-none, every-cons, every-append}
 use Rattle.cover.specs.Tables.{Table as LookupTable}
-use Rattle.cover.specs.Added.{Sheet, History, start}
-use Rattle.cover.specs.AddedTables.{added-sized}
+use Rattle.cover.specs.Added.{Sheet, History, start, Met}
 use Rattle.cover.specs.HistoryLaws.{history-met}
+use Rattle.sheet.specs.Sheet.{DrawnSheet, sheet as drew}
+use Rattle.sheet.specs.Read.{readSheet}
+use Rattle.sheet.specs.Trees.{drawn}
+use Rattle.sheet.specs.ValueLaws.{sheet-value}
 use Rattle.table.specs.Limits.{tableBase}
-use Rattle.part.specs.Parts.{tablesOf, Shaped}
+use Rattle.table.specs.Records.{tableOf}
+use Rattle.part.specs.Parts.{inUse, tablesOf, Shaped}
 use Rattle.part.specs.Sound.{Sound}
 use Rattle.part.specs.Sheets.{readOf}
 use Rattle.part.specs.Adds.{Answer, accepted, refused, Result, opened, Refused}
-use Rattle.demands.specs.ExtendLaws.{every-numbered, extended-tables}
+use Rattle.demands.specs.ReadingLaws.{drawn-back}
+use Rattle.demands.specs.ExtendLaws.{every-map, extended-tables}
 use Rattle.demands.specs.AddLaws.{opened-shaped, opened-empty, Outcome, unsound, misread, driven, read, full, taken, outcome}
 use Rattle.demands.specs.Calls.{Call, add, final, sheetsRead, ifAccepted, Promise, sheetsOf, Chain, done, call, acceptedIn, Link, here, next}
-use Rattle.demands.specs.Demands.{Taken, Served, CallServed}
+use Rattle.demands.specs.Demands.{Taken, valuesIn, lastPart, Served, CallServed}
 use Rattle.demands.specs.CountLaws.{call-kept, counted}
 use Rattle.part.specs.declared.Part.{Part}
+
+-- ---- inputs
+
+pub sound-narrow : (p : Part) → Sound p → Every (λ t. length (t .inputs) ≤ p .k) (tablesOf p)
+sound-narrow p h = every-map (λ t. length (t .inputs) ≤ p .k) tableOf (inUse p) (λ r m. rw length-take (omega (arith, h .rules .sized r m .1)))
 
 -- ---- an unsound start
 
@@ -132,22 +144,23 @@ link-accepted (next {c = c} {r = r} l) s m = Memᴰ·append-right (ifAccepted (r
 module _ (p : Part) (shape : Shaped p) (history : History tableBase (p .k) (tablesOf p) []) (cs : List Call) (rs : List Result)
     (chain : Chain p cs rs) where
   add-served : (ss : List Sheet) (o : Part) (text : List ℕ) (r : Result) → Link p cs rs ss o (add text) r → r .answer ≡ accepted →
-      (s : Sheet) × (new : List LookupTable) × Served (p .k) (final p rs) o text r s new
+      (d : DrawnSheet) × (new : List LookupTable) × Served (final p rs) o text r d new
   add-served ss o text r l e = (
-    t .0,
+    d .0,
     t .1,
     record {
-      read = t .2 .read;
+      read = d .1;
       tables = t .2 .tables;
-      narrow = every-numbered (λ u. length (u .inputs) ≤ p .k) (length (tablesOf o)) (t .1)
-          (λ x m. added-sized tableBase (p .k) (tablesOf o) (t .1) (t .0) (t .2 .cover .added) x m .most);
       stay = link-grows l chain shape;
-      value = λ σ. history-met tableBase (p .k) (g .1) σ (t .0) (g .3 (t .0) (link-accepted l (t .0) mine));
+      value = λ σ. subst (Met (valuesIn (final p rs) σ)) (sym (d .2)) (met σ) ∙ sym (sheet-value (valuesIn (final p rs) σ) (d .0));
     },
   )
     where
       t : (s : Sheet) × (new : List LookupTable) × Taken (p .k) o text (r .part) s new
-      t = (counted p shape cs rs chain) .each ss o (add text) r l .taken e
+      t = (counted p shape cs rs chain) .each ss o (add text) r l .2 .taken e
+
+      d : (d : DrawnSheet) × (readSheet text ≡ drew d) × (drawn d ≡ t .0)
+      d = drawn-back text (t .0) (t .2 .read)
 
       g : Goes (p .k) (final p rs) [] (acceptedIn cs rs)
       g = chain-goes chain shape [] history
@@ -155,15 +168,16 @@ module _ (p : Part) (shape : Shaped p) (history : History tableBase (p .k) (tabl
       mine : t .0 ∈ ifAccepted (r .answer) (sheetsRead (readOf text))
       mine = subst (λ us. t .0 ∈ us) (sym (ap₂ (λ a v. ifAccepted a (sheetsRead v)) e (t .2 .read))) (first refl)
 
-  served : (ss : List Sheet) (o : Part) (c : Call) (r : Result) → Link p cs rs ss o c r → CallServed (p .k) (final p rs) o c r
+      met : (σ : ℕ → Bool) → Met (valuesIn (final p rs) σ) (t .0)
+      met σ = history-met tableBase (p .k) (g .1) σ (t .0) (g .3 (t .0) (link-accepted l (t .0) mine))
+
+  served : (ss : List Sheet) (o : Part) (c : Call) (r : Result) → Link p cs rs ss o c r → CallServed (final p rs) o c r
   served ss o (add text) r l = add-served ss o text r l
 
 -- DEMAND 2: every list of calls from an opening
 pub opened-served : (k capacity : ℕ) → (opened k capacity) .answer ≡ accepted → (cs : List Call) (rs : List Result) →
     Chain ((opened k capacity) .part) cs rs → (ss : List Sheet) (o : Part) (c : Call) (r : Result) →
-    Link ((opened k capacity) .part) cs rs ss o c r → CallServed k (final ((opened k capacity) .part) rs) o c r
+    Link ((opened k capacity) .part) cs rs ss o c r → CallServed (lastPart k capacity rs) o c r
 opened-served k capacity a cs rs chain ss o c r l =
     let e = opened-empty k capacity a in
-    let p = (opened k capacity) .part in
-    subst (λ n. CallServed n (final ((opened k capacity) .part) rs) o c r) (ap (λ q. q .k) e)
-    (served p (opened-shaped k capacity) (subst (λ q. History tableBase (q .k) (tablesOf q) []) (sym e) start) cs rs chain ss o c r l)
+    served ((opened k capacity) .part) (opened-shaped k capacity) (subst (λ q. History tableBase (q .k) (tablesOf q) []) (sym e) start) cs rs chain ss o c r l

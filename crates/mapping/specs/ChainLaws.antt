@@ -8,11 +8,10 @@ use mathlib.Core.List.{List, [], _∷_}
 use lib.ListN.{length, drop}
 use Rattle.lists.specs.Cases.{by-leb}
 use Rattle.decimal.specs.Number.{Number}
-use Rattle.cover.specs.Added.{Sheet}
 use Rattle.part.specs.Adds.{accepted, refused, Result, opened}
 use Rattle.demands.specs.AddLaws.{opened-shaped}
-use Rattle.demands.specs.Calls.{Call, final, Chain, done, call, Link}
-use Rattle.demands.specs.Demands.{Counted, CallServed}
+use Rattle.demands.specs.Calls.{Call, Chain, done, call}
+use Rattle.demands.specs.Demands.{Demand2, Demand3}
 use Rattle.demands.specs.Theorems.{demand-2, demand-3}
 use Rattle.part.specs.declared.Part.{Part}
 use Rattle.listing.specs.Lines as lines
@@ -36,9 +35,8 @@ pub record Run (k capacity : ℕ) (text out : List ℕ) : Type 0 where
   pub chain : Chain ((opened k capacity) .part) calls results
   pub texts : Texts text calls
   pub printed : out ≡ printedBy ((opened k capacity) .part) 0 results
-  pub counted : Counted ((opened k capacity) .part) calls results
-  pub served : (ss : List Sheet) (o : Part) (c : Call) (r : Result) → Link ((opened k capacity) .part) calls results ss o c r →
-      CallServed k (final ((opened k capacity) .part) results) o c r
+  pub counted : Demand3 ((opened k capacity) .part) calls results
+  pub served : Demand2 k capacity calls results
 
 pub prints-run : (input out : List ℕ) (x y : Number) → openingNumbers input ≡ some (x, y) → (opened (count x) (count y)) .answer ≡ accepted → Prints input out →
     Run (count x) (count y) (drop 13 input) out

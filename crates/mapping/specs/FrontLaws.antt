@@ -60,9 +60,9 @@ record Took (p : Part) (text : List ℕ) (q : Part) : Type 0 where
 took : (p : Part) → Shaped p → Sound p → (text : List ℕ) (q : Part) → Add p text q accepted → Took p text q
 took p shape sound text q a =
     let r : Result = record { part = q; answer = accepted } in
-    let (s, new, t) = demand-3 p shape (add text ∷ []) (r ∷ []) (call a done) .each [] p (add text) r here .taken refl in
+    let (s, new, t) = demand-3 p shape (add text ∷ []) (r ∷ []) (call a done) .each [] p (add text) r here .2 .taken refl in
     let (d, e, i) = drawn-back text s (t .read) in
-    let b = least-bounds (p .k) (t .cover .fewest) .1 in
+    let b = least-bounds (p .k) (t .least) .1 in
     let k : (p .k - 1) * length new ≤ 5 * length new = mul-le-mul-right (length new) (omega (arith, sound .k-range)) in
     record {
       sheet = d;
