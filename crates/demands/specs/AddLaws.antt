@@ -148,10 +148,6 @@ module _ (p : Part) (shape : Shaped p) where
       narrow = every-numbered (λ u. length (u .inputs) ≤ inputRoom) (length (tablesOf p)) (t .new)
           (λ x m. omega (arith, h .k-range .1, added-sized tableBase (p .k) (tablesOf p) (t .new) s (t .least .added) x m .most))
 
-  -- AN ADD KEEPS SOUNDNESS
-  pub add-sound : (text : List ℕ) (q : Part) (a : Answer) → Add p text q a → Sound p → Sound q
-  add-sound text q a h = (kept (outcome p text q a h)) .sound
-
 -- two answers
 pub not-refused : {number place : ℕ} {a : Answer} → a ≡ refused number place → a ≡ accepted → ⊥
 not-refused e f = let z : _≡_ {A = ℕ} 0 1 = cc in omega arith

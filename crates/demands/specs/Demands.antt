@@ -121,9 +121,12 @@ pub record Demand2 (k capacity : ℕ) (cs : List Call) (rs : List Result) : Type
   -- "each accepted sheet's output net has the value its gates give"
   pub each : (ss : List Sheet) (o : Part) (c : Call) (r : Result) → Link ((opened k capacity) .part) cs rs ss o c r →
       CallServed (lastPart k capacity rs) o c r
-  -- "The list's lines say exactly those tables": the part is sound, so that demand 1 has its list written, and no other sound part has that list
+  -- "The list's lines say exactly those tables": the part is sound, so that demand 1 has its list written, and no other sound part has the
+  -- same list, or the same lines
   pub sound : Sound (lastPart k capacity rs)
-  pub list : (q : Part) → Shaped q → Sound q → listOf q ≡ listOf (lastPart k capacity rs) → q ≡ lastPart k capacity rs
+  pub list : (q : Part) → Shaped q → Sound q → listOf (lastPart k capacity rs) ≡ listOf q → lastPart k capacity rs ≡ q
+  pub lines : (q : Part) → Shaped q → Sound q → ((t : ℕ) → t ≤ (lastPart k capacity rs) .used → lineOf (lastPart k capacity rs) t ≡ lineOf q t) →
+      lastPart k capacity rs ≡ q
 
 -- ---- DEMAND 3. "One claim over any list of adds, on any part: the tables taken for each accepted sheet are those of one of its covers, and
 -- ---- their number is its least number over all splittings and covers; 23 is given exactly when the least number is above the number

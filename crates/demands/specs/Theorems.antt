@@ -21,7 +21,7 @@ use Rattle.demands.specs.ConditionLaws.{opening-told, add-told, line-tol
 use Rattle.demands.specs.CountLaws.{call-kept, chain-kept, counted}
 use Rattle.demands.specs.ValueLaws.{sound-narrow, unsound-stays, opened-served}
 use Rattle.demands.specs.FreeLaws.{values-by-free-nets}
-use Rattle.demands.specs.ListingLaws.{list-says-all}
+use Rattle.demands.specs.ListingLaws.{list-says-all, same-lines}
 use Rattle.demands.specs.SettledLaws.{alike-refl, answers-settled}
 use Rattle.demands.specs.PossibleLaws.{chain-possible}
 
@@ -41,7 +41,8 @@ demand-2 k capacity a cs rs h =
       free = values-by-free-nets last s;
       each = opened-served k capacity a cs rs h;
       sound = s;
-      list = λ q f i e. list-says-all q last f (g .shaped) i s e;
+      list = λ q f i. list-says-all last q (g .shaped) f s i;
+      lines = λ q f i. same-lines last q (g .shaped) f s i;
     }
 
 pub demand-3 : (p : Part) → Shaped p → (cs : List Call) (rs : List Result) → Chain p cs rs → Demand3 p cs rs
