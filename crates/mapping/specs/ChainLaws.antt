@@ -8,13 +8,11 @@ use mathlib.Core.List.{List, [], _∷_}
 use lib.ListN.{length, drop}
 use Rattle.lists.specs.Cases.{by-leb}
 use Rattle.decimal.specs.Number.{Number}
-use Rattle.cover.specs.Added.{Sheet}
 use Rattle.part.specs.Adds.{accepted, refused, Result, opened}
-use Rattle.part.specs.AddLaws.{opened-shaped}
-use Rattle.part.specs.Adding.{readOf}
-use Rattle.part.specs.Calls.{Call, final, Chain, done, call, Link}
-use Rattle.part.specs.Demands.{Counted, CallServed}
-use Rattle.part.specs.Promises.{demand-2, demand-3}
+use Rattle.demands.specs.AddLaws.{opened-shaped}
+use Rattle.demands.specs.Calls.{Call, Chain, done, call}
+use Rattle.demands.specs.Demands.{Demand2, Demand3}
+use Rattle.demands.specs.Theorems.{demand-2, demand-3}
 use Rattle.part.specs.declared.Part.{Part}
 use Rattle.listing.specs.Lines as lines
 use Rattle.mapping.specs.Program.{openingNumbers, count, openedBy, refusalLine, Mapped, ended, stopped, added, After, Prints, WrittenAs, Answered, Texts, end, next, printedBy}
@@ -23,7 +21,7 @@ use Rattle.mapping.specs.declared.Printed.the-variants.{Wrote}
 
 -- the calls, their results, and what these print
 pub mapped-calls : {p : Part} {n : ℕ} {text out : List ℕ} → Mapped p n text out →
-    (cs : List Call) × (rs : List Result) × Chain readOf p cs rs × Texts text cs × (out ≡ printedBy p n rs)
+    (cs : List Call) × (rs : List Result) × Chain p cs rs × Texts text cs × (out ≡ printedBy p n rs)
 mapped-calls ended = ([], [], done, end, refl)
 mapped-calls (stopped q number place l a) = (_, record { part = q; answer = refused number place } ∷ [], call a done, next end, refl)
 mapped-calls (added q l a m) =
@@ -34,12 +32,11 @@ mapped-calls (added q l a m) =
 pub record Run (k capacity : ℕ) (text out : List ℕ) : Type 0 where
   pub calls : List Call
   pub results : List Result
-  pub chain : Chain readOf ((opened k capacity) .part) calls results
+  pub chain : Chain ((opened k capacity) .part) calls results
   pub texts : Texts text calls
   pub printed : out ≡ printedBy ((opened k capacity) .part) 0 results
-  pub counted : Counted readOf ((opened k capacity) .part) calls results
-  pub served : (ss : List Sheet) (o : Part) (c : Call) (r : Result) → Link readOf ((opened k capacity) .part) calls results ss o c r →
-      CallServed readOf k (final ((opened k capacity) .part) results) o c r
+  pub counted : Demand3 ((opened k capacity) .part) calls results
+  pub served : Demand2 k capacity calls results
 
 pub prints-run : (input out : List ℕ) (x y : Number) → openingNumbers input ≡ some (x, y) → (opened (count x) (count y)) .answer ≡ accepted → Prints input out →
     Run (count x) (count y) (drop 13 input) out

@@ -25,11 +25,10 @@ use Rattle.part.specs.Parts.{Shaped}
 use Rattle.part.specs.Sound.{Sound}
 use Rattle.part.specs.Sheets.{sheet}
 use Rattle.part.specs.Adds.{Answer, accepted, refused, Result, Add}
-use Rattle.part.specs.AddLaws.{kept, outcome, opened-sound, opened-shaped}
-use Rattle.part.specs.Adding.{readingOf, readOf}
-use Rattle.part.specs.Calls.{add, call, done, here}
-use Rattle.part.specs.Promises.{demand-3}
-use Rattle.part.specs.CountLaws.{not-refused}
+use Rattle.demands.specs.AddLaws.{kept, outcome, opened-sound, opened-shaped, not-refused}
+use Rattle.part.specs.Sheets.{readingOf, readOf}
+use Rattle.demands.specs.Calls.{add, call, done, here}
+use Rattle.demands.specs.Theorems.{demand-3}
 use Rattle.part.specs.declared.Part.{Part}
 use Rattle.mapping.specs.Program.{openingNumbers, count, openedBy, Mapped, ended, stopped, added, After, Prints, room}
 use Rattle.mapping.specs.ProgramLaws.{grown}
@@ -58,12 +57,12 @@ record Took (p : Part) (text : List ℕ) (q : Part) : Type 0 where
   read : readSheet text ≡ drew sheet
   short : tableBytes * p .used + length text ≤ tableBytes * q .used
 
-took : (p : Part) → Shaped p → Sound p → (text : List ℕ) (q : Part) → Add readOf p text q accepted → Took p text q
+took : (p : Part) → Shaped p → Sound p → (text : List ℕ) (q : Part) → Add p text q accepted → Took p text q
 took p shape sound text q a =
     let r : Result = record { part = q; answer = accepted } in
-    let (s, new, t) = demand-3 p shape (add text ∷ []) (r ∷ []) (call a done) .each [] p (add text) r here .taken refl in
+    let (s, new, t) = demand-3 p shape (add text ∷ []) (r ∷ []) (call a done) .each [] p (add text) r here .2 .taken refl in
     let (d, e, i) = drawn-back text s (t .read) in
-    let b = least-bounds (p .k) (t .cover .fewest) .1 in
+    let b = least-bounds (p .k) (t .least) .1 in
     let k : (p .k - 1) * length new ≤ 5 * length new = mul-le-mul-right (length new) (omega (arith, sound .k-range)) in
     record {
       sheet = d;
@@ -74,7 +73,7 @@ took p shape sound text q a =
 -- ---- sheets one after the other
 
 -- an add goes by what is read of the text
-add-read : (p : Part) (text text₁ : List ℕ) (q : Part) (a : Answer) → readSheet text₁ ≡ readSheet text → Add readOf p text q a → Add readOf p text₁ q a
+add-read : (p : Part) (text text₁ : List ℕ) (q : Part) (a : Answer) → readSheet text₁ ≡ readSheet text → Add p text q a → Add p text₁ q a
 unfolding Add readOf
 add-read p text text₁ q a e h = rw e h
 
@@ -87,10 +86,10 @@ module _ (more : List ℕ) where
       stopped {text = text ++ more} q number place (omega (arith, length-append text more)) (add-read p (sheetText text .0) (sheetText (text ++ more) .0) q _ (front-read text more long) a)
   mapped-front {p} {n} {text} {out} shape sound l (added q h a m) =
       let t = took p shape sound (sheetText text .0) q a in
-      let g = kept readOf p shape (outcome readOf p (sheetText text .0) q accepted a) in
+      let g = kept p shape (outcome p (sheetText text .0) q accepted a) in
       let e = front-rest text more (t .sheet) (t .read) in
       added {text = text ++ more} q (omega (arith, length-append text more))
-      (subst (λ (r : List ℕ × List ℕ). Add readOf p (r .0) q accepted) (sym e) a)
+      (subst (λ (r : List ℕ × List ℕ). Add p (r .0) q accepted) (sym e) a)
       (subst (λ (r : List ℕ × List ℕ). Mapped q (suc n) (r .1) out) (sym e)
       (mapped-front (g .shaped) (g .sound sound) (omega (arith, t .short, length-append (sheetText text .0) (sheetText text .1), ap length (text-whole text))) m))
 

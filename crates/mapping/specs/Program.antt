@@ -12,8 +12,7 @@ use Rattle.decimal.specs.Columns.{fieldsOf, signedFieldOf}
 use Rattle.sheet.specs.Cut.{sheetText}
 use Rattle.part.specs.Sound.{Sound}
 use Rattle.part.specs.Adds.{Answer, accepted, refused, Result, empty, opened, Add}
-use Rattle.part.specs.Adding.{readOf}
-use Rattle.part.specs.Calls.{Call, add}
+use Rattle.demands.specs.Calls.{Call, add}
 use Rattle.part.specs.Listing.{listOf}
 use Rattle.part.specs.declared.Part.{Part}
 use Rattle.listing.specs.Lines as lines
@@ -54,9 +53,9 @@ refusalLine number sheet place = signedFieldOf columns (record { negative = true
 -- says, the first that is refused ends the reading, and where none is the list is printed
 pub data Mapped : Part → ℕ → List ℕ → List ℕ → Type 0 where
   ended : {p : Part} {n : ℕ} → Mapped p n [] (listOf p)
-  stopped : {p : Part} {n : ℕ} {text : List ℕ} (q : Part) (number place : ℕ) → 0 < length text → Add readOf p (sheetText text .0) q (refused number place) →
+  stopped : {p : Part} {n : ℕ} {text : List ℕ} (q : Part) (number place : ℕ) → 0 < length text → Add p (sheetText text .0) q (refused number place) →
       Mapped p n text (refusalLine number (suc n) place)
-  added : {p : Part} {n : ℕ} {text out : List ℕ} (q : Part) → 0 < length text → Add readOf p (sheetText text .0) q accepted →
+  added : {p : Part} {n : ℕ} {text out : List ℕ} (q : Part) → 0 < length text → Add p (sheetText text .0) q accepted →
       Mapped q (suc n) (sheetText text .1) out → Mapped p n text out
 
 -- WHAT IS PRINTED, after an opening: the refusal, or what comes of the text after the line

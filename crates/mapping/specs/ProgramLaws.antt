@@ -27,9 +27,8 @@ use Rattle.sheet.specs.declared.Next.{Next}
 use Rattle.part.specs.Parts.{Shaped}
 use Rattle.part.specs.Sound.{Sound}
 use Rattle.part.specs.Adds.{Answer, accepted, refused, Result, Offer, Add}
-use Rattle.part.specs.AddLaws.{Outcome, unsound, misread, driven, read, full, taken, outcome, kept, opened-sound}
-use Rattle.part.specs.CountLaws.{not-refused}
-use Rattle.part.specs.Adding.{readOf, sheetOf}
+use Rattle.demands.specs.AddLaws.{Outcome, unsound, misread, driven, read, full, taken, outcome, kept, opened-sound, not-refused}
+use Rattle.part.specs.Adding.{sheetOf}
 use Rattle.part.specs.AddingLaws.{add-misread, add-offered}
 use Rattle.part.specs.Listing.{listOf}
 use Rattle.part.specs.declared.Part.{Part}
@@ -71,10 +70,10 @@ rooted-some rooted = omega arith
 least-some : {k n : ℕ} {t : _} → Least k t n → 0 < n
 least-some l = let c = l .some in omega (arith, rooted-some (c .1 .root), c .2)
 
-pub grown : (p : Part) (text : List ℕ) (q : Part) (a : Answer) → Add readOf p text q a → a ≡ accepted → p .used < q .used
-grown p text q a h e = of (outcome readOf p text q a h)
+pub grown : (p : Part) (text : List ℕ) (q : Part) (a : Answer) → Add p text q a → a ≡ accepted → p .used < q .used
+grown p text q a h e = of (outcome p text q a h)
   where
-    of : Outcome readOf p text q a → p .used < q .used
+    of : Outcome p text q a → p .used < q .used
     of (unsound n r) = absurd (not-refused (r .1) e)
     of (misread number place s i r) = absurd (not-refused (r .1) e)
     of (driven s h i d r) = absurd (not-refused (r .1) e)
@@ -115,7 +114,7 @@ front input at end s h w e =
 
 -- one sheet of an input: the part and the answer after it, and the place after it where it is accepted
 pub record Stepped (input : List ℕ) (p : Part) (at : ℕ) (q : Part) (t : Told) (end : ℕ) : Type 0 where
-  pub add : Add readOf p (sheetText (drop at input) .0) q (told t)
+  pub add : Add p (sheetText (drop at input) .0) q (told t)
   pub rest : told t ≡ accepted → sheetText (drop at input) .1 ≡ drop end input
   pub shaped : Shaped q
   pub sound : Sound q
@@ -141,7 +140,7 @@ module _ (input : List ℕ) (p : Part) (at : ℕ) (sound : Sound p) (shape : Sha
       let text = sheetText (drop at input) .0 in
       let m : readAll text ≡ bad (numberOf why) line = bad-of _ (numberOf why) line _ (sym (next-is (drop at input)) ∙ next-is-step i) in
       record {
-        add = subst (Add readOf p text p) (sym t) (add-misread p text sound (numberOf why) line (ap reading m));
+        add = subst (Add p text p) (sym t) (add-misread p text sound (numberOf why) line (ap reading m));
         rest = λ z. absurd (not-refused t z);
         shaped = shape;
         sound = sound;
@@ -153,8 +152,8 @@ module _ (input : List ℕ) (p : Part) (at : ℕ) (sound : Sound p) (shape : Sha
   stepped-offered i q a t o e =
       let f = read-front i in
       let text = sheetText (drop at input) .0 in
-      let g : Add readOf p text q (told t) = subst (Add readOf p text q) (sym e) (add-offered p text sound (drawnSheet (r .sheet)) (f .read) q a o) in
-      let k = kept readOf p shape (outcome readOf p text q (told t) g) in
+      let g : Add p text q (told t) = subst (Add p text q) (sym e) (add-offered p text sound (drawnSheet (r .sheet)) (f .read) q a o) in
+      let k = kept p shape (outcome p text q (told t) g) in
       record {
         add = g;
         rest = λ z. f .rest;
@@ -199,14 +198,14 @@ module _ {input : List ℕ} {opened part : Part} {start at sheet : ℕ} (h : SoF
           sound = s .sound;
           few = omega (arith, h .few, s .grown e);
           whole = λ out m. h .whole out
-              (added q left (subst (Add readOf part (sheetText (drop at input) .0) q) e (s .add))
+              (added q left (subst (Add part (sheetText (drop at input) .0) q) e (s .add))
               (subst (λ x. Mapped q (suc sheet) x out) (sym (s .rest e)) (subst (λ n. Mapped q n (drop end input) out) (add-one sheet) m)));
         }
 
     so-far-stop : (t .number ≡ 0 → ⊥) → Mapped opened 0 (drop start input) (refusalLine (t .number) (sheet + 1) (t .line))
     so-far-stop d =
         subst (λ n. Mapped opened 0 (drop start input) (refusalLine (t .number) n (t .line))) (sym (add-one sheet))
-        (h .whole _ (stopped q (t .number) (t .line) left (subst (Add readOf part (sheetText (drop at input) .0) q) (told-refused t d) (s .add))))
+        (h .whole _ (stopped q (t .number) (t .line) left (subst (Add part (sheetText (drop at input) .0) q) (told-refused t d) (s .add))))
 
     -- the loop's ends
     pub ended-stop : (t .number ≡ 0 → ⊥) → Ended opened (drop start input) (record { part = q; told = t; sheet = sheet + 1 })

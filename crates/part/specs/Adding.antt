@@ -1,20 +1,16 @@
--- What the code's add reads and answers, in the words of Adds. Definitions only: the laws are in AddingLaws.
+-- What the code's add answers, in the words of Adds. Definitions only: the laws are in AddingLaws.
 use Prim.Native.Nat.{ℕ, _+_}
 use mathlib.Core.Bool.{_||_}
-use mathlib.Core.List.{List}
 use lib.Dec.{eqb}
 use lib.Seq.{paste}
 use Rattle.lists.specs.Tests.{elem}
 use Rattle.sheet.specs.declared.Sheet.{Sheet as CodeSheet}
-use Rattle.sheet.specs.Sheet.{Outcome, sheet as read, refused as unread}
-use Rattle.sheet.specs.Read.{readSheet}
 use Rattle.sheet.specs.Answers.{numberOf, drawnSheet}
 use Rattle.sheet.specs.Trees.{drawn}
 use Rattle.cover.specs.Added.{Sheet}
 use Rattle.table.specs.declared.Table.{Table}
 use Rattle.table.specs.Records.{reads}
 use Rattle.mapper_laws.specs.declared.Mapping.{Mapping}
-use Rattle.part.specs.Sheets.{Reading, sheet, refused as turnedDown}
 use Rattle.part.specs.Adds.{Answer, accepted, refused, Result}
 use Rattle.part.specs.declared.Part.{Part}
 use Rattle.part.specs.declared.Added.{Added}
@@ -34,15 +30,6 @@ addingAnswer Full = refused 23 0
 -- the part and the answer that an add hands back
 abbrev pub addedResult : Added → Result
 addedResult r = record { part = r .part; answer = addingAnswer (r .answer) }
-
--- the sheet that is drawn, or the refusal as it is
-abbrev pub readingOf : Outcome → Reading
-readingOf (read s) = sheet (drawn s)
-readingOf (unread number line) = turnedDown number line
-
--- THE READING that an add goes by: 01's, of a text that is one sheet
-unfoldable pub readOf : List ℕ → Reading
-readOf text = readingOf (readSheet text)
 
 -- the tree of the code's sheet
 abbrev pub sheetOf : CodeSheet → Sheet

@@ -1,4 +1,4 @@
--- The reading keeps the law of Sheets; the tests of an output net over the records in use; and the mapping's records as a sheet's tables.
+-- The tests of an output net over the records in use; and the mapping's records as a sheet's tables.
 use Prim.Native.Nat.{ℕ, zero, suc, _+_, _-_, _≤_, _<_}
 use native.Mathlib.Omega.{arith}
 use mathlib.Core.Path.{_≡_, refl, sym, ap, ap₂, _∙_, subst}
@@ -13,7 +13,7 @@ use Rattle.lists.specs.Tests.{any, elem}
 use Rattle.lists.specs.TestLaws.{reflects-true}
 use Rattle.cover.specs.Tables.{Table as LookupTable}
 use Rattle.cover.specs.Added.{Sheet, AddedLeast}
-use Rattle.sheet.specs.Sheet.{DrawnSheet, Outcome, sheet as read, refused as unread}
+use Rattle.sheet.specs.Sheet.{DrawnSheet, sheet as read, refused as unread}
 use Rattle.sheet.specs.declared.Sheet.{Sheet as CodeSheet}
 use Rattle.sheet.specs.declared.Answer.{Answer as CodeAnswer}
 use Rattle.sheet.specs.declared.Reading.{Reading as CodeReading}
@@ -21,7 +21,6 @@ use Rattle.sheet.specs.Read.{readSheet}
 use Rattle.sheet.specs.Answers.{drawnSheet, answered}
 use Rattle.sheet.specs.Promise.{SheetRead}
 use Rattle.sheet.specs.Trees.{drawn}
-use Rattle.sheet.specs.TreeLaws.{Drawn, read-drawn}
 use Rattle.table.specs.declared.Table.{Table}
 use Rattle.table.specs.Limits.{tableBase}
 use Rattle.table.specs.Records.{reads, tableOf, recordOf}
@@ -33,32 +32,14 @@ use Rattle.mapper_laws.specs.CodeMap.{tablesIn, SheetMapped}
 use Rattle.part.specs.Parts.{inUse, tablesOf, Shaped}
 use Rattle.part.specs.Sound.{Sound}
 use Rattle.part.specs.SoundTest.{sound}
-use Rattle.part.specs.SoundLaws.{sound-reflects}
-use Rattle.part.specs.Sheets.{sheet, Readable, Reads}
+use Rattle.part.specs.SoundLaws.{sound-reflects, used-count}
+use Rattle.part.specs.Sheets.{readOf}
 use Rattle.part.specs.Adds.{Answer, accepted, refused, extended, isDriven, isRead, Offer, Add}
-use Rattle.part.specs.ExtendLaws.{used-count}
-use Rattle.part.specs.Adding.{addingAnswer, readingOf, readOf, sheetOf, withTable, stored}
+use Rattle.part.specs.Adding.{addingAnswer, sheetOf, withTable, stored}
 use Rattle.part.specs.declared.Part.{Part}
 use Rattle.part.specs.declared.Adding.{Adding}
 use Rattle.part.specs.declared.Added.{Added}
 use Rattle.part.specs.declared.add.Uses.{Uses}
-
--- ---- the reading
-
-drawn-readable : (s : DrawnSheet) → Drawn s → Readable (drawn s)
-drawn-readable s d = record { legal = d .legal; root = d .root; proper = d .is-proper }
-
--- THE LAW OF THE READING
-pub reads-right : Reads readOf
-unfolding readOf
-reads-right text s = go (readSheet text) (λ d e. drawn-readable d (read-drawn text d e)) refl
-  where
-    same : {r t : Sheet} → sheet r ≡ sheet t → r ≡ t
-    same e = cc
-
-    go : (o : Outcome) → ((d : DrawnSheet) → readSheet text ≡ read d → Readable (drawn d)) → readSheet text ≡ o → readingOf o ≡ sheet s → Readable s
-    go (read d) f e h = subst Readable (same h) (f d e)
-    go (unread number line) f e h = absurd (let z : _≡_ {A = ℕ} 0 1 = cc in omega arith)
 
 -- ---- the output net among the records in use
 
@@ -166,22 +147,22 @@ module _ (r : Added) (q : Part) (a : Adding) (e : r ≡ record { part = q; answe
   pub offer-same : (p : Part) (s : Sheet) → Offer p s q (addingAnswer a) → Offer p s (r .part) (addingAnswer (r .answer))
   offer-same p s = subst (λ x. Offer p s (x .part) (addingAnswer (x .answer))) (sym e)
 
-  pub add-same : (p : Part) (text : List ℕ) → Add readOf p text q (addingAnswer a) → Add readOf p text (r .part) (addingAnswer (r .answer))
-  add-same p text = subst (λ x. Add readOf p text (x .part) (addingAnswer (x .answer))) (sym e)
+  pub add-same : (p : Part) (text : List ℕ) → Add p text q (addingAnswer a) → Add p text (r .part) (addingAnswer (r .answer))
+  add-same p text = subst (λ x. Add p text (x .part) (addingAnswer (x .answer))) (sym e)
 
 -- ---- 20, the sheet's refusals, and a sheet that was read
 
 module _ (p : Part) (text : List ℕ) where
-  pub add-unsound : sound p ≡ false → Add readOf p text p (refused 20 0)
+  pub add-unsound : sound p ≡ false → Add p text p (refused 20 0)
   unfolding Add
   add-unsound e = rw e (refl, refl)
 
   module _ (h : Sound p) where
-    pub add-misread : (number line : ℕ) → readSheet text ≡ unread number line → Add readOf p text p (refused number line)
+    pub add-misread : (number line : ℕ) → readSheet text ≡ unread number line → Add p text p (refused number line)
     unfolding Add readOf
     add-misread number line e = rw (reflects-true (sound-reflects p) h) (rw e (refl, refl))
 
-    pub add-offered : (s : DrawnSheet) → readSheet text ≡ read s → (q : Part) (a : Answer) → Offer p (drawn s) q a → Add readOf p text q a
+    pub add-offered : (s : DrawnSheet) → readSheet text ≡ read s → (q : Part) (a : Answer) → Offer p (drawn s) q a → Add p text q a
     unfolding Add readOf
     add-offered s e q a o = rw (reflects-true (sound-reflects p) h) (rw e o)
 

@@ -1,5 +1,5 @@
 -- Opening a part, and what an add promises: 01, "Turned down because of the part", in its order.
--- Definitions only: the laws are in AddLaws.
+-- Definitions only.
 use Prim.Native.Nat.{ℕ, _+_, _-_}
 use mathlib.Core.Path.{_≡_}
 use mathlib.Core.Bool.{Bool, cond}
@@ -14,7 +14,7 @@ use Rattle.table.specs.Limits.{tableBase, inputRoom, tableRoom}
 use Rattle.table.specs.Records.{recordOf}
 use Rattle.part.specs.Parts.{blanks, inUse, tablesOf}
 use Rattle.part.specs.SoundTest.{sound}
-use Rattle.part.specs.Sheets.{Reading, sheet, refused as unread}
+use Rattle.part.specs.Sheets.{Reading, sheet, refused as unread, readOf}
 use Rattle.part.specs.declared.Part.{Part}
 
 pub data Answer : Type 0 where
@@ -87,6 +87,5 @@ Take p (sheet s) q a = Offer p s q a
 Take p (unread number place) q a = Refused p number place q a
 
 -- THE PROMISE OF AN ADD to the part p, of the sheet that is read from the text: q is handed back, with the answer a
-module _ (readSheet : List ℕ → Reading) where
-  unfoldable pub Add : Part → List ℕ → Part → Answer → Type 0
-  Add p text q a = either (sound p) (Take p (readSheet text) q a) (Refused p 20 0 q a)
+unfoldable pub Add : Part → List ℕ → Part → Answer → Type 0
+Add p text q a = either (sound p) (Take p (readOf text) q a) (Refused p 20 0 q a)

@@ -1,4 +1,4 @@
--- The list of a part, as bytes: 01, "List". Definitions only: the laws are in ListingLaws.
+-- The list of a part, as bytes: 01, "List". Definitions only.
 use Prim.Native.Nat.{ℕ, zero, suc}
 use mathlib.Core.List.{List, [], _∷_, _++_}
 use lib.ListN.{getD}

@@ -1,16 +1,14 @@
--- The test of a part says that it is sound.
+-- The test of a part says that it is sound; and the used count of a sound part.
 use Prim.Native.Nat.{_≤_}
 use native.Mathlib.Omega.{arith}
-use mathlib.Core.Path.{_≡_, refl, sym, subst}
-use lib.Dec.{T}
-use lib.ListN.{drop, length-take}
-use Rattle.lists.specs.Lists.{Every}
+use mathlib.Core.Path.{_≡_}
+use lib.ListN.{length, drop, length-take}
+use lib.Seq.{length-take-le}
 use Rattle.lists.specs.TestLaws.{Reflects, reflects-le, reflects-map, reflects-and, reflects-all}
-use Rattle.table.specs.Rules.{Blank}
-use Rattle.table.specs.RecordTest.{isBlank, Verdict, none, bad, refused, tested, isNone}
+use Rattle.table.specs.RecordTest.{isBlank}
 use Rattle.table.specs.TestedLaws.{blank-reflects, none-reflects}
 use Rattle.part.specs.declared.Part.{Part}
-use Rattle.part.specs.Parts.{inUse}
+use Rattle.part.specs.Parts.{inUse, Shaped}
 use Rattle.part.specs.Sound.{Sound}
 use Rattle.part.specs.SoundTest.{sound}
 
@@ -24,19 +22,8 @@ sound-reflects p =
     (reflects-and (none-reflects (p .k) (p .capacity) (inUse p))
     (reflects-and (reflects-le (p .used) (p .capacity)) (reflects-all isBlank blank-reflects (drop (p .used) (p .tables)))))
 
-is-none : (v : Verdict) → T (isNone v) → v ≡ none
-is-none none t = refl
-is-none (bad n) t = absurd t
-is-none (refused n) t = absurd t
-
--- in a sound part the test of the records in use finds none; and where it finds none, the part is sound if the used count is not
--- above the capacity and the rest is blank
-pub sound-tested : (p : Part) → Sound p → tested (p .k) (p .capacity) (inUse p) ≡ none
-sound-tested p h =
-    is-none (tested (p .k) (p .capacity) (inUse p)) ((none-reflects (p .k) (p .capacity) (inUse p)) .from
-    (h .k-range, h .capacity-range, record { rules = h .rules; fits = rw length-take (omega (arith, h .used-fits)) }))
-
-pub tested-sound : (p : Part) → tested (p .k) (p .capacity) (inUse p) ≡ none → p .used ≤ p .capacity → Every Blank (drop (p .used) (p .tables)) → Sound p
-tested-sound p e l b =
-    let h = (none-reflects (p .k) (p .capacity) (inUse p)) .to (subst (λ v. T (isNone v)) (sym e) tt) in
-    record { k-range = h .0; capacity-range = h .1; used-fits = l; rest-blank = b; rules = h .2 .rules }
+-- the used count of a sound part is the number of its records in use
+pub used-count : (p : Part) → Shaped p → Sound p → length (inUse p) ≡ p .used
+used-count p shape h =
+    let l : p .used ≤ length (p .tables) = omega (arith, h .used-fits, h .capacity-range .1, shape .records) in
+    length-take-le (p .used) (p .tables) l

@@ -6,7 +6,7 @@ ghost use Prim.Native.Nat.{_<_};
 ghost use Rattle.table.specs.Rules.{Padded};
 ghost use Rattle.part.specs.Sound.{Sound};
 ghost use Rattle.part.specs.Adds.{Offer, Add};
-ghost use Rattle.part.specs.Adding.{readOf, sheetOf, addingAnswer, withTable};
+ghost use Rattle.part.specs.Adding.{sheetOf, addingAnswer, withTable};
 use crate::Added;
 use crate::Adding;
 use crate::Part;
@@ -87,7 +87,7 @@ impl Part {
 
     // Adds the sheet that the text is. The conditions that refuse it are tested in 01's order: 20, the sheet's own, then an offer's.
     pub fn add(self, text: &[u8]) -> Added
-        ensures { λ r. ⌜ Add readOf self (now (text .entry)) (r .part) (addingAnswer (r .answer)) ⌝ }
+        ensures { λ r. ⌜ Add self (now (text .entry)) (r .part) (addingAnswer (r .answer)) ⌝ }
     {
         if !self.sound() {
             return self.refused(Adding::Unsound);

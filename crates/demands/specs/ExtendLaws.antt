@@ -5,7 +5,7 @@ use mathlib.Core.Path.{_≡_, refl, sym, ap, ap₂, _∙_, subst}
 use mathlib.Core.Logic.{_⊎_, inl, inr, _≢_, ⊎-elim}
 use mathlib.Core.List.{List, [], _∷_, _++_, map, Memᴰ·append-right}
 use lib.ListN.{length, take, drop, replicate, length-append, length-map, length-drop, length-replicate}
-use lib.Seq.{length-take-le, drop-append-seam, take-at, drop-at, drop-drop}
+use lib.Seq.{drop-append-seam, take-at, drop-at, drop-drop}
 use Rattle.lists.specs.Lists.{_∈_, first, later, Every}
 use Rattle.lists.specs.ListLaws.{every-none, every-cons, every-head, every-tail, every-append}
 use Rattle.cover.specs.Tables.{Table as LookupTable, Placed, numbered}
@@ -18,11 +18,12 @@ use Rattle.table.specs.Records.{tableOf, recordOf}
 use Rattle.table.specs.RecordLaws.{read-back, all-back}
 use Rattle.table.specs.Rules.{Padded, Coded, Sized, Sourced, DrivenOnce, ReadAfter, EveryTwo, places}
 use Rattle.table.specs.RuleLaws.{map-append, placesAfter, Follows, rules-append}
 use Rattle.part.specs.Parts.{inUse, tablesOf, Shaped}
 use Rattle.part.specs.Sound.{Sound}
+use Rattle.part.specs.SoundLaws.{used-count}
 use Rattle.part.specs.Adds.{extended}
 use Rattle.table.specs.declared.Table.{Table}
 use Rattle.part.specs.declared.Part.{Part}
 
 -- ---- lists
 
@@ -41,7 +42,7 @@ module _ {A : Type 0} where
   every-replicate P zero x h = every-none _
   every-replicate P (suc n) x h = every-cons h (every-replicate P n x h)
 
-  every-map : {B : Type 0} (P : A → Type 0) (f : B → A) (xs : List B) → Every (λ x. P (f x)) xs → Every P (map f xs)
+  pub every-map : {B : Type 0} (P : A → Type 0) (f : B → A) (xs : List B) → Every (λ x. P (f x)) xs → Every P (map f xs)
   every-map P f [] h = every-none _
   every-map P f (x ∷ xs) h = every-cons (every-head h) (every-map P f xs (every-tail h))
 
@@ -146,12 +147,6 @@ module _ (k : ℕ) (old : List Table) (new : List LookupTable) (s : Sheet) (a : 
   }
 
 -- ---- the part
-
--- the used count of a sound part is the number of its records in use
-pub used-count : (p : Part) → Shaped p → Sound p → length (inUse p) ≡ p .used
-used-count p shape h =
-    let l : p .used ≤ length (p .tables) = omega (arith, h .used-fits, h .capacity-range .1, shape .records) in
-    length-take-le (p .used) (p .tables) l
 
 module _ (p : Part) (shape : Shaped p) (h : Sound p) (new : List LookupTable) where
   front-length : length (inUse p ++ map recordOf new) ≡ p .used + length new

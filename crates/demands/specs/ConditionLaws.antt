@@ -1,5 +1,5 @@
 -- DEMAND 1, of each entry point that can turn something down: `Part::open`, `Part::add`, `write_line` and `write_list`, each about what its
--- contract says. The results are `opening-told`, `add-told`, `line-told` and `list-told`; Conditions has what they say.
+-- contract says. The results are `opening-told`, `add-told`, `line-told` and `list-told`; Demands has what they say.
 use Prim.Native.Nat.{ℕ, _+_, _-_, _≤_}
 use native.Mathlib.Omega.{arith}
 use mathlib.Core.Path.{_≡_, refl, sym, ap, _∙_, subst}
@@ -17,20 +17,18 @@ use Rattle.part.specs.Parts.{tablesOf}
 use Rattle.part.specs.Sound.{Sound}
 use Rattle.part.specs.SoundTest.{sound}
 use Rattle.part.specs.SoundLaws.{sound-reflects}
-use Rattle.part.specs.Sheets.{Reading, sheet}
+use Rattle.part.specs.Sheets.{Reading, sheet, readOf}
 use Rattle.part.specs.Adds.{Answer, accepted, refused, opened, isDriven, isRead, Add}
-use Rattle.part.specs.AddLaws.{driven-reflects, read-reflects, opened-cases, Outcome, unsound, misread, driven, read, full, taken}
-use Rattle.part.specs.Adding.{readOf}
-use Rattle.part.specs.CountLaws.{least-number, not-refused}
-use Rattle.part.specs.Demands.{leastNumber}
-use Rattle.part.specs.Settled as Settled
-use Rattle.part.specs.Settled.{answerOf}
-use Rattle.part.specs.Promises.{reading, add-outcome, answer-settled, refused-stays}
+use Rattle.demands.specs.AddLaws.{driven-reflects, read-reflects, opened-cases, Outcome, unsound, misread, driven, read, full, taken, outcome, not-refused, refused-stays}
+use Rattle.demands.specs.Settled as Settled
+use Rattle.demands.specs.Settled.{leastNumber, answerOf}
+use Rattle.demands.specs.ReadingLaws.{reads-right}
+use Rattle.demands.specs.SettledLaws.{least-number, add-answer}
 use Rattle.part.specs.Listing.{lineOf, listOf}
 use Rattle.listing.specs.Lines as Lines
 use Rattle.listing.specs.Lines.{wrote, pasted, turnedDown, fitted, lineWritten, listWritten}
-use Rattle.listing.specs.Conditions.{OpeningCondition, bad-k, bad-capacity, OpeningTold, AddCondition, not-sound, out-driven, out-read, no-room, not-read, Addable, AddTold}
-use Rattle.listing.specs.Conditions.{WriteCondition, part-unsound, not-there, too-short, WriteTold}
+use Rattle.demands.specs.Demands.{OpeningCondition, bad-k, bad-capacity, OpeningTold, AddCondition, not-sound, out-driven, out-read, no-room, not-read, Addable, AddTold}
+use Rattle.demands.specs.Demands.{WriteCondition, part-unsound, not-there, too-short, WriteTold}
 
 reflects-false : {b : Bool} {P : Type 0} → Reflects b P → ¬ P → b ≡ false
 reflects-false r n = by-reflects (λ c. c ≡ false) r (λ h. absurd (n h)) (λ m. refl)
@@ -81,7 +79,7 @@ module _ (p : Part) (text : List ℕ) where
 
   fits-reflects : (s : Sheet) (n : ℕ) → Sound p → readOf text ≡ sheet s → Least (p .k) (s .tree) n → Reflects (fits s) (n ≤ p .capacity - p .used)
   fits-reflects s n h e l =
-      subst (λ m. Reflects (fits s) (m ≤ p .capacity - p .used)) (least-unique (least-number (p .k) (h .k-range .0) s (reading text s e)) l)
+      subst (λ m. Reflects (fits s) (m ≤ p .capacity - p .used)) (least-unique (least-number (p .k) (h .k-range .0) s (reads-right text s e)) l)
       (reflects-le (leastNumber (p .k) s) (p .capacity - p .used))
 
   -- the answer of a sound part to what is read, and by the last three tests
@@ -114,7 +112,7 @@ module _ (p : Part) (text : List ℕ) where
   told : {a : Answer} {m l number place : ℕ} → a ≡ refused m l → a ≡ refused number place → AddCondition p text m l → AddCondition p text number place
   told e f c = moved (AddCondition p text) c (cc) (cc)
 
-  found : {q : Part} {a : Answer} {number place : ℕ} → Outcome readOf p text q a → a ≡ refused number place → AddCondition p text number place
+  found : {q : Part} {a : Answer} {number place : ℕ} → Outcome p text q a → a ≡ refused number place → AddCondition p text number place
   found (unsound n r) e = told (r .1) e (not-sound n)
   found (misread m l h g r) e = told (r .1) e (not-read m l h g)
   found (driven s h g d r) e = told (r .1) e (out-driven s h g d)
@@ -122,7 +120,7 @@ module _ (p : Part) (text : List ℕ) where
   found (full s n h g f l m r) e = told (r .1) e (no-room s n h g f l m)
   found (taken s h g f t room) e = absurd (not-refused e (t .answer))
 
-  passed : {q : Part} {a : Answer} → Outcome readOf p text q a → a ≡ accepted → Addable p text
+  passed : {q : Part} {a : Answer} → Outcome p text q a → a ≡ accepted → Addable p text
   passed (unsound n r) e = absurd (not-refused (r .1) e)
   passed (misread m l h g r) e = absurd (not-refused (r .1) e)
   passed (driven s h g d r) e = absurd (not-refused (r .1) e)
@@ -138,10 +136,10 @@ module _ (p : Part) (text : List ℕ) where
     room = omega (arith, room);
   }
 
-  pub add-told : (q : Part) (a : Answer) → Add readOf p text q a → AddTold p text q a
+  pub add-told : (q : Part) (a : Answer) → Add p text q a → AddTold p text q a
   add-told q a h =
-      let o = add-outcome p text q a h in
-      let e = answer-settled p text q a h in
+      let o = outcome p text q a h in
+      let e = add-answer p text q a h in
       record {
         refuses = λ m l. (found o, λ c. e ∙ condition-answer c);
         accepts = (passed o, λ g. e ∙ addable-answer g);

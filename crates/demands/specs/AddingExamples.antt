@@ -7,14 +7,13 @@ use Rattle.plan.specs.Key.{pack}
 use Rattle.plan.specs.Subsets.{least-of}
 use Rattle.sheet.specs.Step.{_>>=_, require, given}
 use Rattle.sheet.specs.Checks.{bytes}
 use Rattle.part.specs.Parts.{blanks}
 use Rattle.part.specs.SoundTest.{sound}
 use Rattle.part.specs.Adds.{Answer, accepted, refused}
-use Rattle.part.specs.Demands.{leastNumber}
-use Rattle.part.specs.Settled.{answerOf}
-use Rattle.part.specs.Adding.{readOf}
+use Rattle.demands.specs.Settled.{leastNumber, answerOf}
+use Rattle.part.specs.Sheets.{readOf}
 use Rattle.part.specs.Examples.{part}
 use Rattle.part.specs.declared.Part.{Part}
 
 -- the part of 01's list, which drives 20 and 21 and reads 1 to 5 and 20, with another capacity and used count
 abbrev with : (capacity used : ℕ) → Part

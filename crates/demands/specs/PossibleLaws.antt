@@ -20,17 +20,19 @@ use Rattle.cover.specs.Eval.{numbered-append}
 use Rattle.cover.specs.Placed.{number, placed, code, codes, codes*, tableOf, records, records*}
 use Rattle.cover.specs.Added.{Sheet, Legal, Added}
 use Rattle.table.specs.Limits.{tableBase}
 use Rattle.part.specs.Parts.{tablesOf}
 use Rattle.part.specs.Sound.{Sound}
 use Rattle.part.specs.SoundLaws.{sound-reflects}
-use Rattle.part.specs.Sheets.{Reading, sheet, refused as unread, Readable, Reads}
+use Rattle.part.specs.Sheets.{Reading, sheet, refused as unread, readOf}
+use Rattle.demands.specs.Readable.{Readable}
+use Rattle.demands.specs.ReadingLaws.{reads-right}
 use Rattle.part.specs.Adds.{Answer, accepted, refused, Result, extended, isRead, Refused, Accepted, Fill, Offer, Take, Add}
-use Rattle.part.specs.AddLaws.{driven-reflects, read-reflects}
-use Rattle.part.specs.Calls.{Call, add, Promise, Chain, call}
-use Rattle.part.specs.Demands.{leastNumber}
-use Rattle.part.specs.CountLaws.{least-number}
+use Rattle.demands.specs.AddLaws.{driven-reflects, read-reflects}
+use Rattle.demands.specs.Calls.{Call, add, Promise, Chain, call}
+use Rattle.demands.specs.Settled.{leastNumber}
+use Rattle.demands.specs.SettledLaws.{least-number}
 use Rattle.part.specs.declared.Part.{Part}
-use Rattle.part.specs.Calls as calls
+use Rattle.demands.specs.Calls as calls
 
 -- ---- the cover with its tables numbered after m others
 
@@ -238,61 +240,60 @@ module _ (base : ℕ) where
 
 -- ---- the promises can be kept
 
-module _ (readSheet : List ℕ → Reading) (law : Reads readSheet) where
-  module _ (p : Part) (text : List ℕ) where
-    accepted-possible : (s : Sheet) → Readable s → Least (p .k) (s .tree) (leastNumber (p .k) s) → (q : Part) × (a : Answer) × Accepted p s q a
-    accepted-possible s r l =
-        let c = l .some in
-        let n = cover-added tableBase (p .k) (tablesOf p) s (r .legal) (c .0) (c .1) in (
-          extended p (n .0),
-          accepted,
-          record {
-            new = n .0;
-            least = record { added = n .1; fewest = subst (λ m. Least (p .k) (s .tree) m) (sym (n .2 ∙ c .2)) l };
-            part = refl;
-            answer = refl;
-          },
-        )
+module _ (p : Part) (text : List ℕ) where
+  accepted-possible : (s : Sheet) → Readable s → Least (p .k) (s .tree) (leastNumber (p .k) s) → (q : Part) × (a : Answer) × Accepted p s q a
+  accepted-possible s r l =
+      let c = l .some in
+      let n = cover-added tableBase (p .k) (tablesOf p) s (r .legal) (c .0) (c .1) in (
+        extended p (n .0),
+        accepted,
+        record {
+          new = n .0;
+          least = record { added = n .1; fewest = subst (λ m. Least (p .k) (s .tree) m) (sym (n .2 ∙ c .2)) l };
+          part = refl;
+          answer = refl;
+        },
+      )
 
-    offer-possible : Sound p → (s : Sheet) → Readable s → (q : Part) × (a : Answer) × Offer p s q a
-    offer-possible h s r =
-        by-reflects (λ b. (q : Part) × (a : Answer) × either b (Refused p 21 0 q a) (either (isRead (s .out) (tablesOf p)) (Refused p 22 0 q a) (Last q a)))
-        (driven-reflects (s .out) (tablesOf p)) (λ d. (p, refused 21 0, (refl, refl)))
-        (λ d. by-reflects (λ b. (q : Part) × (a : Answer) × either b (Refused p 22 0 q a) (Last q a))
-        (read-reflects (s .out) (tablesOf p)) (λ i. (p, refused 22 0, (refl, refl))) (λ i. last))
-      where
-        Last : Part → Answer → Type 0
-        Last q a = (n : ℕ) × Least (p .k) (s .tree) n × Fill p s n q a
+  offer-possible : Sound p → (s : Sheet) → Readable s → (q : Part) × (a : Answer) × Offer p s q a
+  offer-possible h s r =
+      by-reflects (λ b. (q : Part) × (a : Answer) × either b (Refused p 21 0 q a) (either (isRead (s .out) (tablesOf p)) (Refused p 22 0 q a) (Last q a)))
+      (driven-reflects (s .out) (tablesOf p)) (λ d. (p, refused 21 0, (refl, refl)))
+      (λ d. by-reflects (λ b. (q : Part) × (a : Answer) × either b (Refused p 22 0 q a) (Last q a))
+      (read-reflects (s .out) (tablesOf p)) (λ i. (p, refused 22 0, (refl, refl))) (λ i. last))
+    where
+      Last : Part → Answer → Type 0
+      Last q a = (n : ℕ) × Least (p .k) (s .tree) n × Fill p s n q a
 
-        least : Least (p .k) (s .tree) (leastNumber (p .k) s)
-        least = least-number (p .k) (h .k-range .0) s r
+      least : Least (p .k) (s .tree) (leastNumber (p .k) s)
+      least = least-number (p .k) (h .k-range .0) s r
 
-        filled : (q : Part) × (a : Answer) × Fill p s (leastNumber (p .k) s) q a
-        filled =
-            by-reflects (λ b. (q : Part) × (a : Answer) × either b (Accepted p s q a) (Refused p 23 0 q a))
-            (reflects-le (leastNumber (p .k) s) (p .capacity - p .used)) (λ l. accepted-possible s r least) (λ l. (p, refused 23 0, (refl, refl)))
+      filled : (q : Part) × (a : Answer) × Fill p s (leastNumber (p .k) s) q a
+      filled =
+          by-reflects (λ b. (q : Part) × (a : Answer) × either b (Accepted p s q a) (Refused p 23 0 q a))
+          (reflects-le (leastNumber (p .k) s) (p .capacity - p .used)) (λ l. accepted-possible s r least) (λ l. (p, refused 23 0, (refl, refl)))
 
-        last : (q : Part) × (a : Answer) × Last q a
-        last = (filled .0, filled .1, (leastNumber (p .k) s, least, filled .2))
+      last : (q : Part) × (a : Answer) × Last q a
+      last = (filled .0, filled .1, (leastNumber (p .k) s, least, filled .2))
 
-    take-possible : Sound p → (v : Reading) → readSheet text ≡ v → (q : Part) × (a : Answer) × Take p v q a
-    take-possible h (sheet s) e = offer-possible h s (law text s e)
-    take-possible h (unread number place) e = (p, refused number place, (refl, refl))
+  take-possible : Sound p → (v : Reading) → readOf text ≡ v → (q : Part) × (a : Answer) × Take p v q a
+  take-possible h (sheet s) e = offer-possible h s (reads-right text s e)
+  take-possible h (unread number place) e = (p, refused number place, (refl, refl))
 
-    -- EVERY PROMISE OF AN ADD can be kept
-    pub add-possible : (q : Part) × (a : Answer) × Add readSheet p text q a
-    unfolding Add
-    add-possible =
-        by-reflects (λ b. (q : Part) × (a : Answer) × either b (Take p (readSheet text) q a) (Refused p 20 0 q a))
-        (sound-reflects p) (λ h. take-possible h (readSheet text) refl) (λ n. (p, refused 20 0, (refl, refl)))
+  -- EVERY PROMISE OF AN ADD can be kept
+  pub add-possible : (q : Part) × (a : Answer) × Add p text q a
+  unfolding Add
+  add-possible =
+      by-reflects (λ b. (q : Part) × (a : Answer) × either b (Take p (readOf text) q a) (Refused p 20 0 q a))
+      (sound-reflects p) (λ h. take-possible h (readOf text) refl) (λ n. (p, refused 20 0, (refl, refl)))
 
-  call-possible : (p : Part) (c : Call) → (q : Part) × (a : Answer) × Promise readSheet p c q a
-  call-possible p (add text) = add-possible p text
+call-possible : (p : Part) (c : Call) → (q : Part) × (a : Answer) × Promise p c q a
+call-possible p (add text) = add-possible p text
 
-  -- and so those of every list of calls
-  pub chain-possible : (p : Part) (cs : List Call) → (rs : List Result) × Chain readSheet p cs rs
-  chain-possible p [] = ([], calls.done)
-  chain-possible p (c ∷ cs) =
-      let x = call-possible p c in
-      let y = chain-possible (x .0) cs in
-      (record { part = x .0; answer = x .1 } ∷ y .0, call (x .2) (y .1))
+-- and so those of every list of calls
+pub chain-possible : (p : Part) (cs : List Call) → (rs : List Result) × Chain p cs rs
+chain-possible p [] = ([], calls.done)
+chain-possible p (c ∷ cs) =
+    let x = call-possible p c in
+    let y = chain-possible (x .0) cs in
+    (record { part = x .0; answer = x .1 } ∷ y .0, call (x .2) (y .1))

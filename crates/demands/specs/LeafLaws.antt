@@ -20,8 +20,8 @@ use Rattle.cover.specs.Placed.{number, placed, code, codes, codes*, tableOf, re
 use Rattle.cover.specs.Inputs.{root-in}
 use Rattle.cover.specs.Added.{Sheet, Added}
 use Rattle.cover.specs.AddedTables.{added-inputs, added-tidy}
-use Rattle.part.specs.ExtendLaws.{every-numbered}
-use Rattle.part.specs.AddLaws.{Driven, Read}
+use Rattle.demands.specs.ExtendLaws.{every-numbered}
+use Rattle.demands.specs.Nets.{Driven, Read}
 
 module _ (base : ℕ) where
   -- one of the tables reads x

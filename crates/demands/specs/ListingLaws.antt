@@ -17,12 +17,13 @@ use Rattle.table.specs.Limits.{inputRoom}
 use Rattle.table.specs.Records.{reads, tableOf, blank}
 use Rattle.table.specs.Rules.{AllZero, Blank, NamesTable, Padded, places}
 use Rattle.table.specs.RuleLaws.{old-place, placed}
 use Rattle.part.specs.Parts.{inUse, Shaped}
 use Rattle.part.specs.Sound.{Sound}
-use Rattle.part.specs.ExtendLaws.{every-take, every-drop, used-count}
+use Rattle.part.specs.SoundLaws.{used-count}
+use Rattle.demands.specs.ExtendLaws.{every-take, every-drop}
 use Rattle.part.specs.Listing.{tableLine, lineOf, listOf}
 use Rattle.table.specs.declared.Table.{Table}
 use Rattle.part.specs.declared.Part.{Part}
 
 -- ---- a record in its line
 
@@ -196,8 +197,8 @@ module _ (p q : Part) (fp : Shaped p) (fq : Shaped q) (hp : Sound p) (hq : Sound
       every-cons (a .0) (lines-only ts (every-tail f) (a .1))
 
   -- TWO SOUND PARTS WITH THE SAME LIST are the same part
-  pub same-list : listOf p ≡ listOf q → p ≡ q
-  same-list e =
+  pub list-says-all : listOf p ≡ listOf q → p ≡ q
+  list-says-all e =
       let a = top-only (gather (lineOf p) (map suc (upto (p .used)))) (gather (lineOf q) (map suc (upto (q .used)))) e in
       let b : gather (lineOf p) (map suc (upto (p .used))) ≡ gather (lineOf q) (map suc (upto (p .used))) =
       a .3 ∙ ap (λ n. gather (lineOf q) (map suc (upto n))) (sym (a .2)) in

@@ -15,11 +15,11 @@ use Rattle.cover.specs.Eval.{in-driven, driven-in, numbered-is}
 use Rattle.table.specs.Limits.{tableBase}
 use Rattle.table.specs.Records.{tableOf}
 use Rattle.table.specs.Rules.{IsNet, places, Rules}
 use Rattle.part.specs.Parts.{inUse, tablesOf}
 use Rattle.part.specs.Sound.{Sound}
-use Rattle.part.specs.AddLaws.{Driven}
+use Rattle.demands.specs.Nets.{Driven}
 use Rattle.table.specs.declared.Table.{Table}
 use Rattle.part.specs.declared.Part.{Part}
 
 map-same : (d e : ℕ → Bool) (xs : List ℕ) → Every (λ x. d x ≡ e x) xs → map d xs ≡ map e xs
 map-same d e [] h = refl
@@ -81,9 +81,9 @@ module _ (k : ℕ) (rs : List Table) (h : Rules k rs) where
       out = ap (λ bs. bit (t .truth) (index bs)) (map-same d e (t .inputs) reads)
 
 -- THE VALUES OF A SOUND PART depend on the free nets alone
-pub free-nets : (p : Part) → Sound p → (σ τ : ℕ → Bool) → ((n : ℕ) → IsNet n → ¬ (Driven n (tablesOf p)) → σ n ≡ τ n) → (n : ℕ) → IsNet n →
+pub values-by-free-nets : (p : Part) → Sound p → (σ τ : ℕ → Bool) → ((n : ℕ) → IsNet n → ¬ (Driven n (tablesOf p)) → σ n ≡ τ n) → (n : ℕ) → IsNet n →
     settled tableBase (tablesOf p) σ n ≡ settled tableBase (tablesOf p) τ n
-free-nets p h σ τ g n l = values-same (p .k) (inUse p) (h .rules) 0 (tablesOf p) (λ q m. m) σ τ unwritten n (inl l)
+values-by-free-nets p h σ τ g n l = values-same (p .k) (inUse p) (h .rules) 0 (tablesOf p) (λ q m. m) σ τ unwritten n (inl l)
   where
     -- a net that is driven is written
     driven-written : (c : ℕ) → 1 ≤ c → Driven c (tablesOf p) → Written (p .k) (inUse p) (h .rules) (places (inUse p)) c

@@ -14,15 +14,16 @@ use Rattle.cover.specs.Tables.{Table as LookupTable}
 use Rattle.cover.specs.Added.{Sheet, AddedLeast}
 use Rattle.sheet.specs.Step.{_>>=_, require, given}
 use Rattle.sheet.specs.Checks.{bytes}
 use Rattle.part.specs.Parts.{blanks}
 use Rattle.part.specs.SoundTest.{sound}
-use Rattle.part.specs.Sheets.{sheet}
+use Rattle.part.specs.Sheets.{sheet, readOf}
 use Rattle.part.specs.Adds.{accepted, Result, opened, extended, Add}
-use Rattle.part.specs.Adding.{readOf}
-use Rattle.part.specs.Calls.{add, final, Chain, call}
+use Rattle.demands.specs.Calls.{add, final, Chain, call}
 use Rattle.part.specs.Examples.{part}
 use Rattle.part.specs.declared.Part.{Part}
-use Rattle.part.specs.Calls as calls
+use Rattle.demands.specs.Calls as calls
+use Rattle.demands.specs.Demands as Demands
+use Rattle.demands.specs.Demands.{Total, more}
 
 -- net 20 = (1 or 2) and (3 or 4), and net 21 = not (20 and not 5)
 abbrev first : Sheet
@@ -125,19 +126,23 @@ added-2 = record {
   fewest = least-2;
 }
 
-add-1 : Add readOf start first-text middle accepted
+add-1 : Add start first-text middle accepted
 unfolding Add sound blanks
 add-1 = rw first-read (1, least-1, record { new = table-1; least = added-1; part = refl; answer = refl })
 
-add-2 : Add readOf middle second-text end-part accepted
+add-2 : Add middle second-text end-part accepted
 unfolding Add sound blanks
 add-2 = rw second-read (1, least-2, record { new = table-2; least = added-2; part = refl; answer = refl })
 
 abbrev results : List Result
 results = record { part = middle; answer = accepted } ∷ record { part = end-part; answer = accepted } ∷ []
 
+-- the sum of the sheets' least numbers is the part's used count
+sum : Total 4 (first ∷ second ∷ []) (part .used)
+sum = more least-1 (more least-2 Demands.none)
+
 -- the promises can be kept
-chain : Chain readOf start (add first-text ∷ add second-text ∷ []) results
+chain : Chain start (add first-text ∷ add second-text ∷ []) results
 chain = call add-1 (call add-2 calls.done)
 
 -- and the part is the one in 01

@@ -4,14 +4,18 @@ use Prim.Native.Nat.{ℕ, _-_}
 use mathlib.Core.Path.{_≡_}
 use mathlib.Core.Bool.{cond}
 use lib.Dec.{leb}
+use Rattle.plan.specs.Least.{least-tables}
 use Rattle.cover.specs.Added.{Sheet}
 use Rattle.table.specs.Rules.{IsNet}
 use Rattle.part.specs.Parts.{tablesOf}
 use Rattle.part.specs.SoundTest.{sound}
 use Rattle.part.specs.Sheets.{Reading, sheet, refused as unread}
 use Rattle.part.specs.Adds.{Answer, accepted, refused, isDriven, isRead}
-use Rattle.part.specs.Demands.{leastNumber}
 use Rattle.part.specs.declared.Part.{Part}
+
+-- the number that the search finds, which is the least number of a sheet that was read (`least-number` in SettledLaws)
+unfoldable pub leastNumber : ℕ → Sheet → ℕ
+leastNumber k s = least-tables k (s .tree)
 
 -- two parts that differ in nothing that an answer depends on
 pub record Alike (p q : Part) : Type 0 where

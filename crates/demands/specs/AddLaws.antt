@@ -1,0 +1,165 @@
+-- An opened part is sound; the cases of an add; and that it keeps soundness, the shape, K and the capacity.
+use Prim.Native.Nat.{ℕ, _+_, _-_, _≤_, _<_}
+use native.Mathlib.Omega.{arith}
+use mathlib.Core.Path.{_≡_, refl, sym, subst}
+use mathlib.Core.Bool.{cond}
+use mathlib.Core.List.{List}
+use lib.Dec.{eqb}
+use lib.ListN.{length, length-replicate}
+use Rattle.lists.specs.Lists.{Every}
+use Rattle.lists.specs.Tests.{elem, within}
+use Rattle.lists.specs.TestLaws.{Reflects, reflects-le, reflects-eq, reflects-any, reflects-elem, reflects-within, by-reflects, by-either}
+use Rattle.cover.specs.Cover.{Least}
+use Rattle.plan.specs.Least.{least-unique}
+use Rattle.cover.specs.Tables.{Table as LookupTable}
+use Rattle.cover.specs.Added.{Sheet, Fresh}
+use Rattle.cover.specs.AddedTables.{added-sized}
+use Rattle.table.specs.Limits.{tableBase, inputRoom, tableRoom, KRange, CapacityRange}
+use Rattle.table.specs.Records.{blank}
+use Rattle.table.specs.Rules.{Blank}
+use Rattle.table.specs.TestedLaws.{no-records}
+use Rattle.part.specs.Parts.{blanks, tablesOf, Shaped}
+use Rattle.part.specs.Sound.{Sound}
+use Rattle.part.specs.SoundTest.{sound}
+use Rattle.part.specs.SoundLaws.{sound-reflects}
+use Rattle.part.specs.Sheets.{Reading, sheet, refused as unread, readOf}
+use Rattle.part.specs.Adds.{Answer, accepted, refused, Result, empty, opened, isDriven, isRead, Refused, Accepted, Take, Add}
+use Rattle.demands.specs.Nets.{Driven, Read}
+use Rattle.demands.specs.ExtendLaws.{every-replicate, every-numbered, extended-shaped, extended-sound}
+use Rattle.part.specs.declared.Part.{Part}
+
+-- ---- opening
+
+empty-sound : (k capacity : ℕ) → KRange k → CapacityRange capacity → Sound (empty k capacity)
+unfolding blanks
+empty-sound k capacity g h = record {
+  k-range = g;
+  capacity-range = h;
+  used-fits = omega arith;
+  rest-blank = every-replicate Blank tableRoom blank (record { net = refl; count = refl; inputs = every-replicate (λ x. x ≡ 0) inputRoom 0 refl; truth = refl });
+  rules = no-records k capacity .rules;
+}
+
+empty-shaped : (k capacity : ℕ) → Shaped (empty k capacity)
+unfolding blanks
+empty-shaped k capacity = record {
+  records = length-replicate tableRoom blank;
+  inputs = every-replicate (λ r. length (r .inputs) ≡ inputRoom) tableRoom blank refl;
+}
+
+-- what an opening gives, by its tests
+pub opened-cases : (k capacity : ℕ) (P : Result → Type 0) →
+    (KRange k → CapacityRange capacity → P (record { part = empty k capacity; answer = accepted })) →
+    ((¬ KRange k) → P (record { part = empty 0 0; answer = refused 2 0 })) →
+    (KRange k → (¬ CapacityRange capacity) → P (record { part = empty 0 0; answer = refused 3 0 })) → P (opened k capacity)
+opened-cases k capacity P f g h =
+    by-reflects (λ b. P (cond b (cond (within 1 tableRoom capacity) good bad-capacity) bad-k)) (reflects-within 2 inputRoom k)
+    (λ r. by-reflects (λ b. P (cond b good bad-capacity)) (reflects-within 1 tableRoom capacity) (f r) (h r))
+    g
+  where
+    good : Result
+    good = record { part = empty k capacity; answer = accepted }
+
+    bad-capacity : Result
+    bad-capacity = record { part = empty 0 0; answer = refused 3 0 }
+
+    bad-k : Result
+    bad-k = record { part = empty 0 0; answer = refused 2 0 }
+
+pub opened-shaped : (k capacity : ℕ) → Shaped ((opened k capacity) .part)
+opened-shaped k capacity = opened-cases k capacity (λ r. Shaped (r .part)) (λ g h. empty-shaped k capacity) (λ n. empty-shaped 0 0) (λ g n. empty-shaped 0 0)
+
+pub opened-sound : (k capacity : ℕ) → (opened k capacity) .answer ≡ accepted → Sound ((opened k capacity) .part)
+opened-sound k capacity =
+    opened-cases k capacity (λ r. r .answer ≡ accepted → Sound (r .part)) (λ g h e. empty-sound k capacity g h)
+    (λ n e. let z : _≡_ {A = ℕ} 0 1 = cc in absurd (omega arith)) (λ g n e. let z : _≡_ {A = ℕ} 0 1 = cc in absurd (omega arith))
+
+-- an accepted opening: the part has no table, and the K and the capacity that were asked for
+pub opened-empty : (k capacity : ℕ) → (opened k capacity) .answer ≡ accepted → (opened k capacity) .part ≡ empty k capacity
+opened-empty k capacity =
+    opened-cases k capacity (λ r. r .answer ≡ accepted → r .part ≡ empty k capacity) (λ g h e. refl)
+    (λ n e. let z : _≡_ {A = ℕ} 0 1 = cc in absurd (omega arith)) (λ g n e. let z : _≡_ {A = ℕ} 0 1 = cc in absurd (omega arith))
+
+-- ---- adding
+
+pub driven-reflects : (n : ℕ) (ts : List LookupTable) → Reflects (isDriven n ts) (Driven n ts)
+driven-reflects n = reflects-any (λ t. eqb (t .drives) n) (λ t. reflects-eq (t .drives) n)
+
+pub read-reflects : (n : ℕ) (ts : List LookupTable) → Reflects (isRead n ts) (Read n ts)
+read-reflects n = reflects-any (λ t. elem n (t .inputs)) (λ t. reflects-elem n (t .inputs))
+
+fresh : (s : Sheet) (ts : List LookupTable) → ¬ (Driven (s .out) ts) → ¬ (Read (s .out) ts) → Fresh s ts
+fresh s ts d r t m = (λ e. d (t, m, e), λ i. r (t, m, i))
+
+-- what an add leaves as it was
+pub record Kept (p q : Part) : Type 0 where
+  pub same-k : q .k ≡ p .k
+  pub same-capacity : q .capacity ≡ p .capacity
+  pub shaped : Shaped q
+  pub sound : Sound p → Sound q
+
+-- what an add found, and what it gave
+pub data Outcome (p : Part) (text : List ℕ) (q : Part) (a : Answer) : Type 0 where
+  unsound : ¬ (Sound p) → Refused p 20 0 q a → Outcome p text q a
+  misread : (number place : ℕ) → Sound p → readOf text ≡ unread number place → Refused p number place q a → Outcome p text q a
+  driven : (s : Sheet) → Sound p → readOf text ≡ sheet s → Driven (s .out) (tablesOf p) → Refused p 21 0 q a → Outcome p text q a
+  read : (s : Sheet) → Sound p → readOf text ≡ sheet s → ¬ (Driven (s .out) (tablesOf p)) → Read (s .out) (tablesOf p) → Refused p 22 0 q a → Outcome p text q a
+  full : (s : Sheet) (n : ℕ) → Sound p → readOf text ≡ sheet s → Fresh s (tablesOf p) → Least (p .k) (s .tree) n → p .capacity - p .used < n →
+      Refused p 23 0 q a → Outcome p text q a
+  taken : (s : Sheet) → Sound p → readOf text ≡ sheet s → Fresh s (tablesOf p) → (t : Accepted p s q a) → p .used + length (t .new) ≤ p .capacity →
+      Outcome p text q a
+
+module _ (p : Part) (text : List ℕ) (q : Part) (a : Answer) where
+  pub outcome : Add p text q a → Outcome p text q a
+  unfolding Add
+  outcome = by-either (sound-reflects p) (λ h. reading h (readOf text) refl) unsound
+    where
+      room : (h : Sound p) (s : Sheet) (n : ℕ) → Least (p .k) (s .tree) n → n ≤ p .capacity - p .used → (t : Accepted p s q a) →
+          p .used + length (t .new) ≤ p .capacity
+      room h s n l le t = omega (arith, le, h .used-fits, least-unique l (t .least .fewest))
+
+      reading : Sound p → (v : Reading) → readOf text ≡ v → Take p v q a → Outcome p text q a
+      reading h (unread number place) e = misread number place h e
+      reading h (sheet s) e =
+          by-either (driven-reflects (s .out) (tablesOf p)) (driven s h e)
+          (λ d. by-either (read-reflects (s .out) (tablesOf p)) (read s h e d)
+          (λ r o. by-either (reflects-le (o .0) (p .capacity - p .used))
+          (λ l t. taken s h e (fresh s (tablesOf p) d r) t (room h s (o .0) (o .1) l t))
+          (λ l. full s (o .0) h e (fresh s (tablesOf p) d r) (o .1) (omega arith)) (o .2)))
+
+module _ (p : Part) (shape : Shaped p) where
+  pub same-kept : (q : Part) → q ≡ p → Kept p q
+  same-kept q e = subst (λ q. Kept p q) (sym e) (record { same-k = refl; same-capacity = refl; shaped = shape; sound = λ h. h })
+
+  pub kept : {text : List ℕ} {q : Part} {a : Answer} → Outcome p text q a → Kept p q
+  kept (unsound n r) = same-kept _ (r .0)
+  kept (misread number place h e r) = same-kept _ (r .0)
+  kept (driven s h e d r) = same-kept _ (r .0)
+  kept (read s h e d i r) = same-kept _ (r .0)
+  kept (full s n h e f l m r) = same-kept _ (r .0)
+  kept (taken s h e f t room) = subst (λ q. Kept p q) (sym (t .part)) (record {
+    same-k = refl;
+    same-capacity = refl;
+    shaped = extended-shaped p shape h (t .new) room narrow;
+    sound = λ g. extended-sound p shape h (t .new) s (t .least .added) f room;
+  })
+    where
+      narrow : Every (λ u. length (u .inputs) ≤ inputRoom) (t .new)
+      narrow = every-numbered (λ u. length (u .inputs) ≤ inputRoom) (length (tablesOf p)) (t .new)
+          (λ x m. omega (arith, h .k-range .1, added-sized tableBase (p .k) (tablesOf p) (t .new) s (t .least .added) x m .most))
+
+-- two answers
+pub not-refused : {number place : ℕ} {a : Answer} → a ≡ refused number place → a ≡ accepted → ⊥
+not-refused e f = let z : _≡_ {A = ℕ} 0 1 = cc in omega arith
+
+-- an add that is turned down hands back the part that it got
+pub refused-stays : (p : Part) (text : List ℕ) (q : Part) (a : Answer) (number place : ℕ) → Add p text q a → a ≡ refused number place → q ≡ p
+refused-stays p text q a number place h e = go (outcome p text q a h)
+  where
+    go : Outcome p text q a → q ≡ p
+    go (unsound n r) = r .0
+    go (misread n l g i r) = r .0
+    go (driven s g i d r) = r .0
+    go (read s g i d j r) = r .0
+    go (full s n g i f l m r) = r .0
+    go (taken s g i f t room) = absurd (not-refused e (t .answer))

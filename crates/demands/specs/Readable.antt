@@ -1,0 +1,13 @@
+-- What holds of every sheet that is read. Definitions only: that it does is in ReadingLaws.
+use mathlib.Core.Path.{_≡_}
+use lib.Dec.{T}
+use Rattle.tree.specs.declared.Kind.{Kind}
+use Rattle.tree.specs.Tree.{Edges, gate, proper}
+use Rattle.cover.specs.Added.{Sheet, Legal}
+use Rattle.table.specs.Limits.{tableBase}
+
+-- its nets are nets, no net stands at two leaves, the output net at none, the root is a gate, and each gate has two fanins or more
+pub record Readable (s : Sheet) : Type 0 where
+  pub legal : Legal tableBase s
+  pub root : (k : Kind) × (es : Edges) × (s .tree ≡ gate k es)
+  pub proper : T (proper (s .tree))

@@ -1,0 +1,86 @@
+-- THE THREE DEMANDS HOLD: `demand-1`, `demand-2` and `demand-3`; and what else is proved of lists of calls. `Part::add` ensures, of every
+-- part p and text, `Add p text (r .part) (addingAnswer (r .answer))` of its result r; so calls of the code, each given the part that the one
+-- before handed back, are a `Chain` (`called`). `Shaped` says of a part what its type does.
+use Prim.Native.Nat.{ℕ, _≤_}
+use native.Mathlib.Omega.{arith}
+use mathlib.Core.Path.{_≡_, ap, _∙_, subst}
+use mathlib.Core.List.{List, _∷_, map}
+use lib.ListN.{length}
+use Rattle.lists.specs.Lists.{Every}
+use Rattle.lists.specs.ListLaws.{every-none, every-cons}
+use Rattle.part.specs.Parts.{tablesOf, Shaped}
+use Rattle.part.specs.Sound.{Sound}
+use Rattle.part.specs.Adds.{accepted, refused, Result, opened, Add}
+use Rattle.part.specs.Adding.{addingAnswer, addedResult}
+use Rattle.part.specs.declared.Part.{Part}
+use Rattle.part.specs.declared.Added.{Added}
+use Rattle.demands.specs.Calls.{Call, add, Chain, done, call, acceptedIn}
+use Rattle.demands.specs.Demands.{Demand1, lastPart, Demand2, Total, Demand3}
+use Rattle.demands.specs.AddLaws.{opened-empty, opened-shaped, opened-sound}
+use Rattle.demands.specs.ConditionLaws.{opening-told, add-told, line-told, list-told}
+use Rattle.demands.specs.CountLaws.{call-kept, chain-kept, counted}
+use Rattle.demands.specs.ValueLaws.{sound-narrow, unsound-stays, opened-served}
+use Rattle.demands.specs.FreeLaws.{values-by-free-nets}
+use Rattle.demands.specs.ListingLaws.{list-says-all, same-lines}
+use Rattle.demands.specs.SettledLaws.{alike-refl, answers-settled}
+use Rattle.demands.specs.PossibleLaws.{chain-possible}
+
+-- ---- the demands
+
+pub demand-1 : Demand1
+demand-1 = record { opening = opening-told; adding = add-told; line = line-told; list = list-told }
+
+pub demand-2 : (k capacity : ℕ) → (opened k capacity) .answer ≡ accepted → (cs : List Call) (rs : List Result) →
+    Chain ((opened k capacity) .part) cs rs → Demand2 k capacity cs rs
+demand-2 k capacity a cs rs h =
+    let last = lastPart k capacity rs in
+    let g = chain-kept h (opened-shaped k capacity) in
+    let s = g .sound (opened-sound k capacity a) in
+    record {
+      narrow = subst (λ n. Every (λ t. length (t .inputs) ≤ n) (tablesOf last)) (g .same-k ∙ ap (λ p. p .k) (opened-empty k capacity a)) (sound-narrow last s);
+      free = values-by-free-nets last s;
+      each = opened-served k capacity a cs rs h;
+      sound = s;
+      list = λ q f i. list-says-all last q (g .shaped) f s i;
+      lines = λ q f i. same-lines last q (g .shaped) f s i;
+    }
+
+pub demand-3 : (p : Part) → Shaped p → (cs : List Call) (rs : List Result) → Chain p cs rs → Demand3 p cs rs
+demand-3 = counted
+
+-- ---- more of lists of calls
+
+-- an add of the code is the first call of a list that goes on with the part that it handed back
+pub called : (p : Part) (text : List ℕ) (r : Added) → Add p text (r .part) (addingAnswer (r .answer)) → {cs : List Call} {rs : List Result} →
+    Chain (r .part) cs rs → Chain p (add text ∷ cs) (addedResult r ∷ rs)
+called p text r h t = call h t
+
+-- from an opening, the used count is the sum of the least numbers of the accepted sheets
+pub opened-used : (k capacity : ℕ) → (opened k capacity) .answer ≡ accepted → (cs : List Call) (rs : List Result) →
+    Chain ((opened k capacity) .part) cs rs → Total k (acceptedIn cs rs) ((lastPart k capacity rs) .used)
+opened-used k capacity a cs rs h =
+    let e = opened-empty k capacity a in
+    let u = (demand-3 ((opened k capacity) .part) (opened-shaped k capacity) cs rs h) .used in
+    let i : u .0 ≡ (lastPart k capacity rs) .used = omega (arith, u .2, ap (λ p. p .used) e) in
+    subst (Total k (acceptedIn cs rs)) i (subst (λ p. Total (p .k) (acceptedIn cs rs) (u .0)) e (u .1))
+
+-- from a sound part on, every part is sound
+pub chain-sound : {p : Part} {cs : List Call} {rs : List Result} → Chain p cs rs → Shaped p → Sound p → Every (λ r. Sound (r .part)) rs
+chain-sound done f h = every-none _
+chain-sound {p} (call {c = c} {r = r} g t) f h =
+    let k = call-kept p f c (r .part) (r .answer) g in
+    every-cons (k .sound h) (chain-sound t (k .shaped) (k .sound h))
+
+-- a part that is not sound stays as it is, and every answer is 20
+pub unsound-start : (p : Part) (cs : List Call) (rs : List Result) → Chain p cs rs → ¬ (Sound p) →
+    Every (λ r. r ≡ record { part = p; answer = refused 20 0 }) rs
+unsound-start p cs rs h = unsound-stays h
+
+-- all answers of a list are settled, whatever least covers were taken
+pub same-answers : (p : Part) → Shaped p → (cs : List Call) (rs ts : List Result) → Chain p cs rs → Chain p cs ts →
+    map (λ r. r .answer) rs ≡ map (λ r. r .answer) ts
+same-answers p f cs rs ts h g = answers-settled h g f f (alike-refl p) .0
+
+-- and no promise is contradictory
+pub promises-possible : (p : Part) (cs : List Call) → (rs : List Result) × Chain p cs rs
+promises-possible = chain-possible
