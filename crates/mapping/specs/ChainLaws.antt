@@ -1,12 +1,9 @@
 -- What the program prints, as a list of adds: demands 2 and 3 hold of it.
-use Prim.Native.Nat.{ℕ, _+_, _≤_}
-use native.Mathlib.Omega.{arith}
-use mathlib.Core.Path.{_≡_, refl, ap, subst}
-use mathlib.Core.Bool.{cond}
+use Prim.Native.Nat.{ℕ}
+use mathlib.Core.Path.{_≡_, refl, subst}
 use mathlib.Core.Option.{some}
 use mathlib.Core.List.{List, [], _∷_}
-use lib.ListN.{length, drop}
-use Rattle.lists.specs.Cases.{by-leb}
+use lib.ListN.{drop}
 use Rattle.decimal.specs.Number.{Number}
 use Rattle.cover.specs.Added.{Sheet}
 use Rattle.part.specs.Adds.{accepted, refused, Result, opened}
@@ -16,10 +13,7 @@ use Rattle.part.specs.Calls.{Call, final, Chain, done, call, Link}
 use Rattle.part.specs.Demands.{Counted, CallServed}
 use Rattle.part.specs.Promises.{demand-2, demand-3}
 use Rattle.part.specs.declared.Part.{Part}
-use Rattle.listing.specs.Lines as lines
-use Rattle.mapping.specs.Program.{openingNumbers, count, openedBy, refusalLine, Mapped, ended, stopped, added, After, Prints, WrittenAs, Answered, Texts, end, next, printedBy}
-use Rattle.mapping.specs.declared.Printed.{Printed}
-use Rattle.mapping.specs.declared.Printed.the-variants.{Wrote}
+use Rattle.mapping.specs.Program.{openingNumbers, count, openedBy, refusalLine, Mapped, ended, stopped, added, After, Prints, Texts, end, next, printedBy}
 
 -- the calls, their results, and what these print
 pub mapped-calls : {p : Part} {n : ℕ} {text out : List ℕ} → Mapped p n text out →
@@ -59,15 +53,3 @@ prints-run input out x y e a h =
       counted = demand-3 _ (opened-shaped k capacity) (c .0) (c .1) (c .2);
       served = demand-2 k capacity a (c .0) (c .1) (c .2);
     }
-
--- what is written lies within the buffer
-wrote-within : (n : ℕ) (line new old : List ℕ) → WrittenAs line (Wrote n) new old → n ≤ length old
-wrote-within n line new old e =
-    by-leb (λ b. lines.wrote n ≡ (cond b (record { result = lines.wrote (length line); bytes = lines.pasted old 0 line }) (lines.turnedDown 14 old)) .result → n ≤ length old)
-    (0 + length line) (length old)
-    (λ l i. let h : n ≡ length line = cc in omega arith)
-    (λ l i. let z : _≡_ {A = ℕ} 0 1 = cc in absurd (omega arith))
-    (ap (λ (o : lines.Outcome). o .result) e)
-
-pub printed-within : {input new old : List ℕ} {r : Printed} (n : ℕ) → Answered input r new old → r ≡ Wrote n → n ≤ length old
-printed-within {new = new} {old = old} n h e = wrote-within n (h .line) new old (subst (λ r. WrittenAs (h .line) r new old) e (h .written))

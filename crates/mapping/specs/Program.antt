@@ -1,6 +1,6 @@
 -- What the mapping program prints for an input: 01, "List". Which least covers are taken is free, so it is a relation.
 -- Definitions only: the laws are in ProgramLaws.
-use Prim.Native.Nat.{ℕ, suc, _<_}
+use Prim.Native.Nat.{ℕ, suc, _≤_, _<_}
 use mathlib.Core.Path.{_≡_}
 use mathlib.Core.Bool.{true, cond}
 use mathlib.Core.Option.{Option, none, some}
@@ -97,6 +97,12 @@ pub record Answered (input : List ℕ) (r : Printed) (new old : List ℕ) : Type
   pub line : List ℕ
   pub prints : Prints input line
   pub written : WrittenAs line r new old
+
+-- THE SAME with room for all that can be printed: it stands in the first n bytes of the buffer, and the others are as they were
+pub record AtFront (input : List ℕ) (n : ℕ) (new old : List ℕ) : Type 0 where
+  pub prints : Prints input (take n new)
+  pub within : n ≤ length new
+  pub rest : drop n new ≡ drop n old
 
 abbrev pub told : Told → Answer
 told t = cond (eqb (t .number) 0) accepted (refused (t .number) (t .line))
