@@ -4,5 +4,6 @@ pub mod OpeningLaws
 pub mod OpeningLine
 pub mod FrontLaws
 pub mod RoomLaws
+pub mod Runs
 pub mod ChainLaws
 pub mod Examples

@@ -1,5 +1,5 @@
 -- What the mapping program prints for an input: 01, "List". Which least covers are taken is free, so it is a relation.
--- Definitions only: the laws are in ProgramLaws.
+-- Definitions only: the laws are in ProgramLaws. Runs has the same as a list of adds.
 use Prim.Native.Nat.{ℕ, suc, _≤_, _<_}
 use mathlib.Core.Path.{_≡_}
 use mathlib.Core.Bool.{true, cond}
@@ -13,7 +13,6 @@ use Rattle.sheet.specs.Cut.{sheetText}
 use Rattle.part.specs.Sound.{Sound}
 use Rattle.part.specs.Adds.{Answer, accepted, refused, Result, empty, opened, Add}
 use Rattle.part.specs.Adding.{readOf}
-use Rattle.part.specs.Calls.{Call, add}
 use Rattle.part.specs.Listing.{listOf}
 use Rattle.part.specs.declared.Part.{Part}
 use Rattle.listing.specs.Lines as lines
@@ -69,18 +68,6 @@ Prints input out = After (openedBy (openingNumbers input)) (drop 13 input) out
 -- how many bytes of an input decide what is printed for it: `front-decides` in FrontLaws
 unfoldable pub room : ℕ
 room = 131072
-
--- ---- the same as a list of adds, of which demands 2 and 3 speak: ChainLaws
-
--- the calls add the sheets of a text, from the first on
-pub data Texts : List ℕ → List Call → Type 0 where
-  end : {text : List ℕ} → Texts text []
-  next : {text : List ℕ} {cs : List Call} → Texts (sheetText text .1) cs → Texts text (add (sheetText text .0) ∷ cs)
-
--- what is printed after these results: the first refusal, else the list of the last part
-abbrev pub printedBy : Part → ℕ → List Result → List ℕ
-printedBy p n [] = listOf p
-printedBy p n (r ∷ rs) = elim (r .answer) [ accepted ↦ printedBy (r .part) (suc n) rs | refused number place ↦ refusalLine number (suc n) place ]
 
 -- ---- what the code's values stand for
 

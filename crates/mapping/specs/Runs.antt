@@ -1,0 +1,49 @@
+-- What the program prints, as a list of adds, of which demands 2 and 3 speak; and what of it the rules settle.
+-- Definitions only: the laws are in ChainLaws and SettledLaws.
+use Prim.Native.Nat.{ℕ, suc, _<_}
+use mathlib.Core.Path.{_≡_}
+use mathlib.Core.Option.{Option, none, some}
+use mathlib.Core.List.{List, [], _∷_, map}
+use lib.ListN.{length, take, drop}
+use Rattle.cover.specs.Added.{Sheet}
+use Rattle.sheet.specs.Cut.{sheetText}
+use Rattle.part.specs.Adds.{Answer, accepted, refused, Result, opened}
+use Rattle.part.specs.Adding.{readOf}
+use Rattle.part.specs.Calls.{Call, add, final, Chain, Link}
+use Rattle.part.specs.Demands.{Counted, CallServed}
+use Rattle.part.specs.Listing.{listOf}
+use Rattle.part.specs.declared.Part.{Part}
+use Rattle.mapping.specs.Program.{refusalLine}
+
+-- THE CALLS OF A TEXT, with their results: each adds the next sheet, up to the text's end or to the first that is refused
+pub data Texts : List ℕ → List Call → List Result → Type 0 where
+  end : Texts [] [] []
+  stop : {text : List ℕ} {r : Result} (number place : ℕ) → 0 < length text → r .answer ≡ refused number place →
+      Texts text (add (sheetText text .0) ∷ []) (r ∷ [])
+  next : {text : List ℕ} {cs : List Call} {r : Result} {rs : List Result} → 0 < length text → r .answer ≡ accepted → Texts (sheetText text .1) cs rs →
+      Texts text (add (sheetText text .0) ∷ cs) (r ∷ rs)
+
+abbrev pub answers : List Result → List Answer
+answers = map (λ r. r .answer)
+
+-- the first refusal among the answers, where `n` sheets were added before: its number, the sheet's number and the place
+abbrev pub firstRefusal : ℕ → List Answer → Option (ℕ × ℕ × ℕ)
+firstRefusal n [] = none
+firstRefusal n (accepted ∷ later) = firstRefusal (suc n) later
+firstRefusal n (refused number place ∷ later) = some (number, suc n, place)
+
+-- what is printed after the part p and these results: the first refusal, else the list of the last part
+abbrev pub printedBy : Part → ℕ → List Result → List ℕ
+printedBy p n rs = elim (firstRefusal n (answers rs)) [ none ↦ listOf (final p rs) | some x ↦ refusalLine (x .0) (x .1) (x .2) ]
+
+-- THE PROGRAM AND THE DEMANDS, after a good opening line: the calls are all the text's, demands 2 and 3 hold of them, and what is printed
+-- is told by their results
+pub record Run (k capacity : ℕ) (text out : List ℕ) : Type 0 where
+  pub calls : List Call
+  pub results : List Result
+  pub chain : Chain readOf ((opened k capacity) .part) calls results
+  pub texts : Texts text calls results
+  pub printed : out ≡ printedBy ((opened k capacity) .part) 0 results
+  pub counted : Counted readOf ((opened k capacity) .part) calls results
+  pub served : (ss : List Sheet) (o : Part) (c : Call) (r : Result) → Link readOf ((opened k capacity) .part) calls results ss o c r →
+      CallServed readOf k (final ((opened k capacity) .part) results) o c r
