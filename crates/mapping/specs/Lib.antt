@@ -6,4 +6,5 @@ pub mod FrontLaws
 pub mod RoomLaws
 pub mod Runs
 pub mod ChainLaws
+pub mod SettledLaws
 pub mod Examples

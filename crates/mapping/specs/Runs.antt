@@ -5,6 +5,7 @@ use mathlib.Core.Path.{_≡_}
 use mathlib.Core.Option.{Option, none, some}
 use mathlib.Core.List.{List, [], _∷_, map}
 use lib.ListN.{length, take, drop}
+use Rattle.decimal.specs.Number.{Number}
 use Rattle.cover.specs.Added.{Sheet}
 use Rattle.sheet.specs.Cut.{sheetText}
 use Rattle.part.specs.Adds.{Answer, accepted, refused, Result, opened}
@@ -13,7 +14,7 @@ use Rattle.part.specs.Calls.{Call, add, final, Chain, Link}
 use Rattle.part.specs.Demands.{Counted, CallServed}
 use Rattle.part.specs.Listing.{listOf}
 use Rattle.part.specs.declared.Part.{Part}
-use Rattle.mapping.specs.Program.{refusalLine}
+use Rattle.mapping.specs.Program.{openingNumbers, count, refusalLine}
 
 -- THE CALLS OF A TEXT, with their results: each adds the next sheet, up to the text's end or to the first that is refused
 pub data Texts : List ℕ → List Call → List Result → Type 0 where
@@ -47,3 +48,27 @@ pub record Run (k capacity : ℕ) (text out : List ℕ) : Type 0 where
   pub counted : Counted readOf ((opened k capacity) .part) calls results
   pub served : (ss : List Sheet) (o : Part) (c : Call) (r : Result) → Link readOf ((opened k capacity) .part) calls results ss o c r →
       CallServed readOf k (final ((opened k capacity) .part) results) o c r
+
+-- ---- what of it the rules settle
+
+abbrev pub usedCounts : List Result → List ℕ
+usedCounts = map (λ r. r .part .used)
+
+-- two lists that were printed for a text: the opening is accepted and so are the calls, which are the same; as many tables are in use after
+-- each; and line 0 is the same
+pub record Lists (k capacity : ℕ) (text a b : List ℕ) : Type 0 where
+  pub good : (opened k capacity) .answer ≡ accepted
+  pub one : Run k capacity text a
+  pub two : Run k capacity text b
+  pub calls : one .calls ≡ two .calls
+  pub all-accepted : (firstRefusal 0 (answers (one .results)) ≡ none) × (firstRefusal 0 (answers (two .results)) ≡ none)
+  pub used : usedCounts (one .results) ≡ usedCounts (two .results)
+  pub list-one : a ≡ listOf (final ((opened k capacity) .part) (one .results))
+  pub list-two : b ≡ listOf (final ((opened k capacity) .part) (two .results))
+  pub top : take 19 a ≡ take 19 b
+
+-- WHAT THE RULES SETTLE of two outputs for one input: a refusal's line wholly; of a list K, the capacity, the used count and the number of
+-- tables for each sheet
+pub data Settled (input a b : List ℕ) : Type 0 where
+  refusal : (number sheet place : ℕ) → a ≡ refusalLine number sheet place → b ≡ refusalLine number sheet place → Settled input a b
+  lists : (x y : Number) → openingNumbers input ≡ some (x, y) → Lists (count x) (count y) (drop 13 input) a b → Settled input a b
