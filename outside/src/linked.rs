@@ -4,7 +4,7 @@ use std::ffi::c_ulong;
 
 extern "C" {
     /// Writes what the mapping program prints for the `input_len` bytes at `input` to `output`, which has room for `output_len`
-    /// bytes, and gives how many bytes it wrote.
+    /// bytes, and gives how many bytes it wrote: none where the room is too small, which `LONGEST` bytes never are.
     fn pailinstant_map(input: *const u8, input_len: usize, output: *mut u8, output_len: usize) -> c_ulong;
 
     /// Writes what the refusal `number` means to `output`, which has room for `output_len` bytes, and gives how many bytes it wrote: none

@@ -1,5 +1,6 @@
 // The mapping program: standard input is a line with K and the capacity, then sheets; it prints the part's list, or one line for the first
-// refusal. What it prints is what `mapping::print` gives for the bytes read, which are the whole input, or as much of it as decides what is printed.
+// refusal. What it prints is what `mapping::print` gives for the bytes read, which are the whole input, or as much of it as decides what is
+// printed.
 ghost use mathlib.Core.Path.{_≡_};
 ghost use lib.ListN.{length};
 ghost use Rattle.io.specs.Counts.{Counts};

@@ -14,10 +14,10 @@ use Rattle.sheet.specs.Cut.{sheetText}
 use Rattle.part.specs.Parts.{Shaped}
 use Rattle.part.specs.Sound.{Sound}
 use Rattle.part.specs.Adds.{Answer, accepted, refused, Result, opened, Add}
-use Rattle.part.specs.AddLaws.{Kept, kept, outcome, opened-shaped, opened-sound}
+use Rattle.part.specs.AddLaws.{kept, outcome, opened-shaped, opened-sound}
 use Rattle.part.specs.Adding.{readOf}
 use Rattle.part.specs.Calls.{Call, add, final, Chain, done, call}
-use Rattle.part.specs.CountLaws.{not-refused}
+use Rattle.part.specs.CountLaws.{call-kept, not-refused}
 use Rattle.part.specs.Listing.{listOf}
 use Rattle.part.specs.Promises.{reading}
 use Rattle.part.specs.Settled.{Alike}
@@ -38,8 +38,8 @@ add-alike p q f g l text r t h i =
     let e : r .answer ∷ [] ≡ t .answer ∷ [] = x .0 in
     (cc, x .1)
 
-add-kept : (p : Part) → Shaped p → (text : List ℕ) (r : Result) → Add readOf p text (r .part) (r .answer) → Kept p (r .part)
-add-kept p f text r h = kept readOf p f (outcome readOf p text (r .part) (r .answer) h)
+add-shaped : (p : Part) → Shaped p → (text : List ℕ) (r : Result) → Add readOf p text (r .part) (r .answer) → Shaped (r .part)
+add-shaped p f text r h = kept readOf p f (outcome readOf p text (r .part) (r .answer) h) .shaped
 
 -- the calls, the answers and the used counts are the same
 record Agree (p q : Part) (cs ds : List Call) (rs ts : List Result) : Type 0 where
@@ -64,7 +64,7 @@ texts-agree {p} {q} (next {text = text} {r = r} h e t) (stop {r = s} i j k o) (c
     absurd (not-refused o (sym (add-alike p q f g l (sheetText text .0) r s a b .0) ∙ e))
 texts-agree {p} {q} (next {text = text} {r = r} h e t) (next {r = s} k o u) (call a c) (call b d) f g l =
     let x = add-alike p q f g l (sheetText text .0) r s a b in
-    let y = texts-agree t u c d (add-kept p f (sheetText text .0) r a .shaped) (add-kept q g (sheetText text .0) s b .shaped) (x .1) in
+    let y = texts-agree t u c d (add-shaped p f (sheetText text .0) r a) (add-shaped q g (sheetText text .0) s b) (x .1) in
     record { calls = ap (_∷_ (add (sheetText text .0))) (y .calls); same = ap₂ _∷_ (x .0) (y .same); used = ap₂ _∷_ (x .1 .used) (y .used); last = y .last }
 
 -- ---- what the two runs print
@@ -125,7 +125,7 @@ prints-settled input a b = of (openingNumbers input) refl
 
 chain-last : {p : Part} {cs : List Call} {rs : List Result} → Chain readOf p cs rs → Shaped p → Sound p → Sound (final p rs)
 chain-last done f h = h
-chain-last {p} (call {c = add text} {r = r} a c) f h = let k = add-kept p f text r a in chain-last c (k .shaped) (k .sound h)
+chain-last {p} (call {c = c} {r = r} a t) f h = let k = call-kept readOf reading p f c (r .part) (r .answer) a in chain-last t (k .shaped) (k .sound h)
 
 not-minus : (m n : ℕ) → _≡_ {A = Option Number} (some (record { negative = true; magnitude = m })) (some (record { negative = false; magnitude = n })) → ⊥
 not-minus m n e =
@@ -140,7 +140,7 @@ list-no-refusal p s number sheet place h l e =
     not-minus number (p .k)
     (sym (signed-read m (record { size = omega arith; sign = λ n. (h, omega arith) })) ∙ ap fieldNumber f ∙ field-read (p .k) (omega (arith, s .k-range .1)))
 
--- WHERE ONE OUTPUT IS A REFUSAL, EVERY OUTPUT IS IT
+-- WHERE ONE OUTPUT IS A REFUSAL, EVERY OUTPUT IS IT. Its number, as all of 01's, leaves room for the sign.
 pub refusal-settled : (input b : List ℕ) (number sheet place : ℕ) → 0 < number → number < 10 ^ 5 → Prints input (refusalLine number sheet place) → Prints input b →
     b ≡ refusalLine number sheet place
 refusal-settled input b number sheet place h l p q = of (prints-settled input (refusalLine number sheet place) b p q)
