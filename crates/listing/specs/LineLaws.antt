@@ -6,9 +6,9 @@ use mathlib.Core.Path.{_≡_, refl, sym, ap, ap₂, _∙_}
 use mathlib.Core.Bool.{true, false, cond}
 use mathlib.Core.List.{List, [], _∷_, _++_, append-assoc, append-nil, map}
 use lib.Dec.{leb}
-use lib.ListN.{length, getD, take, drop, set, length-append, length-drop, take-append-drop}
-use lib.Seq.{length-take-le, take-suc, take-at, drop-drop, drop-append-add, set-split}
-use Rattle.lists.specs.ListLaws.{gather-append, gather-map}
+use lib.ListN.{length, getD, take, drop, set, length-append, length-drop, length-take, take-append-drop, List·getD-eq-default}
+use lib.Seq.{length-take-le, take-suc, take-at, drop-drop, drop-append-add, set-split, getD-take}
+use Rattle.lists.specs.ListLaws.{every-at, gather-append, gather-map}
 use Rattle.lists.specs.Lists.{gather, upto}
 use Rattle.lists.specs.Cases.{by-leb}
 use Rattle.decimal.specs.Columns.{fieldOf, fieldsOf}
@@ -18,10 +18,12 @@ use Rattle.table.specs.Records.{reads, blank}
 use Rattle.table.specs.RuleLaws.{map-append}
 use Rattle.part.specs.declared.Part.{Part}
 use Rattle.table.specs.ResultLaws.{says-true}
+use Rattle.part.specs.Parts.{inUse}
+use Rattle.part.specs.Sound.{Sound}
 use Rattle.part.specs.SoundTest.{sound}
 use Rattle.part.specs.SoundLaws.{sound-reflects}
 use Rattle.part.specs.Listing.{tableLine, lineOf, listOf}
-use Rattle.listing.specs.Lines.{wrote, pasted, turnedDown, fitted, lineWritten, listWritten, tableWidth, topLine, tableLines}
+use Rattle.listing.specs.Lines.{wrote, pasted, turnedDown, fitted, lineWritten, listWritten, tableWidth, topLine, tableLines, longest}
 
 -- ---- pasting
 
@@ -99,6 +101,28 @@ lines-more p t (suc u) h =
 -- line 0 and then the tables' lines
 pub list-is : (p : Part) → listOf p ≡ topLine (p .k) (p .capacity) (p .used) ++ tableLines p (p .used)
 list-is p = ap (λ l. topLine (p .k) (p .capacity) (p .used) ++ l) (gather-map (lineOf p) suc (upto (p .used)))
+
+-- ---- the list of a sound part
+
+module _ (p : Part) (s : Sound p) where
+  -- the record of a table in use has at most six inputs
+  used-width : (t : ℕ) → t < p .used → tableWidth (getD (p .tables) t blank) ≤ 76
+  used-width t h =
+      rw (← getD-take (p .used) (p .tables) t blank h)
+      (by-leb (λ b. tableWidth (getD (inUse p) t blank) ≤ 76) (length (inUse p)) t
+      (λ l. rw (List·getD-eq-default (inUse p) blank {n = t} l) (omega arith))
+      (λ l. let r = getD (inUse p) t blank in omega (arith, every-at (inUse p) t blank (s .rules .sized) l .1, s .k-range .1, length-take (r .count) (r .inputs))))
+
+  lines-short : (n : ℕ) → n ≤ p .used → length (tableLines p n) ≤ 76 * n
+  lines-short zero h = omega arith
+  lines-short (suc n) h =
+      omega (arith, lines-short n (omega arith), used-width n h, lines-next-length p n, ap (λ m. length (tableLines p m)) (add-one n))
+
+  -- THE LONGEST LIST
+  pub list-short : length (listOf p) ≤ longest
+  unfolding longest
+  list-short =
+      omega (arith, ap length (list-is p), length-append (topLine (p .k) (p .capacity) (p .used)) (tableLines p (p .used)), lines-short (p .used) (omega arith), s .used-fits, s .capacity-range .1)
 
 -- ---- the outcomes, by the tests that lead to them
 

@@ -8,6 +8,7 @@ use lib.ListN.{length, getD}
 use Rattle.lists.specs.Lists.{gather, upto}
 use Rattle.decimal.specs.Columns.{fieldsOf}
 use Rattle.decimal.specs.Writing.{placed}
+use Rattle.table.specs.Limits.{inputRoom, tableRoom}
 use Rattle.table.specs.Records.{reads, blank}
 use Rattle.table.specs.declared.Table.{Table}
 use Rattle.part.specs.declared.Part.{Part}
@@ -62,3 +63,8 @@ tableLines p n = gather (λ t. tableLine (suc t) (getD (p .tables) t blank)) (up
 -- the bytes of a table's line: three fields, a field an input, the truth table's columns and the line feed
 abbrev pub tableWidth : Table → ℕ
 tableWidth r = 40 + 6 * length (reads r)
+
+-- the bytes of the longest list of a sound part: line 0, and the lines of as many tables as a part has room for, each with as many inputs as
+-- a record has room for (`list-short` in LineLaws)
+unfoldable pub longest : ℕ
+longest = 19 + (40 + 6 * inputRoom) * tableRoom

@@ -1,5 +1,6 @@
 // The mapping program: standard input is a line with K and the capacity, then sheets; it prints the part's list, or one line for the first
-// refusal. What it prints is `mapping::run` of the bytes read, which are the whole input, or as much of it as decides what is printed.
+// refusal. What it prints is what `mapping::print` gives for the bytes read, which are the whole input, or as much of it as decides what is
+// printed.
 ghost use mathlib.Core.Path.{_≡_};
 ghost use lib.ListN.{length};
 ghost use Rattle.io.specs.Counts.{Counts};
@@ -7,7 +8,7 @@ ghost use Rattle.mapping.specs.Program.{room};
 use libc::STDERR_FILENO;
 use libc::STDIN_FILENO;
 use libc::STDOUT_FILENO;
-use mapping::Printed;
+use mapping::LONGEST;
 
 // So many bytes of an input decide what is printed for it: `front-decides` in mapping/specs/FrontLaws. No more are read.
 const ROOM: usize = 131072;
@@ -63,15 +64,10 @@ fn read_all(fd: i32, buf: &mut [u8]) -> Got
 }
 
 fn print(input: &[u8]) {
-    let mut output = io::large_buffer();
-    let printed = mapping::run(input, &mut output);
-    match printed {
-        Printed::Wrote(n) => {
-            if !io::write_all(STDOUT_FILENO, &output[..n]) {
-                say(b"map: standard output cannot be written\n");
-            }
-        }
-        Printed::NoRoom => say(b"map: the list is too long\n"),
+    let mut output = [0u8; LONGEST];
+    let n = mapping::print(input, &mut output);
+    if !io::write_all(STDOUT_FILENO, &output[..n]) {
+        say(b"map: standard output cannot be written\n");
     }
 }
 

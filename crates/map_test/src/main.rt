@@ -1,7 +1,7 @@
 // Runs the mapping program on each file that its arguments name, and prints the name and what the program prints. Of a file whose name
 // begins with "+" only the first line, K, capacity and used count: its list is long, or its covers are free.
 use libc::STDOUT_FILENO;
-use mapping::Printed;
+use mapping::LONGEST;
 
 // The bytes of a list's first line.
 const FIRST: usize = 19;
@@ -30,20 +30,15 @@ fn print_case(i: usize) {
 }
 
 fn print_mapped(text: &[u8], short: bool) {
-    let mut output = io::large_buffer();
-    let printed = mapping::run(text, &mut output);
-    match printed {
-        Printed::Wrote(n) => {
-            if short {
-                if n > FIRST {
-                    print(&output[..FIRST]);
-                    return;
-                }
-            }
-            print(&output[..n]);
+    let mut output = [0u8; LONGEST];
+    let n = mapping::print(text, &mut output);
+    if short {
+        if n > FIRST {
+            print(&output[..FIRST]);
+            return;
         }
-        Printed::NoRoom => print(b"no room\n"),
     }
+    print(&output[..n]);
 }
 
 fn print(s: &[u8]) {

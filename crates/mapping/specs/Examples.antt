@@ -1,14 +1,18 @@
--- Worked examples of the definitions, by computation: the opening line, how an input is cut, and the line of a refusal.
+-- Worked examples of the definitions, by computation: the opening line, how an input is cut into sheets and calls, and the line of a refusal.
 use Prim.Native.Nat.{ℕ}
+use native.Mathlib.Omega.{arith}
 use mathlib.Core.Path.{_≡_, refl}
 use mathlib.Core.Bool.{false}
-use mathlib.Core.Option.{some}
+use mathlib.Core.Option.{none, some}
 use mathlib.Core.List.{List, [], _∷_, _++_, map}
 use Rattle.sheet.specs.Step.{_>>=_, require, given}
 use Rattle.sheet.specs.Checks.{bytes}
 use Rattle.sheet.specs.Cut.{sheetText}
 use Rattle.part.specs.Adds.{accepted, refused}
+use Rattle.demands.specs.Calls.{add}
+use Rattle.part.specs.declared.Part.{Part}
 use Rattle.mapping.specs.Program.{openingNumbers, openedBy, refusalLine}
+use Rattle.mapping.specs.Runs.{firstRefusal, Texts, end, stop, next}
 
 -- 01's example
 abbrev first-text : List ℕ
@@ -38,3 +42,18 @@ refusals-printed :
     map (λ (r : ℕ × ℕ × ℕ). refusalLine (r .0) (r .1) (r .2)) ((1, 0, 0) ∷ (23, 801, 0) ∷ (6, 2, 256) ∷ [])
     ≡ bytes "    -1     0     0\n" ∷ bytes "   -23   801     0\n" ∷ bytes "    -6     2   256\n" ∷ []
 refusals-printed = refl
+
+refusals-first :
+    map (firstRefusal 0) ([] ∷ (accepted ∷ accepted ∷ []) ∷ (accepted ∷ refused 23 0 ∷ refused 6 2 ∷ []) ∷ (refused 6 2 ∷ accepted ∷ []) ∷ [])
+    ≡ none ∷ none ∷ some (23, 2, 0) ∷ some (6, 1, 2) ∷ []
+refusals-first = refl
+
+-- the calls of a text of two sheets: both, or the first alone where that is refused
+two-calls : (p q : Part) → Texts (first-text ++ second-text) (add first-text ∷ add second-text ∷ [])
+    (record { part = p; answer = accepted } ∷ record { part = q; answer = accepted } ∷ [])
+unfolding _>>=_ require given
+two-calls p q = next {text = first-text ++ second-text} (omega arith) refl (next {text = second-text} (omega arith) refl end)
+
+one-call : (p : Part) → Texts (first-text ++ second-text) (add first-text ∷ []) (record { part = p; answer = refused 23 0 } ∷ [])
+unfolding _>>=_ require given
+one-call p = stop {text = first-text ++ second-text} 23 0 (omega arith) refl

@@ -4,12 +4,11 @@ use Prim.Native.Nat.{ℕ, suc, _+_, _-_, _*_, _≤_}
 use native.Mathlib.Omega.{arith}
 use native.Mathlib.Nat.{mul-le-mul-right}
 use mathlib.Core.Path.{_≡_, refl, sym, ap, subst}
-use mathlib.Core.Option.{Option, none, some}
 use mathlib.Core.List.{List, [], _∷_, _++_}
 use lib.ListN.{length, take, drop, length-append, length-drop, take-append-drop, List·getD-append}
 use lib.Seq.{take-all, take-append-le, drop-append-le, length-take-le}
 use Rattle.lists.specs.Cases.{by-leb}
-use Rattle.decimal.specs.Number.{Number, columns}
+use Rattle.decimal.specs.Number.{columns}
 use Rattle.tree.specs.Tree.{leaves}
 use Rattle.cover.specs.Added.{Sheet}
 use Rattle.cover.specs.Nets.{least-bounds}
@@ -25,13 +24,13 @@ use Rattle.part.specs.Parts.{Shaped}
 use Rattle.part.specs.Sound.{Sound}
 use Rattle.part.specs.Sheets.{sheet}
 use Rattle.part.specs.Adds.{Answer, accepted, refused, Result, Add}
-use Rattle.demands.specs.AddLaws.{kept, outcome, opened-sound, opened-shaped, not-refused}
+use Rattle.demands.specs.AddLaws.{kept, outcome}
 use Rattle.part.specs.Sheets.{readingOf, readOf}
 use Rattle.demands.specs.Calls.{add, call, done, here}
 use Rattle.demands.specs.Theorems.{demand-3}
 use Rattle.part.specs.declared.Part.{Part}
-use Rattle.mapping.specs.Program.{openingNumbers, count, openedBy, Mapped, ended, stopped, added, After, Prints, room}
-use Rattle.mapping.specs.ProgramLaws.{grown}
+use Rattle.mapping.specs.Program.{openingNumbers, openedBy, Mapped, ended, stopped, added, After, Prints, room}
+use Rattle.mapping.specs.ProgramLaws.{grown, opened-good}
 
 -- the most bytes of an accepted sheet for each of its tables
 abbrev tableBytes : ℕ
@@ -106,11 +105,6 @@ module _ (more : List ℕ) where
   after-front p (refused number place) h text out l m = m
 
 -- ---- the whole input
-
--- an accepted opening
-opened-good : (o : Option (Number × Number)) → (openedBy o) .answer ≡ accepted → Shaped ((openedBy o) .part) × Sound ((openedBy o) .part)
-opened-good none e = absurd (not-refused {a = refused 1 0} refl e)
-opened-good (some p) e = (opened-shaped (count (p .0)) (count (p .1)), opened-sound (count (p .0)) (count (p .1)) e)
 
 -- the opening line, all tables of a part, and the sheet after them
 room-enough : 13 + enough ≤ room

@@ -3,5 +3,8 @@ pub mod ProgramLaws
 pub mod OpeningLaws
 pub mod OpeningLine
 pub mod FrontLaws
+pub mod RoomLaws
+pub mod Runs
 pub mod ChainLaws
+pub mod SettledLaws
 pub mod Examples

@@ -1,6 +1,6 @@
 -- What the mapping program prints for an input: 01, "List". Which least covers are taken is free, so it is a relation.
--- Definitions only: the laws are in ProgramLaws.
-use Prim.Native.Nat.{ℕ, suc, _<_}
+-- Definitions only: the laws are in ProgramLaws. Runs has the same as a list of adds.
+use Prim.Native.Nat.{ℕ, suc, _≤_, _<_}
 use mathlib.Core.Path.{_≡_}
 use mathlib.Core.Bool.{true, cond}
 use mathlib.Core.Option.{Option, none, some}
@@ -12,7 +12,6 @@ use Rattle.decimal.specs.Columns.{fieldsOf, signedFieldOf}
 use Rattle.sheet.specs.Cut.{sheetText}
 use Rattle.part.specs.Sound.{Sound}
 use Rattle.part.specs.Adds.{Answer, accepted, refused, Result, empty, opened, Add}
-use Rattle.demands.specs.Calls.{Call, add}
 use Rattle.part.specs.Listing.{listOf}
 use Rattle.part.specs.declared.Part.{Part}
 use Rattle.listing.specs.Lines as lines
@@ -69,18 +68,6 @@ Prints input out = After (openedBy (openingNumbers input)) (drop 13 input) out
 unfoldable pub room : ℕ
 room = 131072
 
--- ---- the same as a list of adds, of which demands 2 and 3 speak: ChainLaws
-
--- the calls add the sheets of a text, from the first on
-pub data Texts : List ℕ → List Call → Type 0 where
-  end : {text : List ℕ} → Texts text []
-  next : {text : List ℕ} {cs : List Call} → Texts (sheetText text .1) cs → Texts text (add (sheetText text .0) ∷ cs)
-
--- what is printed after these results: the first refusal, else the list of the last part
-abbrev pub printedBy : Part → ℕ → List Result → List ℕ
-printedBy p n [] = listOf p
-printedBy p n (r ∷ rs) = elim (r .answer) [ accepted ↦ printedBy (r .part) (suc n) rs | refused number place ↦ refusalLine number (suc n) place ]
-
 -- ---- what the code's values stand for
 
 abbrev pub printedResult : Printed → lines.Result
@@ -96,6 +83,12 @@ pub record Answered (input : List ℕ) (r : Printed) (new old : List ℕ) : Type
   pub line : List ℕ
   pub prints : Prints input line
   pub written : WrittenAs line r new old
+
+-- THE SAME with room for all that can be printed: it stands in the first n bytes of the buffer, and the others are as they were
+pub record AtFront (input : List ℕ) (n : ℕ) (new old : List ℕ) : Type 0 where
+  pub prints : Prints input (take n new)
+  pub within : n ≤ length new
+  pub rest : drop n new ≡ drop n old
 
 abbrev pub told : Told → Answer
 told t = cond (eqb (t .number) 0) accepted (refused (t .number) (t .line))

@@ -27,7 +27,8 @@ use Rattle.sheet.specs.declared.Next.{Next}
 use Rattle.part.specs.Parts.{Shaped}
 use Rattle.part.specs.Sound.{Sound}
 use Rattle.part.specs.Adds.{Answer, accepted, refused, Result, Offer, Add}
-use Rattle.demands.specs.AddLaws.{Outcome, unsound, misread, driven, read, full, taken, outcome, kept, opened-sound, not-refused}
+use Rattle.demands.specs.AddLaws.{Outcome, unsound, misread, driven, read, full, taken, outcome, kept, opened-shaped, opened-sound}
+use Rattle.demands.specs.AddLaws.{not-refused}
 use Rattle.part.specs.Adding.{sheetOf}
 use Rattle.part.specs.AddingLaws.{add-misread, add-offered}
 use Rattle.part.specs.Listing.{listOf}
@@ -222,6 +223,11 @@ module _ {input : List ℕ} {opened part : Part} {start at sheet : ℕ} (h : SoF
 
 -- ---- after the opening
 
+-- an accepted opening
+pub opened-good : (o : Option (Number × Number)) → (openedBy o) .answer ≡ accepted → Shaped ((openedBy o) .part) × Sound ((openedBy o) .part)
+opened-good none e = absurd (not-refused {a = refused 1 0} refl e)
+opened-good (some p) e = (opened-shaped (count (p .0)) (count (p .1)), opened-sound (count (p .0)) (count (p .1)) e)
+
 module _ (input : List ℕ) (s : Start) (e : startResult s ≡ openedBy (openingNumbers input)) where
   with-answer : {a : Answer} → told (s .told) ≡ a → record { part = s .part; answer = a } ≡ openedBy (openingNumbers input)
   with-answer i = ap (λ (a : Answer). record { part = s .part; answer = a }) (sym i) ∙ e
@@ -234,12 +240,9 @@ module _ (input : List ℕ) (s : Start) (e : startResult s ≡ openedBy (opening
   opening-accepted z out m = subst (λ (r : Result). After r (drop 13 input) out) (with-answer (told-accepted (s .told) z)) m
 
   pub opening-sound : s .told .number ≡ 0 → Sound (s .part)
-  opening-sound z = of (openingNumbers input) (with-answer (told-accepted (s .told) z))
-    where
-      of : (o : Option (Number × Number)) → record { part = s .part; answer = accepted } ≡ openedBy o → Sound (s .part)
-      of none i = absurd (not-refused {a = refused 1 0} refl (ap (λ (r : Result). r .answer) (sym i)))
-      of (some p) i =
-          subst Sound (ap (λ (r : Result). r .part) (sym i)) (opened-sound (count (p .0)) (count (p .1)) (ap (λ (r : Result). r .answer) (sym i)))
+  opening-sound z =
+      let i = with-answer (told-accepted (s .told) z) in
+      subst Sound (ap (λ (r : Result). r .part) (sym i)) (opened-good (openingNumbers input) (ap (λ (r : Result). r .answer) (sym i)) .1)
 
 -- ---- what is printed at the end, by the answer
 

@@ -8,7 +8,7 @@ ghost use Rattle.part.specs.Openings.{openingAnswer};
 ghost use Rattle.part.specs.Sound.{Sound};
 ghost use Rattle.part.specs.Listing.{listOf};
 ghost use mathlib.Core.Option.{none};
-ghost use Rattle.mapping.specs.Program.{count as countOf, openingNumbers, openedBy, refusalLine, told as toldAnswer, startResult, WrittenAs, Answered, Ended};
+ghost use Rattle.mapping.specs.Program.{count as countOf, openingNumbers, openedBy, refusalLine, told as toldAnswer, startResult, WrittenAs, Answered, AtFront, Ended};
 use decimal::Field;
 use part::Added;
 use part::Adding;
@@ -23,6 +23,9 @@ const FIELD: usize = 6;
 
 // The bytes of a refusal's line: three fields and the line feed.
 const REFUSAL: usize = 19;
+
+// The bytes of the longest list: no input has more printed (`longest` in listing/specs/Lines, `prints-short` in specs/RoomLaws).
+pub const LONGEST: usize = 60819;
 
 // How many bytes are printed, or that the buffer is too short for them.
 pub enum Printed {
@@ -232,4 +235,14 @@ pub fn run(input: &[u8], output: &mut [u8]) -> Printed
     }
     let part = end.part;
     print_list(output, part)
+}
+
+// Maps the input and prints into the buffer, which has room for all that can be printed, and gives how many bytes it printed.
+pub fn print(input: &[u8], output: &mut [u8; LONGEST]) -> usize
+    ensures { λ n. ⌜ AtFront (now (input .entry)) n (now (output .exit)) (now (output .entry)) ⌝ }
+{
+    match run(input, output) {
+        Printed::Wrote(n) => n,
+        Printed::NoRoom => 0,
+    }
 }

@@ -1,16 +1,22 @@
 -- What the library's function promises. Definitions only.
-use Prim.Native.Nat.{ℕ}
+use Prim.Native.Nat.{ℕ, _≤_}
 use mathlib.Core.Path.{_≡_}
 use mathlib.Core.List.{List}
+use lib.ListN.{length}
+use Rattle.listing.specs.Lines.{longest}
 use Rattle.mapping.specs.declared.Printed.{Printed as Outcome}
 use Rattle.mapping.specs.declared.Printed.the-variants.{Wrote, NoRoom}
-use Rattle.mapping.specs.Program.{Answered}
+use Rattle.mapping.specs.Program.{Answered, AtFront}
 
 -- how many bytes were printed: none where the buffer is too short
 abbrev pub bytes : Outcome → ℕ
 bytes (Wrote n) = n
 bytes NoRoom = 0
 
--- what the mapping program prints for the input stands in the buffer
-abbrev pub PrintedInto : List ℕ → ℕ → List ℕ → List ℕ → Type 0
-PrintedInto input n new old = (r : Outcome) × Answered input r new old × (n ≡ bytes r)
+-- what the mapping program prints for the input stands in the buffer, or the buffer is too short and as it was; with room for the longest
+-- list it is never too short, and n is the length of what is printed
+pub record PrintedInto (input : List ℕ) (n : ℕ) (new old : List ℕ) : Type 0 where
+  pub outcome : Outcome
+  pub answered : Answered input outcome new old
+  pub count : n ≡ bytes outcome
+  pub whole : longest ≤ length old → AtFront input n new old
