@@ -178,4 +178,5 @@ def main():
         show(1, min(all_keys), 2 * len(keys) - 1)
 
 
-main()
+if __name__ == "__main__":
+    main()

@@ -1,13 +1,32 @@
 """The expected output of the program part_test: the user's scope paper (01), sections "Part", "List" and the tables of refusals,
 written down once more from the paper alone, with nothing shared with crates/. CASES.md has the answers worked out by hand.
 
+An add reads its sheet by tests/sheet/model.py, and has its least number of tables from tests/cover/exhaustive.py.
+
 Run: python3 tests/part/model.py < crates/part_test/stdin > crates/part_test/stdout
      python3 tests/part/model.py --answers < crates/part_test/stdin    (line and answer of each step that CASES.md has)
+     python3 tests/part/model.py --lists < crates/part_test/stdin      (the list after each accepted add)
 """
 
+import importlib.util
+import pathlib
 import sys
 
 COLUMNS, FIELDS, RECORDS, BUFFER = 6, 11, 800, 4096
+AND = 1
+TESTS = pathlib.Path(__file__).parents[1]
+CRATE = TESTS.parent / "crates/part_test"
+
+
+def load(path):
+    """The program in a file of tests/, as a module."""
+    spec = importlib.util.spec_from_file_location(path.replace("/", "_").removesuffix(".py"), TESTS / path)
+    module = importlib.util.module_from_spec(spec)
+    spec.loader.exec_module(module)
+    return module
+
+
+SHEET, COVER = load("sheet/model.py"), load("cover/exhaustive.py")
 
 
 class Record:
@@ -113,13 +132,94 @@ def write_line(part, t, buffer, place):
 
 
 def write_list(part, buffer, place):
-    return written(part, lambda: b"".join(line(part, t) for t in range(part.used + 1)), True, buffer, place)
+    return written(part, lambda: whole_list(part), True, buffer, place)
+
+
+def least(k, gates):
+    """The least number of tables of a tree, from all the keys of each of its gates."""
+    keys = []
+    for _, _, *fanins in gates:
+        below = [COVER.tree(k, 1) if is_net(code) else keys[code - SHEET.FIRST_GATE] for code in map(abs, fanins)]
+        keys.append(COVER.reached(k, below))
+    return min(COVER.decode(keys[-1]))[0] + 1
+
+
+def chosen_gates(k, gates):
+    """The gates of a least cover, where 01 leaves no freedom: the root alone, or at K 2 each gate of a chain of two-fanin gates."""
+    count = least(k, gates)
+    if count == 1:
+        return [len(gates)]
+    assert k == 2 and count == len(gates), "a sheet whose tables 01 leaves open"
+    for _, fanin_count, *fanins in gates:
+        assert fanin_count == 2 and any(map(is_net, map(abs, fanins))), "a sheet whose tables 01 leaves open"
+    return list(range(1, len(gates) + 1))
+
+
+def tables(k, used, lines):
+    """The records of a sheet that was read, for a part with some tables already. The list of a record's inputs is padded with zeros."""
+    (out, _), *gates = lines
+    number = {gate: used + t for t, gate in enumerate(chosen_gates(k, gates), 1)}
+
+    def input_of(code):
+        """What a table reads for a fanin: a net, or a table that is another's; None for a gate that it holds."""
+        code = abs(code)
+        if is_net(code):
+            return code
+        return 1000 + number[code - 1000] if code - 1000 in number else None
+
+    def inputs(gate):
+        _, _, *fanins = gates[gate - 1]
+        return [code for fanin in fanins for code in ([input_of(fanin)] if input_of(fanin) else inputs(abs(fanin) - 1000))]
+
+    def value(gate, given):
+        kind, _, *fanins = gates[gate - 1]
+        values = [(given[input_of(f)] if input_of(f) else value(abs(f) - 1000, given)) != (f < 0) for f in fanins]
+        return all(values) if kind == AND else any(values)
+
+    records = []
+    for gate in number:
+        codes = sorted(inputs(gate))
+        root = gate == len(gates)
+        truth = 0
+        for i in range(2 ** len(codes)):
+            given = {code: bool(i >> j & 1) for j, code in enumerate(codes)}
+            truth += (value(gate, given) != (root and out < 0)) << i
+        records.append(Record(abs(out) if root else 0, len(codes), (codes + [0] * 6)[:6], truth))
+    return records
+
+
+def add(part, text):
+    """01, "Turned down because of the part": 20, then the sheet's, then 21 to 23. The answer and the place."""
+    if not sound(part):
+        return -20, 0
+    try:
+        lines, _ = SHEET.read(text, 0, True)
+    except SHEET.Refused as refused:
+        number, place = refused.args
+        return -number, place
+    (out, _), *gates = lines
+    in_use = part.records[: part.used]
+    if any(table.net == abs(out) for table in in_use):
+        return -21, 0
+    if any(abs(out) in table.inputs[: table.u] for table in in_use):
+        return -22, 0
+    if least(part.k, gates) > part.capacity - part.used:
+        return -23, 0
+    for record in tables(part.k, part.used, lines):
+        part.records[part.used] = record
+        part.used += 1
+    return 0, 0
+
+
+def whole_list(part):
+    return b"".join(line(part, t) for t in range(part.used + 1))
 
 
 def run(script):
-    """The steps that the head of crates/part_test/src/main.rt lists. Gives the output, and the answers with the script's lines,
-    but for accepted openings."""
-    part, output, answers = Part(), b"", []
+    """The steps that the head of crates/part_test/src/main.rt lists. Gives the output, the answers with the script's lines, but for
+    accepted openings, and the list after each accepted add."""
+    part, output, answers, lists = Part(), b"", [], b""
+    sheets = (CRATE / "args").read_text().split("\n")
     for at, row in enumerate(script.splitlines(), 1):
         assert len(row) == COLUMNS * FIELDS, f"line {at} is not eleven fields"
         step, *given = (int(row[i : i + COLUMNS]) for i in range(0, len(row), COLUMNS))
@@ -146,19 +246,25 @@ def run(script):
             answer, buffer = write_line(part, given[0], b"." * min(given[1], BUFFER), given[2])
         elif step == 9:
             answer, buffer = write_list(part, b"." * min(given[0], BUFFER), given[1])
+        elif step == 10:
+            number, place = add(part, (CRATE / "data" / sheets[given[0] - 1]).read_bytes())
+            after = whole_list(part) if sound(part) else b""
+            output += b"%6d%6d\n" % (number, place) + after
+            answers.append((at, number, place))
+            lists += after if number == 0 else b""
         if answer is not None:
             output += b"%6d\n" % answer
             if (step, answer) != (0, 0):
                 answers.append((at, answer))
         if buffer is not None:
             output += buffer + b"\n"
-    return output, answers
+    return output, answers, lists
 
 
 if __name__ == "__main__":
-    output, answers = run(sys.stdin.buffer.read())
+    output, answers, lists = run(sys.stdin.buffer.read())
     if sys.argv[1:] == ["--answers"]:
-        for at, answer in answers:
-            print(at, answer)
+        for answer in answers:
+            print(*answer)
     else:
-        sys.stdout.buffer.write(output)
+        sys.stdout.buffer.write(lists if sys.argv[1:] == ["--lists"] else output)

@@ -94,5 +94,6 @@ def case(name):
     return output
 
 
-for name in (CRATE / "args").read_text().split("\n")[:-1]:
-    sys.stdout.buffer.write(name.encode() + b"\n" + case(name))
+if __name__ == "__main__":
+    for name in (CRATE / "args").read_text().split("\n")[:-1]:
+        sys.stdout.buffer.write(name.encode() + b"\n" + case(name))

@@ -8,10 +8,14 @@
 //    7                                       prints 1 where the part is sound, else 0
 //    8 line length place                     write a line into a buffer          prints the count or minus the number, and the buffer
 //    9 length place                          write the list into a buffer        the same
+//   10 n                                     add the sheet in a file             prints 0 or minus the number, and the place; then
+//                                            that argument n names               the list, where the part is sound
 ghost use Prim.Native.Nat.{_≤_};
+ghost use Rattle.io.specs.Counts.{Counts};
 use decimal::Field;
 use libc::STDOUT_FILENO;
 use listing::Answer;
+use part::Adding;
 use part::Opening;
 use part::Part;
 use table::Table;
@@ -45,11 +49,16 @@ fn low8(x: u32) -> u8 {
     (x % 256) as u8
 }
 
-// A number on a line of its own.
-fn say(v: i32) {
+// A number in six columns.
+fn put(v: i32) {
     let mut b = [b' '; 6];
     decimal::write_signed(&mut b, v);
     io::write_all(STDOUT_FILENO, &b);
+}
+
+// A number on a line of its own.
+fn say(v: i32) {
+    put(v);
     io::write_all(STDOUT_FILENO, b"\n");
 }
 
@@ -61,6 +70,30 @@ fn opening(a: Opening) -> i32 {
     }
 }
 
+fn minus(number: u8) -> i32 {
+    -(number as i32)
+}
+
+// 0, or minus the refusal's number.
+fn adding(a: Adding) -> i32 {
+    match a {
+        Adding::Accepted => 0,
+        Adding::Unsound => -20,
+        Adding::Misread(why, _) => minus(sheet::number(why)),
+        Adding::OutputDriven => -21,
+        Adding::OutputRead => -22,
+        Adding::Full => -23,
+    }
+}
+
+// The sheet's line of a refusal, 0 where there is none.
+fn place(a: Adding) -> u16 {
+    match a {
+        Adding::Misread(_, line) => line,
+        _ => 0,
+    }
+}
+
 // The count, which is below 100,000, or minus the refusal's number.
 fn written(a: Answer) -> i32 {
     match a {
@@ -68,6 +101,14 @@ fn written(a: Answer) -> i32 {
         Answer::NotSound => -20,
         Answer::NoLine => -15,
         Answer::NoRoom => -14,
+    }
+}
+
+// The count, 0 for a refusal.
+fn count(a: Answer) -> isize {
+    match a {
+        Answer::Wrote(n) => (n % 100000) as isize,
+        _ => 0,
     }
 }
 
@@ -181,6 +222,42 @@ fn open(s: &[u8]) -> Part {
     o.part
 }
 
+// Reads the file that an argument names into the buffer, and gives its length.
+fn read_sheet(argument: usize, buf: &mut [u8]) -> usize
+    ensures { λ r. ⌜ Counts r (now (buf .exit)) ⌝ }
+{
+    let mut name = io::buffer();
+    let n = os::arg(argument, &mut name);
+    let fd = os::open_read(&name[..n]);
+    if fd < 0 {
+        os::fail(&name[..n]);
+        return 0;
+    }
+    let got = io::read_full(fd, &mut *buf);
+    libc::close(fd);
+    got
+}
+
+// The list, where the part is sound.
+fn print_list(p: Part) {
+    let mut buf = io::large_buffer();
+    let a = listing::write_list(p, &mut buf, 0);
+    let n = io::count(count(a), &buf);
+    io::write_all(STDOUT_FILENO, &buf[..n]);
+}
+
+fn add(p: Part, s: &[u8]) -> Part {
+    let mut text = io::large_buffer();
+    let n = read_sheet(field(s, 1) as usize, &mut text);
+    let added = p.add(&text[..n]);
+    let answer = added.answer;
+    let part = added.part;
+    put(adding(answer));
+    say(place(answer) as i32);
+    print_list(part);
+    part
+}
+
 // One step of the script.
 fn step(p: Part, s: &[u8]) -> Part {
     match field(s, 0) {
@@ -191,6 +268,7 @@ fn step(p: Part, s: &[u8]) -> Part {
         4 => with_record(p, field(s, 1), record(s)),
         5 => with_full_truth(p, field(s, 1)),
         6 => filled(p, field(s, 1)),
+        10 => add(p, s),
         _ => shown(p, s),
     }
 }
