@@ -2,7 +2,7 @@
 -- Each new table goes on holding, since it reads only nets and earlier tables, and no other table drives the output net.
 use Prim.Native.Nat.{ℕ, _+_, _≤_, _<_}
 use native.Mathlib.Omega.{arith}
-use mathlib.Core.Path.{_≡_, refl, sym, ap, ap₂, _∙_}
+use mathlib.Core.Path.{_≡_, refl, sym, ap₂, _∙_}
 use mathlib.Core.Logic.{_⊎_, inl, inr, _≢_, ⊎-elim}
 use mathlib.Core.Bool.{Bool}
 use mathlib.Core.List.{List, _++_, Memᴰ·cast}
@@ -12,7 +12,7 @@ use Rattle.lists.specs.ListLaws.{every-cons, every-head, every-append, every-le
 use Rattle.tree.specs.declared.Kind.{Kind}
 use Rattle.tree.specs.Tree.{Node, leaf, gate, Edges, none, edge, leaves, leaves*, turned, meet, value, values}
 use Rattle.cover.specs.Tables.{Table, Placed, numbered, writes, run, settled}
-use Rattle.cover.specs.Eval.{Agree, driven-in, numbered-is, settled-append, run-keeps, Holds, uses, Clear, holds-on, run-holds}
+use Rattle.cover.specs.Eval.{Agree, driven-in, numbered-is, settled-append, Holds, uses, Clear, holds-on, run-holds}
 use Rattle.cover.specs.Placed.{number}
 use Rattle.cover.specs.Value.{root-value}
 use Rattle.cover.specs.Inputs.{Tidy}
@@ -85,14 +85,3 @@ module _ (base K : ℕ) (old new : List Table) (s : Sheet) (a : Added base K old
   -- THE VALUE OF ONE SHEET: after the tables are added, the output net has the value of the tree
   pub added-met : (σ : ℕ → Bool) → Met (settled base (old ++ new) σ) s
   added-met σ = holds-met (settled base (old ++ new) σ) (rw (settled-append base old new σ) (new-holds (settled base old σ)))
-
-  -- at the values of its leaves before they are added, too
-  pub leaves-kept : (σ : ℕ → Bool) → Agree (settled base (old ++ new) σ) (settled base old σ) (leaves (s .tree))
-  leaves-kept σ x i =
-      ap (λ e. e x) (settled-append base old new σ)
-      ∙ run-keeps base (numbered (length old) new) (settled base old σ) x
-      (λ p m j. let l = a .legal .leaf-nets x i in ⊎-elim (λ e. omega arith) (λ f. l .2 (f .0)) (new-writes p m x j))
-
-  pub added-value : (σ : ℕ → Bool) →
-      settled base (old ++ new) σ (s .out) ≡ turned (s .inverted) (value (s .tree) (settled base old σ))
-  added-value σ = added-met σ ∙ ap (turned (s .inverted)) (value-same (s .tree) (settled base (old ++ new) σ) (settled base old σ) (leaves-kept σ))

@@ -7,25 +7,17 @@ use mathlib.Core.Logic.{_⊎_, inl, inr, ⊎-elim}
 use mathlib.Core.List.{List}
 use lib.ListN.{length}
 use Rattle.lists.specs.Lists.{_∈_, Every, Rising}
-use Rattle.lists.specs.ListLaws.{permuted-to, permuted-from, permuted-length}
+use Rattle.lists.specs.ListLaws.{permuted-to, permuted-from}
 use Rattle.tree.specs.Tree.{leaves}
-use Rattle.cover.specs.Cover.{tables, Least}
 use Rattle.cover.specs.Tables.{Table, numbered}
-use Rattle.cover.specs.Eval.{numbered-length, numbered-is, numbered-one}
+use Rattle.cover.specs.Eval.{numbered-is, numbered-one}
 use Rattle.cover.specs.Placed.{number}
-use Rattle.cover.specs.Size.{Sized, records-length, fits-sized}
+use Rattle.cover.specs.Size.{Sized, fits-sized}
 use Rattle.cover.specs.Rising.{records-rising}
 use Rattle.cover.specs.Inputs.{Tidy, root-reads, root-in}
-use Rattle.cover.specs.Added.{Sheet, Added, AddedLeast}
+use Rattle.cover.specs.Added.{Sheet, Added}
 
 module _ (base K : ℕ) (old new : List Table) (s : Sheet) (a : Added base K old new s) where
-  -- as many as the cover has chosen gates
-  pub added-count : length new ≡ tables (a .cover)
-  added-count = sym (numbered-length (length old) new) ∙ permuted-length (a .taken) ∙ records-length base (a .cover) (s .out) (s .inverted)
-
-  pub added-fewest : Least K (s .tree) (tables (a .cover)) → AddedLeast base K old new s
-  added-fewest l = record { added = a; fewest = rw added-count l }
-
   pub added-sized : Every (Sized K) (numbered (length old) new)
   added-sized = permuted-from (a .taken) (fits-sized base K (a .cover) (s .out) (s .inverted) (a .covers .fits) .1)
 

@@ -84,15 +84,6 @@ module _ (base : ℕ) where
   run-keeps [] e c h = refl
   run-keeps (p ∷ ps) e c h = run-keeps ps (step base p e) c (every-tail h) ∙ put-out (writes base p) (output (p .1) e) e c (every-head h)
 
-  -- such is a net that no later table drives, and the code of an earlier table
-  pub settled-keeps : (xs ys : List Table) (σ : ℕ → Bool) (c : ℕ) → c ≤ base + length xs →
-      Every (λ r. ¬ (c ∈ driven (r .drives))) ys →
-      settled base (xs ++ ys) σ c ≡ settled base xs σ c
-  settled-keeps xs ys σ c l h =
-      ap (λ e. e c) (settled-append xs ys σ)
-      ∙ run-keeps (numbered (length xs) ys) (settled base xs σ) c
-      (λ p m j. let n = numbered-is (length xs) ys p m in h (p .1) (n .2) (not-first (omega arith) j))
-
   -- in the values `e`, the codes that the table writes have the table's value
   abbrev pub Holds : (ℕ → Bool) → Placed → Type 0
   Holds e p = Every (λ c. e c ≡ output (p .1) e) (writes base p)

@@ -1,20 +1,17 @@
 -- A gate's table has the value of what the gate holds; and where a cover's tables hold, its root has the value of the drawn
 -- tree, however it was split.
-use Prim.Native.Nat.{ℕ, zero, suc, _+_, _^_, _<_}
+use Prim.Native.Nat.{ℕ, zero, suc, _+_, _<_}
 use mathlib.Core.Path.{_≡_, refl, sym, ap, ap₂, _∙_}
 use mathlib.Core.Bool.{Bool, true, false}
 use mathlib.Core.List.{List, [], _∷_, _++_}
-use lib.ListN.{length}
-use Rattle.lists.specs.Lists.{later, Every, Inserted, here, there, Permuted, sorted, Sorted}
+use Rattle.lists.specs.Lists.{later, Every, Inserted, here, there, sorted}
 use Rattle.lists.specs.ListLaws.{every-none, every-cons, every-head, every-tail, every-append, every-left, every-right, inserted-from, permuted-from}
-use Rattle.lists.specs.NumberLaws.{sorted-permuted, sorted-only}
+use Rattle.lists.specs.NumberLaws.{sorted-permuted}
 use Rattle.tree.specs.declared.Kind.{Kind}
 use Rattle.tree.specs.declared.Kind.the-variants.{And as and, Or as or}
 use Rattle.tree.specs.Tree.{Node, Edges, turned, meet, unit, value, values}
-use Rattle.cover.specs.Bits.{bit, place}
-use Rattle.cover.specs.BitLaws.{truthOf-only}
 use Rattle.cover.specs.Cover.{Cover, net, top, Fanins, end, old, new, pick, frontier, SplitOf, same, split, Matched, done, match, Rooted, rooted}
-use Rattle.cover.specs.Tables.{Table, tabled, output}
+use Rattle.cover.specs.Tables.{output}
 use Rattle.cover.specs.Eval.{Agree, tabled-output, in-driven, Holds}
 use Rattle.cover.specs.Placed.{placed, code, codes, codes*, held, held*, tableOf, records, records*}
 
@@ -47,20 +44,6 @@ module _ (base : ℕ) where
   tableOf-output n v k fs e =
       tabled-output n (sorted (codes* base fs)) (λ e. turned v (held* base fs k e))
       (λ d e h. ap (turned v) (held-same* d e fs k (permuted-from (sorted-permuted (codes* base fs)) h))) e
-
-  -- a table that reads the codes in rising order, and whose bits are the gate's values, is the gate's table
-  pub tableOf-only : (n : ℕ) (v : Bool) (k : Kind) (fs : Fanins) (r : Table) → r .drives ≡ n →
-      Permuted (codes* base fs) (r .inputs) → Sorted (r .inputs) →
-      r .truth < 2 ^ (2 ^ length (r .inputs)) →
-      ((i : ℕ) → i < 2 ^ length (r .inputs) → bit (r .truth) i ≡ turned v (held* base fs k (λ c. bit i (place c (r .inputs))))) →
-      tableOf base n v k fs ≡ r
-  tableOf-only n v k fs r d p s l b =
-      ap (λ xs. tabled n xs (λ e. turned v (held* base fs k e))) (sorted-only p s)
-      ∙ λ j. record {
-        drives = sym d j;
-        inputs = r .inputs;
-        truth = truthOf-only (λ i. turned v (held* base fs k (λ c. bit i (place c (r .inputs))))) (2 ^ length (r .inputs)) (r .truth) l b j;
-      }
 
 -- ---- where its tables hold, the cover's root has the value of the drawn tree
 

@@ -1,11 +1,10 @@
 -- A number that has room is written, and the buffer keeps its length.
 use Prim.Native.Nat.{ℕ, zero, suc, _+_, _-_, _^_, _≤_, _<_}
 use native.Mathlib.Omega.{arith}
-use mathlib.Core.Path.{_≡_, refl, sym, ap, ap₂, _∙_}
+use mathlib.Core.Path.{_≡_, refl, ap, ap₂}
 use mathlib.Core.Bool.{Bool, true, false, cond, _&&_}
-use mathlib.Core.List.{List, _++_, append-assoc}
-use lib.ListN.{length, take, drop, length-append, length-drop}
-use lib.Seq.{length-take-le}
+use mathlib.Core.List.{List}
+use lib.ListN.{length}
 use borrow.Author.Tests.{le-leb}
 use Rattle.lists.specs.TestLaws.{reflects-true}
 use Rattle.decimal.specs.Number.{Number, Within}
@@ -35,16 +34,3 @@ pub signed-written-at : (old : List ℕ) (at width : ℕ) (n : Number) → at + 
     signedWrittenAt old at width n ≡ record { answer = Done; bytes = placed old at width (signedFieldOf width n) }
 signed-written-at old at width n l p h =
     ap₂ (λ a b. outcome (a && b) (placed old at width (signedFieldOf width n)) old) (le-leb (at + width) (length old) l) (signed-room width n p h)
-
--- ---- a line after a field was written into it
-
-module _ (old : List ℕ) (at width : ℕ) (field : List ℕ) (within : at + width ≤ length old) (whole : length field ≡ width) where
-  up-to : length (take at old ++ field) ≡ at + width
-  up-to = length-append (take at old) field ∙ ap₂ _+_ (length-take-le at old (omega arith)) whole
-
-  pub placed-length : length (placed old at width field) ≡ length old
-  placed-length =
-      ap length (sym (append-assoc (take at old) field (drop (at + width) old)))
-      ∙ length-append (take at old ++ field) (drop (at + width) old)
-      ∙ ap₂ _+_ up-to (length-drop (at + width) old)
-      ∙ omega arith

@@ -7,7 +7,6 @@ use mapper_laws::Run;
 use merge::merge;
 use merge::single;
 use pending::Pending;
-use plan::Key;
 use plan::Plan;
 use plan::Token;
 use table::Table;

@@ -26,4 +26,3 @@ pub mod Steps
 pub mod PlanOf
 pub mod PlanOfLaws
 pub mod PlanChecks
-pub mod Search

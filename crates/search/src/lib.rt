@@ -13,7 +13,6 @@ use keys::cuts_of;
 use keys::join;
 use keys::precedes;
 use keys::volume;
-use plan::Cuts;
 use plan::Key;
 use plan::LEAST_FANINS;
 use plan::LEAST_INPUTS;

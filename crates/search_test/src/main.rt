@@ -3,7 +3,7 @@
 // The expected lines are those of tests/cover/exhaustive.py, which tries every tree.
 use plan::Key;
 use plan::Plan;
-ghost use Prim.Native.Nat.{_<_, _≤_};
+ghost use Prim.Native.Nat.{_<_};
 
 const OUT: i32 = 1;
 

@@ -8,7 +8,7 @@ use mathlib.Core.List.{List, [], _∷_, _++_, append-assoc, append-nil}
 use lib.Dec.{ltb, ltb→lt, eqb→eq}
 use lib.ListN.{length, length-append}
 use Rattle.lists.specs.Lists.{_∈_, Every, Distinct, Permuted}
-use Rattle.lists.specs.ListLaws.{every-none, every-cons, every-head, every-append, permuted-to, permuted-sym}
+use Rattle.lists.specs.ListLaws.{every-none, every-cons, every-head, every-append, permuted-sym}
 use Rattle.lists.specs.Cases.{and-split}
 use Rattle.lists.specs.Tests.{within}
 use Rattle.lists.specs.TestLaws.{reflects-elem, reflects-within}
@@ -228,12 +228,5 @@ read-formed text s e = of (readAll text) (all-meets text) e
 
 -- ---- the same by gates: each is read once, except the last, which is not read
 
-pub gate-read : (s : DrawnSheet) → WellFormed s → (j : ℕ) → 1 ≤ j → j < length (s .gates) → j ∈ gatesRead (s .gates)
-gate-read s w j l u =
-    permuted-to {P = λ i. i ∈ gatesRead (s .gates)} (w .read-once) (λ i m. m) j (in-from 1 (length (s .gates) - 1) j l (omega arith))
-
 pub gates-distinct : (s : DrawnSheet) → WellFormed s → Distinct (gatesRead (s .gates))
 gates-distinct s w = distinct-permuted (permuted-sym (w .read-once)) (from-once 1 (length (s .gates) - 1))
-
-pub root-unread : (s : DrawnSheet) → WellFormed s → ¬ (length (s .gates) ∈ gatesRead (s .gates))
-root-unread s w m = omega (arith, earlier-below 1 (s .gates) (w .earlier) (length (s .gates)) m)
