@@ -1,4 +1,1 @@
-mod NumberLaws
 pub mod SignLaws
-mod WriteLaws
-mod PlaceLaws

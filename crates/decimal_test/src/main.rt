@@ -54,7 +54,7 @@ fn print_field(s: &[u8]) {
     print(b"[");
     print(s);
     print(b"] ");
-    match decimal::read(s) {
+    match decimal_reader::read(s) {
         Field::Value(v) => {
             if decimal::negative(v) {
                 print(b"minus ");
@@ -68,14 +68,14 @@ fn print_field(s: &[u8]) {
 
 fn print_number(width: usize, n: u64) {
     let mut line = [b'.'; 24];
-    let answer = decimal::write_at(&mut line, 1, width, n);
+    let answer = decimal_writer::write_at(&mut line, 1, width, n);
     print(&line);
     print_answer(answer);
 }
 
 fn print_signed(width: usize, v: i32) {
     let mut line = [b'.'; 24];
-    let answer = decimal::write_signed_at(&mut line, 1, width, v);
+    let answer = decimal_writer::write_signed_at(&mut line, 1, width, v);
     print(&line);
     print_answer(answer);
 }

@@ -41,7 +41,7 @@ fn put_field(buf: &mut [u8], at: usize, n: u16)
     requires { ⌜ at + 6 ≤ length (now buf) ⌝ }
     ensures { λ _. ⌜ now (buf .exit) ≡ pasted (now (buf .entry)) at (fieldOf 6 n) ⌝ }
 {
-    decimal::write_at(buf, at, FIELD, n as u64);
+    decimal_writer::write_at(buf, at, FIELD, n as u64);
 }
 
 // A truth table, from the place on.
@@ -49,7 +49,7 @@ fn put_truth(buf: &mut [u8], at: usize, truth: u64)
     requires { ⌜ at + 21 ≤ length (now buf) ⌝ }
     ensures { λ _. ⌜ now (buf .exit) ≡ pasted (now (buf .entry)) at (fieldOf 21 truth) ⌝ }
 {
-    decimal::write_at(buf, at, TRUTH, truth);
+    decimal_writer::write_at(buf, at, TRUTH, truth);
 }
 
 // A line feed at the place.

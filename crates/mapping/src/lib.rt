@@ -132,8 +132,8 @@ fn read_opening(input: &[u8]) -> Start
     if input[12] != b'\n' {
         return no_opening();
     }
-    let first = decimal::read(&input[0..6]);
-    let second = decimal::read(&input[6..12]);
+    let first = decimal_reader::read(&input[0..6]);
+    let second = decimal_reader::read(&input[6..12]);
     let Field::Value(k) = first else {
         return no_opening();
     };
@@ -196,9 +196,9 @@ fn print_refusal(output: &mut [u8], number: u8, sheet: u16, place: u16) -> Print
     if output.len() < REFUSAL {
         return Printed::NoRoom;
     }
-    decimal::write_signed_at(output, 0, FIELD, -(number as i32));
-    decimal::write_at(output, 6, FIELD, sheet as u64);
-    decimal::write_at(output, 12, FIELD, place as u64);
+    decimal_writer::write_signed_at(output, 0, FIELD, -(number as i32));
+    decimal_writer::write_at(output, 6, FIELD, sheet as u64);
+    decimal_writer::write_at(output, 12, FIELD, place as u64);
     output[18] = b'\n';
     Printed::Wrote(REFUSAL)
 }

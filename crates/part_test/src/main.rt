@@ -34,7 +34,7 @@ fn field(s: &[u8], i: usize) -> u32 {
     if s.len() < end {
         return 0;
     }
-    let f = decimal::read(&s[start..end]);
+    let f = decimal_reader::read(&s[start..end]);
     match f {
         Field::Value(v) => decimal::magnitude(v),
         Field::NoNumber => 0,
@@ -52,7 +52,7 @@ fn low8(x: u32) -> u8 {
 // A number in six columns.
 fn put(v: i32) {
     let mut b = [b' '; 6];
-    decimal::write_signed(&mut b, v);
+    decimal_writer::write_signed(&mut b, v);
     io::write_all(STDOUT_FILENO, &b);
 }
 

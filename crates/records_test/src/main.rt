@@ -87,7 +87,7 @@ fn field(text: &[u8], start: usize, i: usize) -> u32 {
     }
     let at = start + from;
     let end = at + 6;
-    match decimal::read(&text[at..end]) {
+    match decimal_reader::read(&text[at..end]) {
         Field::Value(v) => decimal::magnitude(v),
         Field::NoNumber => 0,
     }
@@ -114,7 +114,7 @@ fn print_found(f: Found) {
 // A number on a line of its own.
 fn print_number(v: i32) {
     let mut b = [b' '; 6];
-    decimal::write_signed(&mut b, v);
+    decimal_writer::write_signed(&mut b, v);
     io::write_all(STDOUT_FILENO, &b);
     io::write_all(STDOUT_FILENO, b"\n");
 }

@@ -1,2 +1,3 @@
 pub mod Sentences
-pub mod SentenceLaws
+pub mod Lines
+pub mod LineLaws

@@ -1,6 +1,9 @@
 // What each refusal's number means, in plain words.
 ghost use mathlib.Core.Path.{_≡_};
+ghost use Prim.Native.Nat.{_≤_};
+ghost use lib.ListN.{length, drop};
 ghost use Rattle.refusals.specs.Sentences.{refusalText, fitted};
+ghost use Rattle.refusals.specs.Lines.{after, line};
 
 // Writes a text to the front of the buffer and gives its length; 0, with the buffer as it was, where it does not fit.
 fn put(text: &[u8], out: &mut [u8]) -> usize
@@ -12,40 +15,64 @@ fn put(text: &[u8], out: &mut [u8]) -> usize
     bytes::copy(text, out)
 }
 
+// Where the line of a number starts in a text whose lines are counted from 0; the text's end, where it has no such line.
+fn line_start(text: &[u8], number: u32) -> usize
+    ensures { λ r. ⌜ (r ≤ length (now (text .entry))) × (drop r (now (text .entry)) ≡ after number (now (text .entry))) ⌝ }
+{
+    let mut left = number;
+    let mut i = 0;
+    while i < text.len() {
+        if left == 0 {
+            return i;
+        }
+        if text[i] == b'\n' {
+            left -= 1;
+        }
+        i += 1;
+    }
+    i
+}
+
+// Writes the line of a number to the front of the buffer, as `put` does.
+fn put_line(text: &[u8], number: u32, out: &mut [u8]) -> usize
+    ensures { λ r. ⌜ record { count = r; bytes = now (out .exit) } ≡ fitted (line number (now (text .entry))) (now (out .entry)) ⌝ }
+{
+    let start = line_start(text, number);
+    let end = bytes::scan::find(text, start, text.len(), b'\n');
+    put(&text[start..end], out)
+}
+
 // Writes the sentence of a refusal to the front of the buffer and gives its length; 0, with the buffer as it was, for a number that is
-// no refusal, and where the sentence does not fit.
+// no refusal, and where the sentence does not fit. Each sentence stands in the line of its number; other lines are empty.
 pub fn write(number: u32, out: &mut [u8]) -> usize
     ensures { λ r. ⌜ record { count = r; bytes = now (out .exit) } ≡ fitted (refusalText number) (now (out .entry)) ⌝ }
 {
-    match number {
-        1 => put(
-            b"the line is missing, has no line feed, has a wrong number of fields or a field that is not laid out, or follows the last line",
-            out,
-        ),
-        2 => put(b"K must be from 2 to 6", out),
-        3 => put(b"the capacity must be from 1 to 800", out),
-        4 => put(
-            b"the output net must be from 1 to 999, with or without a minus sign",
-            out,
-        ),
-        5 => put(b"the number of gates must be from 1 to 255", out),
-        6 => put(b"the kind must be 1 (AND) or 2 (OR)", out),
-        7 => put(b"the fanin count must be from 2 to 10", out),
-        8 => put(
-            b"a fanin is neither a net (1 to 999) nor an earlier gate (1000 plus its number)",
-            out,
-        ),
-        9 => put(b"a gate is read a second time", out),
-        10 => put(b"a net stands at a second leaf", out),
-        11 => put(b"the sheet's output net is one of its leaves", out),
-        12 => put(b"the sheet has more than 256 leaves", out),
-        13 => put(b"a gate other than the last is never read", out),
-        14 => put(b"the buffer has too little room from the place on", out),
-        15 => put(b"the part has no such line", out),
-        20 => put(b"the part is not sound", out),
-        21 => put(b"the output net is already driven", out),
-        22 => put(b"a table already reads the output net", out),
-        23 => put(b"the sheet needs more tables than the part has left", out),
-        _ => 0,
-    }
+    put_line(
+        b"\n\
+        the line is missing, has no line feed, has a wrong number of fields or a field that is not laid out, or follows the last line\n\
+        K must be from 2 to 6\n\
+        the capacity must be from 1 to 800\n\
+        the output net must be from 1 to 999, with or without a minus sign\n\
+        the number of gates must be from 1 to 255\n\
+        the kind must be 1 (AND) or 2 (OR)\n\
+        the fanin count must be from 2 to 10\n\
+        a fanin is neither a net (1 to 999) nor an earlier gate (1000 plus its number)\n\
+        a gate is read a second time\n\
+        a net stands at a second leaf\n\
+        the sheet's output net is one of its leaves\n\
+        the sheet has more than 256 leaves\n\
+        a gate other than the last is never read\n\
+        the buffer has too little room from the place on\n\
+        the part has no such line\n\
+        \n\
+        \n\
+        \n\
+        \n\
+        the part is not sound\n\
+        the output net is already driven\n\
+        a table already reads the output net\n\
+        the sheet needs more tables than the part has left\n",
+        number,
+        out,
+    )
 }

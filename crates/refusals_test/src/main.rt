@@ -5,7 +5,7 @@ use libc::STDOUT_FILENO;
 // The number in six columns, and a blank.
 fn say_number(number: u32) {
     let mut columns = [b' '; 6];
-    decimal::write(&mut columns, number as u64);
+    decimal_writer::write(&mut columns, number as u64);
     io::write_all(STDOUT_FILENO, &columns);
     io::write_all(STDOUT_FILENO, b" ");
 }

@@ -113,7 +113,7 @@ fn print_signed(negative: bool, n: u32) {
         print(b" ");
     }
     let mut field = [b' '; 6];
-    decimal::write(&mut field, n as u64);
+    decimal_writer::write(&mut field, n as u64);
     print(&field);
 }
 

@@ -1,0 +1,99 @@
+-- Reading a number byte by byte: what one byte at an index makes of it.
+use Prim.Native.Nat.{ℕ, suc, _+_, _*_, _-_, _^_, _≤_, _<_}
+use native.Mathlib.Nat.{pow-le-pow-right}
+use native.Mathlib.Numerals.{add-one}
+use native.Mathlib.Omega.{arith}
+use mathlib.Core.Path.{_≡_, refl}
+use mathlib.Core.Option.{Option, none, some}
+use mathlib.Core.List.{List, [], _∷_}
+use lib.IntN.{pos}
+use lib.ListN.{length, getD, drop, length-drop, drop-of-length-le}
+use lib.Seq.{drop-cons}
+use mir.Syntax.{w32}
+use mir.Val.{SFits}
+use borrow.Author.Tests.{eq-eqb, ne-eqb, le-leb, lt-leb}
+use Rattle.decimal.specs.Number.{digits, natural, unsigned, negated, signed, number, fieldNumber}
+use Rattle.decimal.specs.NumberLaws.{natural-below}
+use Rattle.decimal.specs.Reading.{parsed, Skipped}
+use Rattle.decimal.specs.declared.Parsed.the-variants.{Natural, Nothing}
+
+-- ---- blanks
+
+pub number-blank : (bs : List ℕ) (i : ℕ) → i < length bs → getD bs i 0 ≡ 32 → number (drop i bs) ≡ number (drop (i + 1) bs)
+number-blank bs i h e = rw (drop-cons bs i 0, add-one, eq-eqb (getD bs i 0) 32 e)
+
+pub number-other : (bs : List ℕ) (i : ℕ) → i < length bs → (getD bs i 0 ≡ 32 → ⊥) → number (drop i bs) ≡ signed (drop i bs)
+number-other bs i h n = rw (drop-cons bs i 0, ne-eqb (getD bs i 0) 32 n)
+
+-- ---- digits
+
+pub digits-more : (bs : List ℕ) (i n : ℕ) → i < length bs → 48 ≤ getD bs i 0 → getD bs i 0 ≤ 57 →
+    digits n (drop i bs) ≡ digits (10 * n + (getD bs i 0 - 48)) (drop (i + 1) bs)
+digits-more bs i n h l m = rw (drop-cons bs i 0, add-one, le-leb 48 (getD bs i 0) l, le-leb (getD bs i 0) 57 m)
+
+pub digits-low : (bs : List ℕ) (i n : ℕ) → i < length bs → getD bs i 0 < 48 → digits n (drop i bs) ≡ none
+digits-low bs i n h l = rw (drop-cons bs i 0, lt-leb 48 (getD bs i 0) l)
+
+pub digits-high : (bs : List ℕ) (i n : ℕ) → i < length bs → 57 < getD bs i 0 → digits n (drop i bs) ≡ none
+digits-high bs i n h l = rw (drop-cons bs i 0, le-leb 48 (getD bs i 0) (omega arith), lt-leb (getD bs i 0) 57 l)
+
+pub below-five : (n k : ℕ) → n < 10 ^ k → k ≤ 5 → n < 100000
+below-five n k h l = omega (arith, pow-le-pow-right {n = 10} (omega arith) {i = k} {j = 5} l)
+
+-- ---- a natural number
+
+pub natural-none : (bs : List ℕ) (i : ℕ) → length bs ≤ i → natural (drop i bs) ≡ none
+natural-none bs i h = rw (drop-of-length-le bs {i = i} h)
+
+-- one digit may be "0"
+pub natural-last : (bs : List ℕ) (i : ℕ) → i < length bs → length bs ≤ i + 1 → natural (drop i bs) ≡ digits 0 (drop i bs)
+natural-last bs i h l = rw (drop-cons bs i 0, drop-of-length-le bs {i = suc i} (omega arith))
+
+pub natural-zero : (bs : List ℕ) (i : ℕ) → i + 1 < length bs → getD bs i 0 ≡ 48 → natural (drop i bs) ≡ none
+natural-zero bs i h e =
+    let l : i < length bs = omega arith in
+    let m : suc i < length bs = omega arith in
+    rw (drop-cons bs i 0 l, drop-cons bs (suc i) 0 m, eq-eqb (getD bs i 0) 48 e)
+
+not-zero : (b : ℕ) (bs : List ℕ) → (b ≡ 48 → ⊥) → natural (b ∷ bs) ≡ digits 0 (b ∷ bs)
+not-zero b [] n = refl
+not-zero b (d ∷ bs) n = rw (ne-eqb b 48 n)
+
+pub natural-first : (bs : List ℕ) (i : ℕ) → i < length bs → (getD bs i 0 ≡ 48 → ⊥) → natural (drop i bs) ≡ digits 0 (drop i bs)
+natural-first bs i h n = rw (drop-cons bs i 0) (not-zero (getD bs i 0) (drop (suc i) bs) n)
+
+-- ---- with a sign
+
+pub signed-none : (bs : List ℕ) (i : ℕ) → length bs ≤ i → signed (drop i bs) ≡ none
+signed-none bs i h = rw (drop-of-length-le bs {i = i} h)
+
+pub signed-minus : (bs : List ℕ) (i : ℕ) → i < length bs → getD bs i 0 ≡ 45 → signed (drop i bs) ≡ negated (natural (drop (i + 1) bs))
+signed-minus bs i h e = rw (add-one, drop-cons bs i 0, eq-eqb (getD bs i 0) 45 e)
+
+pub signed-plain : (bs : List ℕ) (i : ℕ) → i < length bs → (getD bs i 0 ≡ 45 → ⊥) → signed (drop i bs) ≡ unsigned (natural (drop i bs))
+signed-plain bs i h n = rw (drop-cons bs i 0, ne-eqb (getD bs i 0) 45 n)
+
+pub negated-zero : (n : ℕ) → n ≡ 0 → negated (some n) ≡ none
+negated-zero n e = rw (eq-eqb n 0 e)
+
+-- ---- a field
+
+pub field-signed : (bs : List ℕ) (i : ℕ) → length bs ≡ 6 → Skipped bs i → fieldNumber bs ≡ signed (drop i bs)
+field-signed bs i e h = rw (eq-eqb (length bs) 6 e) (h .same)
+
+pub field-other : (bs : List ℕ) → (length bs ≡ 6 → ⊥) → fieldNumber bs ≡ none
+field-other bs n = rw (ne-eqb (length bs) 6 n)
+
+pub parsed-some : (o : Option ℕ) {n : ℕ} → parsed o ≡ Natural n → o ≡ some n
+parsed-some none e = let no : _≡_ {A = ℕ} 0 1 = cc in absurd (omega arith)
+parsed-some (some m) e = cc
+
+pub parsed-none : (o : Option ℕ) → parsed o ≡ Nothing → o ≡ none
+parsed-none none e = refl
+parsed-none (some m) e = let no : _≡_ {A = ℕ} 0 1 = cc in absurd (omega arith)
+
+-- what six columns hold fits 32 bits
+pub natural-fits : (bs : List ℕ) (i n : ℕ) → length bs ≤ 6 → natural (drop i bs) ≡ some n → SFits w32 (pos n)
+natural-fits bs i n e h =
+    let l : length (drop i bs) ≤ 6 = simp length-drop (omega arith) in
+    record { sfits = omega (arith, natural-below (drop i bs) h, pow-le-pow-right {n = 10} (omega arith) {i = length (drop i bs)} {j = 6} l) }

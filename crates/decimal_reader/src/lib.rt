@@ -1,0 +1,97 @@
+// The reader of a field: the decimal number in its six columns.
+ghost use mathlib.Core.Path.{_≡_};
+ghost use Prim.Native.Nat.{_+_, _≤_};
+ghost use lib.ListN.{length, drop};
+ghost use Rattle.decimal.specs.Number.{columns, digits, natural, signed};
+ghost use Rattle.decimal.specs.Reading.{answerOf, fieldRead, parsed, Skipped};
+use decimal::COLUMNS;
+use decimal::Field;
+use decimal::Parsed;
+
+// The number in the six columns of a field. A slice that is not six bytes long holds no number.
+pub fn read(s: &[u8]) -> Field
+    ensures { λ r. ⌜ r ≡ fieldRead (now (s .entry)) ⌝ }
+{
+    if s.len() != COLUMNS {
+        return Field::NoNumber;
+    }
+    signed(s, blanks(s))
+}
+
+// How many blanks stand before the first byte that is none.
+fn blanks(s: &[u8]) -> usize
+    ensures { λ r. ⌜ Skipped (now (s .entry)) r ⌝ }
+{
+    let mut i = 0;
+    while i < s.len() {
+        if s[i] != b' ' {
+            return i;
+        }
+        i += 1;
+    }
+    i
+}
+
+// The number that the bytes from an index on make, with its sign. "-0" is no number.
+fn signed(s: &[u8], at: usize) -> Field
+    requires { ⌜ length (now s) ≤ columns ⌝ }
+    ensures { λ r. ⌜ r ≡ answerOf (signed (drop at (now (s .entry)))) ⌝ }
+{
+    if s.len() <= at {
+        return Field::NoNumber;
+    }
+    if s[at] == b'-' {
+        match natural(s, at + 1) {
+            Parsed::Natural(n) => {
+                if n == 0 {
+                    Field::NoNumber
+                } else {
+                    Field::Value(-(n as i32))
+                }
+            }
+            Parsed::Nothing => Field::NoNumber,
+        }
+    } else {
+        match natural(s, at) {
+            Parsed::Natural(n) => Field::Value(n as i32),
+            Parsed::Nothing => Field::NoNumber,
+        }
+    }
+}
+
+// The number that the bytes from an index on make: one digit or more, with no leading zero.
+fn natural(s: &[u8], at: usize) -> Parsed
+    requires { ⌜ (at ≤ length (now s)) × (length (now s) ≤ at + columns) ⌝ }
+    ensures { λ r. ⌜ r ≡ parsed (natural (drop at (now (s .entry)))) ⌝ }
+{
+    if s.len() <= at {
+        return Parsed::Nothing;
+    }
+    if s[at] == b'0' {
+        if at + 1 < s.len() {
+            return Parsed::Nothing;
+        }
+    }
+    digits(s, at)
+}
+
+// The number that the bytes from an index on make, if each is a digit.
+fn digits(s: &[u8], at: usize) -> Parsed
+    requires { ⌜ (at ≤ length (now s)) × (length (now s) ≤ at + columns) ⌝ }
+    ensures { λ r. ⌜ r ≡ parsed (digits 0 (drop at (now (s .entry)))) ⌝ }
+{
+    let mut n: u32 = 0;
+    let mut i = at;
+    while i < s.len() {
+        let b = s[i];
+        if b < b'0' {
+            return Parsed::Nothing;
+        }
+        if b'9' < b {
+            return Parsed::Nothing;
+        }
+        n = 10 * n + ((b - b'0') as u32);
+        i += 1;
+    }
+    Parsed::Natural(n)
+}

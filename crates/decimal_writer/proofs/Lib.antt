@@ -1,0 +1,2 @@
+mod WriteLaws
+mod PlaceLaws

@@ -1,0 +1,22 @@
+-- The lines of a text, each ended by a line feed, the byte 10. Definitions only: the laws are in LineLaws.
+use Prim.Native.Nat.{ℕ, suc, _-_}
+use mathlib.Core.Bool.{cond}
+use mathlib.Core.List.{List, [], _∷_, _++_}
+use lib.Dec.{eqb}
+use lib.ListN.{take, replicate}
+use Rattle.bytes.specs.Bytes.{indexOf}
+use Rattle.refusals.specs.Sentences.{Entry, _means_, bytesOf}
+
+-- the text after its first n lines
+abbrev pub after : ℕ → List ℕ → List ℕ
+after n [] = []
+after n (b ∷ bs) = cond (eqb n 0) (b ∷ bs) (after (cond (eqb b 10) (n - 1) n) bs)
+
+-- the line after the first n, without its line feed
+abbrev pub line : ℕ → List ℕ → List ℕ
+line n text = take (indexOf 10 (after n text)) (after n text)
+
+-- the sentences of entries as the lines of their numbers, from line k on; a line before the next number is empty
+abbrev pub textFrom : ℕ → List Entry → List ℕ
+textFrom k [] = []
+textFrom k ((j means s) ∷ es) = replicate (j - k) 10 ++ (bytesOf s ++ (10 ∷ textFrom (suc j) es))
