@@ -25,8 +25,9 @@ use Rattle.demands.specs.Settled.{leastNumber, answerOf}
 use Rattle.demands.specs.ReadingLaws.{reads-right}
 use Rattle.demands.specs.SettledLaws.{least-number, add-answer}
 use Rattle.part.specs.Listing.{lineOf, listOf}
-use Rattle.listing.specs.Lines as Lines
-use Rattle.listing.specs.Lines.{wrote, pasted, turnedDown, fitted, lineWritten, listWritten}
+use Rattle.list_line.specs.Writes as Writes
+use Rattle.list_line.specs.Writes.{wrote, pasted}
+use Rattle.listing.specs.Lines.{turnedDown, fitted, lineWritten, listWritten}
 use Rattle.demands.specs.Demands.{OpeningCondition, bad-k, bad-capacity, OpeningTold, AddCondition, not-sound, out-driven, out-read, no-room, not-read, Addable, AddTold}
 use Rattle.demands.specs.Demands.{WriteCondition, part-unsound, not-there, too-short, WriteTold}
 
@@ -151,7 +152,7 @@ module _ (p : Part) (text : List ℕ) where
 module _ (p : Part) (There : Type 0) (old : List ℕ) (at : ℕ) (new : List ℕ) where
   -- no two of the conditions hold
   one-only : {m l number place : ℕ} → WriteCondition p There old at new m l → WriteCondition p There old at new number place →
-      Lines.refused m l ≡ Lines.refused number place
+      Writes.refused m l ≡ Writes.refused number place
   one-only (part-unsound n) (part-unsound i) = refl
   one-only (part-unsound n) (not-there h i) = absurd (n h)
   one-only (part-unsound n) (too-short h t l) = absurd (n h)
@@ -167,7 +168,7 @@ module _ (p : Part) (There : Type 0) (old : List ℕ) (at : ℕ) (new : List ℕ
   none-holds h t l (not-there g n) = n t
   none-holds h t l (too-short g u m) = omega (arith, l, m)
 
-  not-written : {number place count : ℕ} → Lines.refused number place ≡ wrote count → ⊥
+  not-written : {number place count : ℕ} → Writes.refused number place ≡ wrote count → ⊥
   not-written e = let z : _≡_ {A = ℕ} 0 1 = cc in omega arith
 
   turned-told : (number : ℕ) → WriteCondition p There old at new number 0 → WriteTold p There old at new (turnedDown number old)

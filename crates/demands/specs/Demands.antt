@@ -23,8 +23,9 @@ use Rattle.part.specs.Sheets.{sheet, refused as unread, readOf}
 use Rattle.part.specs.Adds.{Answer, accepted, refused, Result, empty, opened, Add}
 use Rattle.part.specs.Listing.{lineOf, listOf}
 use Rattle.part.specs.declared.Part.{Part}
-use Rattle.listing.specs.Lines as Lines
-use Rattle.listing.specs.Lines.{wrote, pasted, lineWritten, listWritten}
+use Rattle.list_line.specs.Writes as Writes
+use Rattle.list_line.specs.Writes.{wrote, pasted}
+use Rattle.listing.specs.Lines.{lineWritten, listWritten}
 use Rattle.demands.specs.Nets.{Driven, Read}
 use Rattle.demands.specs.Calls.{Call, add, final, acceptedIn, Link}
 
@@ -75,10 +76,10 @@ pub data WriteCondition (p : Part) (There : Type 0) (old : List ℕ) (at : ℕ) 
   not-there : Sound p → ¬ There → WriteCondition p There old at new 15 0
   too-short : Sound p → There → length old < at + length new → WriteCondition p There old at new 14 0
 
-pub record WriteTold (p : Part) (There : Type 0) (old : List ℕ) (at : ℕ) (new : List ℕ) (o : Lines.Outcome) : Type 0 where
-  pub refuses : (number place : ℕ) → (o .result ≡ Lines.refused number place) ↔ WriteCondition p There old at new number place
+pub record WriteTold (p : Part) (There : Type 0) (old : List ℕ) (at : ℕ) (new : List ℕ) (o : Writes.Outcome) : Type 0 where
+  pub refuses : (number place : ℕ) → (o .result ≡ Writes.refused number place) ↔ WriteCondition p There old at new number place
   pub writes : (count : ℕ) → (o .result ≡ wrote count) ↔ (Sound p × There × (at + length new ≤ length old) × (count ≡ length new))
-  pub stays : (number place : ℕ) → o .result ≡ Lines.refused number place → o .bytes ≡ old
+  pub stays : (number place : ℕ) → o .result ≡ Writes.refused number place → o .bytes ≡ old
   pub bytes : (count : ℕ) → o .result ≡ wrote count → o .bytes ≡ pasted old at new
 
 -- DEMAND 1, of every entry point that can turn something down, whatever it is handed; the list is always there

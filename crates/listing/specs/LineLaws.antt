@@ -1,20 +1,17 @@
--- Bytes pasted into a buffer one run after the other, and how long the lines are.
+-- The lines of a part's list one after the other, how long they are, and the outcomes of a write by the tests that lead to them.
 use Prim.Native.Nat.{ℕ, zero, suc, _+_, _-_, _*_, _≤_, _<_}
 use native.Mathlib.Numerals.{add-one}
 use native.Mathlib.Omega.{arith}
 use mathlib.Core.Path.{_≡_, refl, sym, ap, ap₂, _∙_}
 use mathlib.Core.Bool.{true, false, cond}
-use mathlib.Core.List.{List, [], _∷_, _++_, append-assoc, append-nil, map}
+use mathlib.Core.List.{List, [], _∷_, _++_, append-nil, map}
 use lib.Dec.{leb}
-use lib.ListN.{length, getD, take, drop, set, length-append, length-drop, length-take, take-append-drop, List·getD-eq-default}
-use lib.Seq.{length-take-le, take-suc, take-at, drop-drop, drop-append-add, set-split, getD-take}
+use lib.ListN.{length, getD, length-append, length-take, List·getD-eq-default}
+use lib.Seq.{getD-take}
 use Rattle.lists.specs.ListLaws.{every-at, gather-append, gather-map}
 use Rattle.lists.specs.Lists.{gather, upto}
 use Rattle.lists.specs.Cases.{by-leb}
-use Rattle.decimal.specs.Columns.{fieldOf, fieldsOf}
-use Rattle.decimal.specs.ColumnLaws.{field-length}
-use Rattle.table.specs.declared.Table.{Table}
-use Rattle.table.specs.Records.{reads, blank}
+use Rattle.table.specs.Records.{blank}
 use Rattle.table.specs.RuleLaws.{map-append}
 use Rattle.part.specs.declared.Part.{Part}
 use Rattle.table.specs.ResultLaws.{says-true}
@@ -23,55 +20,10 @@ use Rattle.part.specs.Sound.{Sound}
 use Rattle.part.specs.SoundTest.{sound}
 use Rattle.part.specs.SoundLaws.{sound-reflects}
 use Rattle.part.specs.Listing.{tableLine, lineOf, listOf}
-use Rattle.listing.specs.Lines.{wrote, pasted, turnedDown, fitted, lineWritten, listWritten, tableWidth, topLine, tableLines, longest}
-
--- ---- pasting
-
-pub paste-none : (old : List ℕ) (at : ℕ) → pasted old at [] ≡ old
-paste-none old at = let e : at + 0 ≡ at = omega arith in rw e (take-append-drop at old)
-
-pub paste-one : (old : List ℕ) (at b : ℕ) → at < length old → set old at b ≡ pasted old at (b ∷ [])
-paste-one old at b h = let e : at + 1 ≡ suc at = omega arith in rw e (set-split old at b h)
-
-module _ (old : List ℕ) (at : ℕ) (xs : List ℕ) (h : at + length xs ≤ length old) where
-  head-length : length (take at old ++ xs) ≡ at + length xs
-  head-length = simp length-append (omega (arith, length-take-le at old (omega arith)))
-
-  pub paste-length : length (pasted old at xs) ≡ length old
-  paste-length = simp (length-append, length-drop) (omega (arith, length-take-le at old (omega arith)))
-
-  -- what is pasted just after it
-  pub paste-append : (ys : List ℕ) → at + length xs + length ys ≤ length old → pasted (pasted old at xs) (at + length xs) ys ≡ pasted old at (xs ++ ys)
-  paste-append ys l =
-      let a = take at old in
-      let d = drop (at + length xs) old in
-      let e : a ++ (xs ++ d) ≡ (a ++ xs) ++ d = sym (append-assoc a xs d) in
-      let t : take (at + length xs) (a ++ (xs ++ d)) ≡ a ++ xs = ap (take (at + length xs)) e ∙ take-at (a ++ xs) d (at + length xs) head-length in
-      let r : drop (at + length xs + length ys) (a ++ (xs ++ d)) ≡ drop (at + length (xs ++ ys)) old =
-      ap (drop (at + length xs + length ys)) e ∙ ap (λ n. drop (n + length ys) ((a ++ xs) ++ d)) (sym head-length) ∙ drop-append-add (a ++ xs) d (length ys)
-      ∙ drop-drop (length ys) (at + length xs) old ∙ (let f : at + length xs + length ys ≡ at + length (xs ++ ys) = simp length-append (omega arith) in rw f) in
-      ap₂ (λ p q. p ++ (ys ++ q)) t r ∙ append-assoc a xs (ys ++ drop (at + length (xs ++ ys)) old)
-      ∙ ap (λ p. a ++ p) (sym (append-assoc xs ys (drop (at + length (xs ++ ys)) old)))
-
--- one more run of bytes, as a loop or a call has it: `buf` has `xs`, and `last` is `buf` with `ys` just after
-pub paste-next : (old buf last : List ℕ) (at place : ℕ) (xs ys : List ℕ) → buf ≡ pasted old at xs → place ≡ at + length xs →
-    at + length xs + length ys ≤ length old → last ≡ pasted buf place ys → last ≡ pasted old at (xs ++ ys)
-paste-next old buf last at place xs ys e p l f = f ∙ ap₂ (λ b n. pasted b n ys) e p ∙ paste-append old at xs (omega arith) ys l
-
--- ---- the lines
-
-pub fields-length : (ns : List ℕ) → length (fieldsOf ns) ≡ 6 * length ns
-fields-length [] = refl
-fields-length (n ∷ ns) = simp (length-append, field-length) (omega (arith, fields-length ns))
-
-pub fields-next : (ns : List ℕ) (i : ℕ) → i < length ns → fieldsOf (take (i + 1) ns) ≡ fieldsOf (take i ns) ++ fieldOf 6 (getD ns i 0)
-fields-next ns i h =
-    ap (λ m. fieldsOf (take m ns)) (add-one i) ∙ ap fieldsOf (take-suc ns i 0 h)
-    ∙ gather-append (fieldOf 6) (take i ns) (getD ns i 0 ∷ []) ∙ ap (λ l. fieldsOf (take i ns) ++ l) (append-nil (fieldOf 6 (getD ns i 0)))
-
--- THE LENGTH OF A TABLE'S LINE
-pub table-length : (t : ℕ) (r : Table) → length (tableLine t r) ≡ tableWidth r
-table-length t r = simp length-append (omega (arith, fields-length (reads r), field-length 21 (r .truth)))
+use Rattle.list_line.specs.Writes.{wrote, pasted}
+use Rattle.list_line.specs.FieldLaws.{table-length}
+use Rattle.list_line.specs.Line.{tableWidth, topLine}
+use Rattle.listing.specs.Lines.{turnedDown, fitted, lineWritten, listWritten, tableLines, longest}
 
 -- ---- the list
 

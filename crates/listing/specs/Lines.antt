@@ -2,39 +2,25 @@
 -- 01, "List", with its refusals 14, 15 and 20 in their order. Definitions only: the laws are in LineLaws.
 use Prim.Native.Nat.{ℕ, suc, _+_, _*_}
 use mathlib.Core.Bool.{cond}
-use mathlib.Core.List.{List, [], _∷_, _++_}
+use mathlib.Core.List.{List}
 use lib.Dec.{leb}
 use lib.ListN.{length, getD}
 use Rattle.lists.specs.Lists.{gather, upto}
-use Rattle.decimal.specs.Columns.{fieldsOf}
-use Rattle.decimal.specs.Writing.{placed}
 use Rattle.table.specs.Limits.{inputRoom, tableRoom}
-use Rattle.table.specs.Records.{reads, blank}
-use Rattle.table.specs.declared.Table.{Table}
+use Rattle.table.specs.Records.{blank}
 use Rattle.part.specs.declared.Part.{Part}
 use Rattle.part.specs.SoundTest.{sound}
 use Rattle.part.specs.Listing.{tableLine, lineOf, listOf}
+pub use Rattle.list_line.specs.Writes.{Result, wrote, refused, Outcome, pasted}
 use Rattle.listing.specs.declared.Answer.{Answer}
 use Rattle.listing.specs.declared.Answer.the-variants.{Wrote, NotSound, NoLine, NoRoom}
 
--- so many bytes are written; or refused, with 01's number and place
-pub data Result : Type 0 where
-  wrote : ℕ → Result
-  refused : (number place : ℕ) → Result
-
+-- 01's number for each refusal
 abbrev pub resultOf : Answer → Result
 resultOf (Wrote count) = wrote count
 resultOf NotSound = refused 20 0
 resultOf NoLine = refused 15 0
 resultOf NoRoom = refused 14 0
-
-pub record Outcome : Type 0 where
-  pub result : Result
-  pub bytes : List ℕ
-
--- the new bytes stand from the place on, and all others are as they were
-abbrev pub pasted : List ℕ → ℕ → List ℕ → List ℕ
-pasted old at new = placed old at (length new) new
 
 -- turned down: no byte is altered
 abbrev pub turnedDown : ℕ → List ℕ → Outcome
@@ -52,17 +38,9 @@ lineWritten p line old at = cond (sound p) (cond (leb line (p .used)) (fitted ol
 abbrev pub listWritten : Part → List ℕ → ℕ → Outcome
 listWritten p old at = cond (sound p) (fitted old at (listOf p)) (turnedDown 20 old)
 
--- line 0 of a part with this K, this capacity and this used count
-abbrev pub topLine : ℕ → ℕ → ℕ → List ℕ
-topLine k capacity used = fieldsOf (k ∷ capacity ∷ used ∷ []) ++ 10 ∷ []
-
 -- the lines of the first n tables, one after another
 abbrev pub tableLines : Part → ℕ → List ℕ
 tableLines p n = gather (λ t. tableLine (suc t) (getD (p .tables) t blank)) (upto n)
-
--- the bytes of a table's line: three fields, a field an input, the truth table's columns and the line feed
-abbrev pub tableWidth : Table → ℕ
-tableWidth r = 40 + 6 * length (reads r)
 
 -- the bytes of the longest list of a sound part: line 0, and the lines of as many tables as a part has room for, each with as many inputs as
 -- a record has room for (`list-short` in LineLaws)

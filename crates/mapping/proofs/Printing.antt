@@ -23,11 +23,13 @@ use Rattle.part.specs.Sound.{Sound}
 use Rattle.part.specs.SoundLaws.{sound-reflects}
 use Rattle.part.specs.Listing.{listOf}
 use Rattle.part.specs.declared.Part.{Part}
-use Rattle.listing.specs.Lines.{Outcome, wrote, refused, resultOf, pasted, turnedDown, fitted, listWritten}
-use Rattle.listing.specs.LineLaws.{paste-one, paste-length, paste-next, fitted-out, fitted-in, list-there}
+use Rattle.list_line.specs.Writes.{Outcome, wrote, refused, pasted}
+use Rattle.listing.specs.Lines.{resultOf, turnedDown, fitted, listWritten}
+use Rattle.list_line.specs.PasteLaws.{paste-one, paste-length, paste-next}
+use Rattle.listing.specs.LineLaws.{fitted-out, fitted-in, list-there}
 use Rattle.listing.specs.declared.Answer.{Answer}
 use Rattle.listing.specs.declared.Answer.the-variants.{Wrote, NotSound, NoLine, NoRoom}
-use Rattle.listing.proofs.Written.{number-written}
+use Rattle.list_line.proofs.Written.{number-written}
 use Rattle.mapping.specs.Program.{refusalLine, WrittenAs}
 use Rattle.mapping.specs.declared.Printed.{Printed}
 use Rattle.mapping.specs.declared.Printed.the-variants.{Wrote as Printed-Wrote, NoRoom as Printed-NoRoom}

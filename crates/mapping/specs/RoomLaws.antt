@@ -13,7 +13,8 @@ use Rattle.demands.specs.AddLaws.{kept, outcome}
 use Rattle.part.specs.declared.Part.{Part}
 use Rattle.listing.specs.Lines as lines
 use Rattle.listing.specs.Lines.{longest}
-use Rattle.listing.specs.LineLaws.{list-short, fitted-in, paste-length}
+use Rattle.list_line.specs.PasteLaws.{paste-length}
+use Rattle.listing.specs.LineLaws.{list-short, fitted-in}
 use Rattle.mapping.specs.Program.{openingNumbers, openedBy, Mapped, ended, stopped, added, After, Prints, WrittenAs, Answered, AtFront}
 use Rattle.mapping.specs.ProgramLaws.{opened-good}
 use Rattle.mapping.specs.declared.Printed.{Printed}

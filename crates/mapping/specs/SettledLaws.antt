@@ -21,7 +21,8 @@ use Rattle.part.specs.Listing.{listOf}
 use Rattle.demands.specs.Settled.{Alike}
 use Rattle.demands.specs.SettledLaws.{alike-refl, answers-settled}
 use Rattle.part.specs.declared.Part.{Part}
-use Rattle.listing.specs.Lines.{topLine, tableLines}
+use Rattle.list_line.specs.Line.{topLine}
+use Rattle.listing.specs.Lines.{tableLines}
 use Rattle.listing.specs.LineLaws.{list-is}
 use Rattle.mapping.specs.Program.{openingNumbers, count, openedBy, refusalLine, After, Prints}
 use Rattle.mapping.specs.Runs.{Texts, end, stop, next, answers, usedCounts, firstRefusal, printedBy, Run, Settled, refusal, lists}

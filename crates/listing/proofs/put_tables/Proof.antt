@@ -8,8 +8,12 @@ use Rattle.table.specs.LoopLaws.{getD-any}
 use Rattle.table.specs.Records.{blank}
 use Rattle.part.proofs.Shape.{shaped, past}
 use Rattle.part.specs.Listing.{tableLine}
-use Rattle.listing.specs.Lines.{pasted, tableLines, tableWidth}
-use Rattle.listing.specs.LineLaws.{paste-none, paste-next, table-length, lines-next, lines-next-length, lines-more}
+use Rattle.list_line.specs.Writes.{pasted}
+use Rattle.list_line.specs.Line.{tableWidth}
+use Rattle.listing.specs.Lines.{tableLines}
+use Rattle.list_line.specs.PasteLaws.{paste-none, paste-next}
+use Rattle.list_line.specs.FieldLaws.{table-length}
+use Rattle.listing.specs.LineLaws.{lines-next, lines-next-length, lines-more}
 use Rattle.listing.proofs.put_tables.Statement.{statement}
 use Rattle.listing.proofs.put_tables.Tie as tie
 

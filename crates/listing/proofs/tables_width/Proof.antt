@@ -6,7 +6,8 @@ use lib.ListN.{length, getD}
 use Rattle.table.specs.LoopLaws.{getD-any}
 use Rattle.table.specs.Records.{blank}
 use Rattle.part.proofs.Shape.{shaped, past}
-use Rattle.listing.specs.Lines.{tableLines, tableWidth}
+use Rattle.list_line.specs.Line.{tableWidth}
+use Rattle.listing.specs.Lines.{tableLines}
 use Rattle.listing.specs.LineLaws.{lines-next-length}
 use Rattle.listing.proofs.tables_width.Statement.{statement}
 use Rattle.listing.proofs.tables_width.Tie as tie

@@ -11,8 +11,10 @@ use mathlib.Core.Bool.{true}
 use Rattle.part.specs.SoundTest.{sound}
 use Rattle.part.specs.Listing.{tableLine, lineOf}
 use Rattle.part.proofs.Shape.{shaped, past}
-use Rattle.listing.specs.Lines.{wrote, pasted, tableWidth}
-use Rattle.listing.specs.LineLaws.{table-length, fitted-out, fitted-in, line-unsound, line-absent, line-there, line-table, used-room}
+use Rattle.list_line.specs.Writes.{wrote, pasted}
+use Rattle.list_line.specs.Line.{tableWidth}
+use Rattle.list_line.specs.FieldLaws.{table-length}
+use Rattle.listing.specs.LineLaws.{fitted-out, fitted-in, line-unsound, line-absent, line-there, line-table, used-room}
 use borrow.Author.Needs.{needs}
 use Rattle.listing.proofs.write_line.Statement.{statement}
 use Rattle.listing.proofs.write_line.Tie as tie

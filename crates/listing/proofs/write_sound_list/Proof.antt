@@ -6,8 +6,11 @@ use borrow.Author.Tests.{not-true, not-false, leb-true}
 use denote.Ref.{now}
 use lib.Dec.{leb}
 use lib.ListN.{length, length-append}
-use Rattle.listing.specs.Lines.{wrote, topLine, tableLines}
-use Rattle.listing.specs.LineLaws.{paste-next, fitted-out, fitted-in, list-is, list-there, used-room}
+use Rattle.list_line.specs.Writes.{wrote}
+use Rattle.list_line.specs.Line.{topLine}
+use Rattle.listing.specs.Lines.{tableLines}
+use Rattle.list_line.specs.PasteLaws.{paste-next}
+use Rattle.listing.specs.LineLaws.{fitted-out, fitted-in, list-is, list-there, used-room}
 use borrow.Author.Needs.{needs}
 use Rattle.listing.proofs.write_sound_list.Statement.{statement}
 use Rattle.listing.proofs.write_sound_list.Tie as tie

@@ -4,10 +4,10 @@ use mathlib.Core.Path.{refl}
 use mathlib.Core.List.{_++_}
 use denote.Ref.{now}
 use Rattle.decimal.specs.Columns.{fieldOf}
-use Rattle.listing.specs.LineLaws.{paste-next}
+use Rattle.list_line.specs.PasteLaws.{paste-next}
 use borrow.Author.Needs.{needs}
-use Rattle.listing.proofs.put_three.Statement.{statement}
-use Rattle.listing.proofs.put_three.Tie as tie
+use Rattle.list_line.proofs.put_three.Statement.{statement}
+use Rattle.list_line.proofs.put_three.Tie as tie
 
 put-field-requires : tie.Need-put-field-requires
 put-field-requires c κs = search needs

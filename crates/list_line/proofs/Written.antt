@@ -8,7 +8,7 @@ use Rattle.decimal.specs.Columns.{fieldOf}
 use Rattle.decimal.specs.ColumnLaws.{reflects-room, field-length}
 use Rattle.decimal.specs.Writing.{Outcome, outcome, placed, fieldWrittenAt}
 use Rattle.decimal.specs.declared.Written.{Written}
-use Rattle.listing.specs.Lines.{pasted}
+use Rattle.list_line.specs.Writes.{pasted}
 
 pub number-written : (old new : List ℕ) (at width n : ℕ) {a : Written} → at + width ≤ length old → (0 < width) × (n < 10 ^ width) →
     record { answer = a; bytes = new } ≡ fieldWrittenAt old at width n → new ≡ pasted old at (fieldOf width n)

@@ -3,8 +3,8 @@ use mathlib.Core.Path.{sym, ap, _∙_}
 use native.Mathlib.Omega.{arith}
 use Rattle.table.proofs.Shape.{room, reads-count}
 use borrow.Author.Needs.{needs}
-use Rattle.listing.proofs.table_width.Statement.{statement}
-use Rattle.listing.proofs.table_width.Tie as tie
+use Rattle.list_line.proofs.table_width.Statement.{statement}
+use Rattle.list_line.proofs.table_width.Tie as tie
 
 in-use-requires : tie.Need-in-use-requires
 in-use-requires c κs = search needs

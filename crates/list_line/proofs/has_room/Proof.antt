@@ -3,8 +3,8 @@ use native.Mathlib.Omega.{arith}
 use mathlib.Core.Path.{sym}
 use borrow.Author.Tests.{lt-leb}
 use Rattle.lists.specs.TestLaws.{reflects-le, reflects-same}
-use Rattle.listing.proofs.has_room.Statement.{statement}
-use Rattle.listing.proofs.has_room.Tie as tie
+use Rattle.list_line.proofs.has_room.Statement.{statement}
+use Rattle.list_line.proofs.has_room.Tie as tie
 
 returns : tie.Need-returns
 returns c =

@@ -1,8 +1,8 @@
 use native.Mathlib.Omega.{arith}
 use borrow.Author.Needs.{needs}
-use Rattle.listing.proofs.Written.{number-written}
-use Rattle.listing.proofs.put_truth.Statement.{statement}
-use Rattle.listing.proofs.put_truth.Tie as tie
+use Rattle.list_line.proofs.Written.{number-written}
+use Rattle.list_line.proofs.put_truth.Statement.{statement}
+use Rattle.list_line.proofs.put_truth.Tie as tie
 
 write-at-requires : tie.Need-write-at-requires
 write-at-requires c κs = search needs

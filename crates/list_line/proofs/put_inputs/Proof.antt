@@ -5,10 +5,11 @@ use denote.Ref.{now}
 use lib.ListN.{length, getD, take}
 use lib.Seq.{length-take-le}
 use Rattle.decimal.specs.Columns.{fieldOf, fieldsOf}
-use Rattle.listing.specs.Lines.{pasted}
-use Rattle.listing.specs.LineLaws.{paste-none, paste-next, fields-length, fields-next}
-use Rattle.listing.proofs.put_inputs.Statement.{statement}
-use Rattle.listing.proofs.put_inputs.Tie as tie
+use Rattle.list_line.specs.Writes.{pasted}
+use Rattle.list_line.specs.PasteLaws.{paste-none, paste-next}
+use Rattle.list_line.specs.FieldLaws.{fields-length, fields-next}
+use Rattle.list_line.proofs.put_inputs.Statement.{statement}
+use Rattle.list_line.proofs.put_inputs.Tie as tie
 
 abbrev Inv-loop : tie.InvT-loop
 Inv-loop buf₀ at n inputs i₀ buf i =

@@ -4,10 +4,10 @@ use mathlib.Core.Path.{refl}
 use mathlib.Core.List.{[], _∷_}
 use denote.Ref.{now}
 use Rattle.decimal.specs.Columns.{fieldsOf}
-use Rattle.listing.specs.LineLaws.{paste-next}
+use Rattle.list_line.specs.PasteLaws.{paste-next}
 use borrow.Author.Needs.{needs}
-use Rattle.listing.proofs.put_top.Statement.{statement}
-use Rattle.listing.proofs.put_top.Tie as tie
+use Rattle.list_line.proofs.put_top.Statement.{statement}
+use Rattle.list_line.proofs.put_top.Tie as tie
 
 put-three-requires : tie.Need-put-three-requires
 put-three-requires c κs = search needs

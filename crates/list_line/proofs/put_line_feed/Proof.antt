@@ -1,9 +1,9 @@
 use native.Mathlib.Omega.{arith}
 use borrow.Author.Needs.{needs}
 use denote.Ref.{now}
-use Rattle.listing.specs.LineLaws.{paste-one}
-use Rattle.listing.proofs.put_line_feed.Statement.{statement}
-use Rattle.listing.proofs.put_line_feed.Tie as tie
+use Rattle.list_line.specs.PasteLaws.{paste-one}
+use Rattle.list_line.proofs.put_line_feed.Statement.{statement}
+use Rattle.list_line.proofs.put_line_feed.Tie as tie
 
 slice-write-buf : tie.Need-slice-write-buf
 slice-write-buf c = search needs

@@ -6,13 +6,14 @@ use lib.ListN.{length, take, length-append}
 use Rattle.table.specs.Records.{reads}
 use Rattle.table.proofs.Shape.{take-room}
 use Rattle.decimal.specs.Columns.{fieldOf, fieldsOf}
-use Rattle.listing.specs.Lines.{pasted}
-use Rattle.listing.specs.LineLaws.{paste-next, fields-length}
+use Rattle.list_line.specs.Writes.{pasted}
+use Rattle.list_line.specs.PasteLaws.{paste-next}
+use Rattle.list_line.specs.FieldLaws.{fields-length}
 use native.Mathlib.Omega.{arith}
 use Rattle.table.proofs.Shape.{room, reads-count}
 use borrow.Author.Needs.{needs}
-use Rattle.listing.proofs.put_table.Statement.{statement}
-use Rattle.listing.proofs.put_table.Tie as tie
+use Rattle.list_line.proofs.put_table.Statement.{statement}
+use Rattle.list_line.proofs.put_table.Tie as tie
 
 in-use-requires : tie.Need-in-use-requires
 in-use-requires c κs = search needs

@@ -1,0 +1,4 @@
+pub mod Writes
+pub mod Line
+pub mod PasteLaws
+pub mod FieldLaws
