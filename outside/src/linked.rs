@@ -13,7 +13,7 @@ extern "C" {
 }
 
 /// The bytes of the longest list: line 0 of three fields, and 800 lines of nine fields, 21 columns and a line feed. No input has more
-/// printed, so this much room is always enough: `prints-short` in crates/mapping/specs/RoomLaws.antt.
+/// printed, so this much room is always enough: `prints-short` in crates/program/specs/RoomLaws.antt.
 pub const LONGEST: usize = 60_819;
 
 /// What the mapping program prints for `input`, written to the front of `output`; `output` has `LONGEST` bytes or more.

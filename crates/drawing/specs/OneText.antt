@@ -44,11 +44,11 @@ cells-text (suc n) (b ∷ bs) xs e =
         let h : x ∷ ys ≡ xs = cc in
         sym (take-append-drop columns (b ∷ bs)) ∙ ap₂ _++_ (f x refl) (g ys refl) ∙ ap fieldsText h
 
-fields-text : (bytes : List ℕ) (xs : List Number) → fields bytes ≡ some xs → bytes ≡ fieldsText xs
+pub fields-text : (bytes : List ℕ) (xs : List Number) → fields bytes ≡ some xs → bytes ≡ fieldsText xs
 fields-text [] xs e = no-some e
 fields-text (b ∷ bs) xs e = cells-text mostFields (b ∷ bs) xs e
 
-line-text : (text : List ℕ) (p : List ℕ × List ℕ) (xs : List Number) → line text ≡ some p → p .0 ≡ fieldsText xs → text ≡ lineText xs ++ p .1
+pub line-text : (text : List ℕ) (p : List ℕ × List ℕ) (xs : List Number) → line text ≡ some p → p .0 ≡ fieldsText xs → text ≡ lineText xs ++ p .1
 line-text text p xs e h = line-cut text p e .whole ∙ ap (λ l. l ++ (10 ∷ p .1)) h ∙ sym (append-assoc (fieldsText xs) (10 ∷ []) (p .1))
 
 two-is : {A : Type 0} (xs : List A) (r : A × A × List A) → two xs ≡ some r → xs ≡ r .0 ∷ r .1 ∷ r .2

@@ -1,16 +1,16 @@
 // The mapping program: standard input is a line with K and the capacity, then sheets; it prints the part's list, or one line for the first
-// refusal. What it prints is what `mapping::print` gives for the bytes read, which are the whole input, or as much of it as decides what is
+// refusal. What it prints is what `program::print` gives for the bytes read, which are the whole input, or as much of it as decides what is
 // printed.
 ghost use mathlib.Core.Path.{_≡_};
 ghost use lib.ListN.{length};
 ghost use Rattle.io.specs.Counts.{Counts};
-ghost use Rattle.mapping.specs.Program.{room};
+ghost use Rattle.program_laws.specs.Front.{room};
 use libc::STDERR_FILENO;
 use libc::STDIN_FILENO;
 use libc::STDOUT_FILENO;
-use mapping::LONGEST;
+use program::LONGEST;
 
-// So many bytes of an input decide what is printed for it: `front-decides` in mapping/specs/FrontLaws. No more are read.
+// So many bytes of an input decide what is printed for it: `front-decides` in program_laws/specs/FrontLaws. No more are read.
 const ROOM: usize = 131072;
 
 // How many bytes were read, and whether a read failed.
@@ -65,7 +65,7 @@ fn read_all(fd: i32, buf: &mut [u8]) -> Got
 
 fn print(input: &[u8]) {
     let mut output = [0u8; LONGEST];
-    let n = mapping::print(input, &mut output);
+    let n = program::print(input, &mut output);
     if !io::write_all(STDOUT_FILENO, &output[..n]) {
         say(b"map: standard output cannot be written\n");
     }

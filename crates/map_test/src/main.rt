@@ -1,7 +1,7 @@
 // Runs the mapping program on each file that its arguments name, and prints the name and what the program prints. Of a file whose name
 // begins with "+" only the first line, K, capacity and used count: its list is long, or its covers are free.
 use libc::STDOUT_FILENO;
-use mapping::LONGEST;
+use program::LONGEST;
 
 // The bytes of a list's first line.
 const FIRST: usize = 19;
@@ -31,7 +31,7 @@ fn print_case(i: usize) {
 
 fn print_mapped(text: &[u8], short: bool) {
     let mut output = [0u8; LONGEST];
-    let n = mapping::print(text, &mut output);
+    let n = program::print(text, &mut output);
     if short {
         if n > FIRST {
             print(&output[..FIRST]);

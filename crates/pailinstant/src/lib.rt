@@ -2,11 +2,11 @@
 ghost use mathlib.Core.Path.{_≡_};
 ghost use Rattle.refusals.specs.Sentences.{refusalText, fitted};
 ghost use Rattle.pailinstant.specs.Calls.{PrintedInto};
-use mapping::Printed;
-use mapping::run;
+use program::Printed;
+use program::run;
 
 // Maps a whole input, as the mapping program does, and gives how many bytes it printed into the buffer: the list, or the line of the
-// first refusal. A buffer that is too short is left as it is, and gives 0; one with `mapping::LONGEST` bytes is never too short.
+// first refusal. A buffer that is too short is left as it is, and gives 0; one with `program::LONGEST` bytes is never too short.
 #[no_mangle]
 pub extern "C" fn pailinstant_map(input: &[u8], output: &mut [u8]) -> usize
     ensures { λ r. ⌜ PrintedInto (now (input .entry)) r (now (output .exit)) (now (output .entry)) ⌝ }

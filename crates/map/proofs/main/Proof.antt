@@ -1,5 +1,5 @@
 use borrow.Author.Needs.{needs}
-use Rattle.mapping.specs.Program.{room}
+use Rattle.program_laws.specs.Front.{room}
 use Rattle.map.proofs.main.Statement.{statement}
 use Rattle.map.proofs.main.Tie as tie
 

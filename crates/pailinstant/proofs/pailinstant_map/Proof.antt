@@ -1,5 +1,5 @@
 use mathlib.Core.Path.{sym, ap}
-use Rattle.mapping.specs.RoomLaws.{wrote-front, never-short}
+use Rattle.program.specs.RoomLaws.{wrote-front, never-short}
 use Rattle.pailinstant.specs.Calls.{bytes}
 use borrow.Author.Needs.{needs}
 use Rattle.pailinstant.proofs.pailinstant_map.Statement.{statement}

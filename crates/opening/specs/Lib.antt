@@ -1,0 +1,4 @@
+pub mod Opening
+pub mod Contracts
+pub mod OpeningLaws
+pub mod OpeningLine

@@ -1,0 +1,120 @@
+use Prim.Native.Nat.{_-_}
+use native.Mathlib.Omega.{arith}
+use borrow.Author.Needs.{needs}
+use lib.ListN.{length}
+use Rattle.sheet.specs.Answers.{drawnSheet}
+use Rattle.sheet.specs.Formed.{WellFormed}
+use Rattle.part.proofs.Shape.{shaped}
+use Rattle.program.specs.ProgramLaws.{number-some, SoFar, so-far-start, so-far-more, few-sheets, on-the-way, ended-stop, ended-all, Stepped, next-formed, stepped-refused, stepped-offered}
+use Rattle.program.proofs.add_sheets.Statement.{statement}
+use Rattle.program.proofs.add_sheets.Tie as tie
+
+abbrev Inv-loop : tie.InvT-loop
+Inv-loop input start added₀ at₀ sheet₀ added at sheet = SoFar input (added₀ .part) start (added .part) at sheet
+
+abbrev μ-loop : tie.MeasureT-loop
+μ-loop input start added₀ at₀ sheet₀ added at sheet = length input - at
+
+-- ---- the next sheet: what it asks of an offer, and what comes of it
+
+sheet-offered : (c : tie.After-enum-told Inv-loop μ-loop) → WellFormed (drawnSheet (c .before .before .read-next .result .sheet))
+sheet-offered c =
+    let n = c .before .before in
+    let l = n .before .before in
+    next-formed (l .before .before .args .input .now) (l .loop .added .part) (l .loop .at) (l .loop .inv .sound) (l .loop .inv .shaped) (omega arith) (n .read-next .result) (n .read-next .ensures) (c .enum-told .given .1)
+
+sheet-stepped : (c : tie.After-tell-adding Inv-loop μ-loop) → let o = c .before in let n = o .before .before .before .before .before in let l = n .before .before in
+    Stepped (l .before .before .args .input .now) (l .loop .added .part) (l .loop .at) (o .offer .result .part) (c .tell-adding .result) (n .read-next .result .end)
+sheet-stepped c =
+    let o = c .before in
+    let t = o .before .before .before in
+    let n = t .before .before in
+    let l = n .before .before in
+    stepped-offered (l .before .before .args .input .now) (l .loop .added .part) (l .loop .at) (l .loop .inv .sound) (l .loop .inv .shaped) (omega arith) (n .read-next .result) (n .read-next .ensures) (t .enum-told .given .1)
+    (o .offer .result .part) _ (c .tell-adding .result) (o .offer .ensures) (c .tell-adding .ensures)
+
+-- ---- the needs
+
+loop-holds : tie.Need-loop-holds Inv-loop μ-loop
+loop-holds c =
+    let a = c .before .args in
+    let t = c .before .good .0 .1 .1 .1 .1 .1 .0 in
+    so-far-start (a .input .now) (a .opened) (a .start) (shaped (a .opened) (t .0) (t .1 .0 .1) (t .1 .1)) (c .before .pre)
+
+add-sheet : tie.Need-add-sheet Inv-loop μ-loop
+add-sheet c = record { fits = omega (arith, few-sheets (c .before .loop .inv)) }
+
+read-next-requires : tie.Need-read-next-requires Inv-loop μ-loop
+read-next-requires c κs = search needs
+
+enum-known-answer : tie.Need-enum-known-answer Inv-loop μ-loop
+enum-known-answer c = search needs
+
+number-requires : tie.Need-number-requires Inv-loop μ-loop
+number-requires c κs = search needs
+
+returns : tie.Need-returns Inv-loop μ-loop
+returns c =
+    let d = c .before .before .before in
+    let g = d .answer .given in
+    let n = d .before .before in
+    let l = n .before .before in
+    ended-stop (l .loop .inv) (l .loop .added .part) (record { number = c .before .number .result; line = g .0 .1 .0 }) (n .read-next .result .end) (omega arith)
+    (stepped-refused (l .before .before .args .input .now) (l .loop .added .part) (l .loop .at) (l .loop .inv .sound) (l .loop .inv .shaped) (omega arith) (n .read-next .result) (n .read-next .ensures) (g .0 .0) (g .0 .1 .0) (c .before .number .result) (g .1) (c .before .number .ensures))
+    (λ z. omega (arith, number-some (g .0 .0), c .before .number .ensures, z))
+
+enum-told : tie.Need-enum-told Inv-loop μ-loop
+enum-told c = search needs
+
+offer-requires : tie.Need-offer-requires Inv-loop μ-loop
+offer-requires c κs = (c .before .before .before .before .before .before .loop .inv .sound, sheet-offered (c .before .before))
+
+tell-adding-requires : tie.Need-tell-adding-requires Inv-loop μ-loop
+tell-adding-requires c κs = search needs
+
+returns-2 : tie.Need-returns-2 Inv-loop μ-loop
+returns-2 c =
+    let a = c .before .before .before in
+    let o = a .before in
+    let n = o .before .before .before .before .before in
+    let l = n .before .before in
+    ended-stop (l .loop .inv) (o .offer .result .part) (a .tell-adding .result) (n .read-next .result .end) (omega arith) (sheet-stepped a) (c .before .if1 .taken)
+
+loop-less : tie.Need-loop-less Inv-loop μ-loop
+loop-less c =
+    let a = c .before .before in
+    let o = a .before in
+    let n = o .before .before .before .before .before in
+    let l = n .before .before in
+    omega (arith, on-the-way (l .loop .inv) (o .offer .result .part) (a .tell-adding .result) (n .read-next .result .end) (omega arith) (sheet-stepped a) (c .if1 .left))
+
+loop-again : tie.Need-loop-again Inv-loop μ-loop
+loop-again c =
+    let a = c .before .before in
+    let o = a .before in
+    let n = o .before .before .before .before .before in
+    let l = n .before .before in
+    so-far-more (l .loop .inv) (o .offer .result .part) (a .tell-adding .result) (n .read-next .result .end) (omega arith) (sheet-stepped a) (c .if1 .left)
+
+returns-3 : tie.Need-returns-3 Inv-loop μ-loop
+returns-3 c = ended-all (c .before .before .loop .inv) (omega arith)
+
+pub add-sheets-spec : {M : Type 1} → statement M
+add-sheets-spec =
+    tie.close
+    (tie.spec
+    Inv-loop
+    μ-loop
+    loop-holds
+    add-sheet
+    read-next-requires
+    enum-known-answer
+    number-requires
+    returns
+    enum-told
+    offer-requires
+    tell-adding-requires
+    returns-2
+    loop-less
+    loop-again
+    returns-3)

@@ -1,0 +1,4 @@
+pub mod Program
+pub mod Contracts
+pub mod ProgramLaws
+pub mod RoomLaws
