@@ -1,13 +1,12 @@
--- What adding a sheet to a part leaves behind, and a part made by adding sheets one after the other.
--- Definitions only: the laws are in AddedTables, AddedLaws and HistoryLaws.
+-- What adding a sheet to a part leaves behind. Definitions only: the laws are in AddedTables and AddedLaws.
 use Prim.Native.Nat.{ℕ, _+_, _<_}
 use mathlib.Core.Path.{_≡_}
 use mathlib.Core.Logic.{_≢_}
 use mathlib.Core.Bool.{Bool}
-use mathlib.Core.List.{List, [], _∷_, _++_}
+use mathlib.Core.List.{List}
 use lib.ListN.{length}
 use Rattle.lists.specs.Lists.{_∈_, Every, Distinct, Permuted}
-use Rattle.tree.specs.Tree.{Node, leaves, turned, value}
+use Rattle.tree.specs.Tree.{Node, leaves}
 use Rattle.cover.specs.Cover.{Cover, CoverOf, Least}
 use Rattle.cover.specs.Tables.{Table, numbered}
 use Rattle.cover.specs.Placed.{number, records}
@@ -42,13 +41,3 @@ pub record AddedLeast (base K : ℕ) (old new : List Table) (s : Sheet) : Type 0
 -- no table drives or reads the sheet's output net
 abbrev pub Fresh : Sheet → List Table → Type 0
 Fresh s = Every (λ r. (r .drives ≢ s .out) × (¬ (s .out ∈ r .inputs)))
-
--- a part made by adding sheets, and those sheets, the last one first
-pub data History (base K : ℕ) : List Table → List Sheet → Type 0 where
-  start : History base K [] []
-  add : {old new : List Table} {s : Sheet} {ss : List Sheet} → History base K old ss → Added base K old new s → Fresh s old →
-      History base K (old ++ new) (s ∷ ss)
-
--- in the values `e`, the sheet's output net has its value
-abbrev pub Met : (ℕ → Bool) → Sheet → Type 0
-Met e s = e (s .out) ≡ turned (s .inverted) (value (s .tree) e)

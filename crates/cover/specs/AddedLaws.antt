@@ -17,7 +17,8 @@ use Rattle.cover.specs.Placed.{number}
 use Rattle.cover.specs.Value.{root-value}
 use Rattle.cover.specs.Inputs.{Tidy}
 use Rattle.cover.specs.AddedTables.{added-tidy}
-use Rattle.cover.specs.Added.{Sheet, Added, Fresh, Met}
+use Rattle.cover.specs.Added.{Sheet, Added, Fresh}
+use Rattle.cover.specs.History.{Met}
 
 -- a tree looks at nothing but its leaves
 mutual

@@ -9,7 +9,8 @@ use Rattle.lists.specs.Lists.{Every}
 use Rattle.lists.specs.ListLaws.{every-none, every-cons, every-append, every-left, every-right}
 use Rattle.cover.specs.Tables.{Table, numbered, settled}
 use Rattle.cover.specs.Eval.{numbered-append, settled-append, Holds, uses}
-use Rattle.cover.specs.Added.{Sheet, History, start, add, Met}
+use Rattle.cover.specs.Added.{Sheet}
+use Rattle.cover.specs.History.{History, start, Met, add}
 use Rattle.cover.specs.AddedLaws.{new-low, new-holds, holds-met, old-holds}
 
 module _ (base K : ℕ) where

@@ -11,6 +11,7 @@ pub mod Size
 pub mod Rising
 pub mod Whole
 pub mod Added
+pub mod History
 pub mod AddedTables
 pub mod AddedLaws
 pub mod HistoryLaws

@@ -2,8 +2,9 @@
 -- Definitions only: the laws are in ColumnLaws and FieldLaws.
 use Prim.Native.Nat.{ℕ, zero, suc, _+_, _-_, _/_, _%_, _^_}
 use mathlib.Core.Bool.{Bool, not, cond, _&&_}
-use mathlib.Core.List.{List, [], _∷_}
+use mathlib.Core.List.{List, [], _∷_, _++_}
 use lib.Dec.{ltb}
+use lib.ListN.{take, drop}
 use Rattle.lists.specs.Lists.{gather}
 use Rattle.decimal.specs.Number.{Number, columns}
 
@@ -35,3 +36,9 @@ signedColumn n j = cond (n .negative && room j (n .magnitude) && not (room (j - 
 abbrev pub signedFieldOf : ℕ → Number → List ℕ
 signedFieldOf zero n = []
 signedFieldOf (suc width) n = signedColumn n width ∷ signedFieldOf width n
+
+-- ---- in a longer line
+
+-- the line with the field of so many columns that starts at a place
+abbrev pub placed : List ℕ → ℕ → ℕ → List ℕ → List ℕ
+placed old at width field = take at old ++ (field ++ drop (at + width) old)

@@ -2,11 +2,11 @@
 -- Definitions only: the laws are in WritingLaws.
 use Prim.Native.Nat.{ℕ, _+_, _-_, _%_, _^_, _≤_, _<_}
 use mathlib.Core.Bool.{Bool, true, false, not, cond, _&&_}
-use mathlib.Core.List.{List, _++_}
+use mathlib.Core.List.{List}
 use lib.Dec.{leb, eqb}
-use lib.ListN.{length, take, drop}
+use lib.ListN.{length}
 use Rattle.decimal.specs.Number.{Number}
-use Rattle.decimal.specs.Columns.{room, fieldOf, signedRoom, signedFieldOf}
+use Rattle.decimal.specs.Columns.{room, fieldOf, signedRoom, signedFieldOf, placed}
 use Rattle.decimal.specs.declared.Written.{Written}
 use Rattle.decimal.specs.declared.Written.the-variants.{Done, TooWide}
 
@@ -26,10 +26,7 @@ fieldWritten old n = outcome (room (length old) n) (fieldOf (length old) n) old
 abbrev pub signedWritten : List ℕ → Number → Outcome
 signedWritten old n = outcome (signedRoom (length old) n) (signedFieldOf (length old) n) old
 
--- a number into the field of so many columns that starts at a place of a longer line
-abbrev pub placed : List ℕ → ℕ → ℕ → List ℕ → List ℕ
-placed old at width field = take at old ++ (field ++ drop (at + width) old)
-
+-- and into the field of so many columns that starts at a place of a longer line
 abbrev pub fieldWrittenAt : List ℕ → ℕ → ℕ → ℕ → Outcome
 fieldWrittenAt old at width n = outcome (leb (at + width) (length old) && room width n) (placed old at width (fieldOf width n)) old
 

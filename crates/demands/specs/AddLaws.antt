@@ -23,7 +23,8 @@ use Rattle.part.specs.Sound.{Sound}
 use Rattle.part.specs.SoundTest.{sound}
 use Rattle.part.specs.SoundLaws.{sound-reflects}
 use Rattle.part.specs.Sheets.{Reading, sheet, refused as unread, readOf}
-use Rattle.part.specs.Adds.{Answer, accepted, refused, Result, empty, opened, isDriven, isRead, Refused, Accepted, Take, Add}
+use Rattle.part.specs.Answers.{Answer, accepted, refused, Result, empty}
+use Rattle.part.specs.Adds.{opened, isDriven, isRead, Refused, Accepted, Take, Add}
 use Rattle.demands.specs.Nets.{Driven, Read}
 use Rattle.demands.specs.ExtendLaws.{every-replicate, every-numbered, extended-shaped, extended-sound}
 use Rattle.part.specs.declared.Part.{Part}

@@ -9,7 +9,7 @@ use Rattle.sheet.specs.Step.{_>>=_, require, given}
 use Rattle.sheet.specs.Checks.{bytes}
 use Rattle.part.specs.Parts.{blanks}
 use Rattle.part.specs.SoundTest.{sound}
-use Rattle.part.specs.Adds.{Answer, accepted, refused}
+use Rattle.part.specs.Answers.{Answer, accepted, refused}
 use Rattle.demands.specs.Settled.{leastNumber, answerOf}
 use Rattle.part.specs.Sheets.{readOf}
 use Rattle.part.specs.Examples.{part}

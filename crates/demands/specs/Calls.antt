@@ -4,7 +4,8 @@ use Prim.Native.Nat.{ℕ}
 use mathlib.Core.List.{List, [], _∷_, _++_}
 use Rattle.cover.specs.Added.{Sheet}
 use Rattle.part.specs.Sheets.{Reading, sheet, refused as unread, readOf}
-use Rattle.part.specs.Adds.{Answer, accepted, refused, Result, Add}
+use Rattle.part.specs.Answers.{Answer, accepted, refused, Result}
+use Rattle.part.specs.Adds.{Add}
 use Rattle.part.specs.declared.Part.{Part}
 
 -- a call that takes a part and hands one back

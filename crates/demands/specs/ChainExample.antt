@@ -17,7 +17,8 @@ use Rattle.sheet.specs.Checks.{bytes}
 use Rattle.part.specs.Parts.{blanks}
 use Rattle.part.specs.SoundTest.{sound}
 use Rattle.part.specs.Sheets.{sheet, readOf}
-use Rattle.part.specs.Adds.{accepted, Result, opened, extended, Add}
+use Rattle.part.specs.Answers.{accepted, Result}
+use Rattle.part.specs.Adds.{opened, extended, Add}
 use Rattle.demands.specs.Calls.{add, final, Chain, call}
 use Rattle.part.specs.Examples.{part}
 use Rattle.part.specs.declared.Part.{Part}

@@ -18,7 +18,8 @@ use Rattle.part.specs.Sound.{Sound}
 use Rattle.part.specs.SoundTest.{sound}
 use Rattle.part.specs.SoundLaws.{sound-reflects}
 use Rattle.part.specs.Sheets.{Reading, sheet, readOf}
-use Rattle.part.specs.Adds.{Answer, accepted, refused, opened, isDriven, isRead, Add}
+use Rattle.part.specs.Answers.{Answer, accepted, refused}
+use Rattle.part.specs.Adds.{opened, isDriven, isRead, Add}
 use Rattle.demands.specs.AddLaws.{driven-reflects, read-reflects, opened-cases, Outcome, unsound, misread, driven, read, full, taken, outcome, not-refused, refused-stays}
 use Rattle.demands.specs.Settled as Settled
 use Rattle.demands.specs.Settled.{leastNumber, answerOf}

@@ -12,7 +12,8 @@ use Rattle.cover.specs.Added.{Sheet}
 use Rattle.part.specs.Parts.{inUse, tablesOf, Shaped}
 use Rattle.part.specs.Sound.{Sound}
 use Rattle.part.specs.Sheets.{Reading, sheet, refused as unread, readOf}
-use Rattle.part.specs.Adds.{Answer, accepted, refused, Result, Refused, Accepted}
+use Rattle.part.specs.Answers.{Answer, accepted, refused, Result}
+use Rattle.part.specs.Adds.{Refused, Accepted}
 use Rattle.part.specs.declared.Part.{Part}
 use Rattle.demands.specs.ReadingLaws.{refused-below}
 use Rattle.demands.specs.ExtendLaws.{extended-inUse, extended-tables}

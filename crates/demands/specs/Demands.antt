@@ -20,7 +20,8 @@ use Rattle.table.specs.Rules.{IsNet}
 use Rattle.part.specs.Parts.{inUse, tablesOf, Shaped}
 use Rattle.part.specs.Sound.{Sound}
 use Rattle.part.specs.Sheets.{sheet, refused as unread, readOf}
-use Rattle.part.specs.Adds.{Answer, accepted, refused, Result, empty, opened, Add}
+use Rattle.part.specs.Answers.{Answer, accepted, refused, Result, empty}
+use Rattle.part.specs.Adds.{opened, Add}
 use Rattle.part.specs.Listing.{lineOf, listOf}
 use Rattle.part.specs.declared.Part.{Part}
 use Rattle.list_line.specs.Writes as Writes

@@ -26,7 +26,8 @@ use Rattle.part.specs.SoundLaws.{sound-reflects}
 use Rattle.part.specs.Sheets.{Reading, sheet, refused as unread, readOf}
 use Rattle.demands.specs.Readable.{Readable}
 use Rattle.demands.specs.ReadingLaws.{reads-right}
-use Rattle.part.specs.Adds.{Answer, accepted, refused, Result, extended, isRead, Refused, Accepted, Fill, Offer, Take, Add}
+use Rattle.part.specs.Answers.{Answer, accepted, refused, Result}
+use Rattle.part.specs.Adds.{extended, isRead, Refused, Accepted, Fill, Offer, Take, Add}
 use Rattle.demands.specs.AddLaws.{driven-reflects, read-reflects}
 use Rattle.demands.specs.Calls.{Call, add, Promise, Chain, call}
 use Rattle.demands.specs.Settled.{leastNumber}

@@ -10,7 +10,8 @@ use Rattle.table.specs.Rules.{IsNet}
 use Rattle.part.specs.Parts.{tablesOf}
 use Rattle.part.specs.SoundTest.{sound}
 use Rattle.part.specs.Sheets.{Reading, sheet, refused as unread}
-use Rattle.part.specs.Adds.{Answer, accepted, refused, isDriven, isRead}
+use Rattle.part.specs.Answers.{Answer, accepted, refused}
+use Rattle.part.specs.Adds.{isDriven, isRead}
 use Rattle.part.specs.declared.Part.{Part}
 
 -- the number that the search finds, which is the least number of a sheet that was read (`least-number` in SettledLaws)

@@ -21,7 +21,8 @@ use Rattle.part.specs.Sound.{Sound}
 use Rattle.part.specs.SoundTest.{sound}
 use Rattle.part.specs.SoundLaws.{sound-reflects}
 use Rattle.part.specs.Sheets.{Reading, sheet, refused as unread, readOf}
-use Rattle.part.specs.Adds.{Answer, accepted, refused, Result, isDriven, isRead, Refused, Accepted, Fill, Offer, Take, Add}
+use Rattle.part.specs.Answers.{Answer, accepted, refused, Result}
+use Rattle.part.specs.Adds.{isDriven, isRead, Refused, Accepted, Fill, Offer, Take, Add}
 use Rattle.demands.specs.ExtendLaws.{extended-tables, extended-sound}
 use Rattle.demands.specs.Nets.{Driven, Read}
 use Rattle.demands.specs.AddLaws.{driven-reflects, read-reflects, Outcome, unsound, misread, driven, read, full, taken as took, outcome, not-refused}

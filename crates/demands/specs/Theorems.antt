@@ -10,7 +10,8 @@ use Rattle.lists.specs.Lists.{Every}
 use Rattle.lists.specs.ListLaws.{every-none, every-cons}
 use Rattle.part.specs.Parts.{tablesOf, Shaped}
 use Rattle.part.specs.Sound.{Sound}
-use Rattle.part.specs.Adds.{accepted, refused, Result, opened, Add}
+use Rattle.part.specs.Answers.{accepted, refused, Result}
+use Rattle.part.specs.Adds.{opened, Add}
 use Rattle.part.specs.Adding.{addingAnswer, addedResult}
 use Rattle.part.specs.declared.Part.{Part}
 use Rattle.part.specs.declared.Added.{Added}

@@ -9,7 +9,8 @@ use lib.ListN.{length, length-take}
 use Rattle.lists.specs.Lists.{_∈_, first, later, Every}
 use Rattle.lists.specs.ListLaws.{every-none, every-cons, every-append}
 use Rattle.cover.specs.Tables.{Table as LookupTable}
-use Rattle.cover.specs.Added.{Sheet, History, start, Met}
+use Rattle.cover.specs.Added.{Sheet}
+use Rattle.cover.specs.History.{History, start, Met}
 use Rattle.cover.specs.HistoryLaws.{history-met}
 use Rattle.sheet.specs.Sheet.{DrawnSheet, sheet as drew}
 use Rattle.sheet.specs.Read.{readSheet}
@@ -20,7 +21,8 @@ use Rattle.table.specs.Records.{tableOf}
 use Rattle.part.specs.Parts.{inUse, tablesOf, Shaped}
 use Rattle.part.specs.Sound.{Sound}
 use Rattle.part.specs.Sheets.{readOf}
-use Rattle.part.specs.Adds.{Answer, accepted, refused, Result, opened, Refused}
+use Rattle.part.specs.Answers.{Answer, accepted, refused, Result}
+use Rattle.part.specs.Adds.{opened, Refused}
 use Rattle.demands.specs.ReadingLaws.{drawn-back}
 use Rattle.demands.specs.ExtendLaws.{every-map, extended-tables}
 use Rattle.demands.specs.AddLaws.{opened-shaped, opened-empty, Outcome, unsound, misread, driven, read, full, taken, outcome}

@@ -6,7 +6,8 @@ use lib.ListN.{length}
 use Rattle.lists.specs.TestLaws.{reflects-le, reflects-and, reflects-true}
 use Rattle.decimal.specs.Columns.{fieldOf}
 use Rattle.decimal.specs.ColumnLaws.{reflects-room, field-length}
-use Rattle.decimal.specs.Writing.{Outcome, outcome, placed, fieldWrittenAt}
+use Rattle.decimal.specs.Writing.{Outcome, outcome, fieldWrittenAt}
+use Rattle.decimal.specs.Columns.{placed}
 use Rattle.decimal.specs.declared.Written.{Written}
 use Rattle.list_line.specs.Writes.{pasted}
 

@@ -2,7 +2,7 @@
 use Prim.Native.Nat.{ℕ}
 use mathlib.Core.List.{List}
 use lib.ListN.{length}
-use Rattle.decimal.specs.Writing.{placed}
+use Rattle.decimal.specs.Columns.{placed}
 
 -- so many bytes are written; or refused, with 01's number and place
 pub data Result : Type 0 where

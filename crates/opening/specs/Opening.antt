@@ -6,7 +6,8 @@ use mathlib.Core.List.{List}
 use lib.Dec.{eqb}
 use lib.ListN.{getD, take, drop}
 use Rattle.decimal.specs.Number.{Number, columns, fieldNumber}
-use Rattle.part.specs.Adds.{refused, Result, empty, opened}
+use Rattle.part.specs.Answers.{refused, Result, empty}
+use Rattle.part.specs.Adds.{opened}
 
 -- ---- the opening line: two fields and a line feed
 

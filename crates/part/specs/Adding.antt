@@ -11,7 +11,7 @@ use Rattle.cover.specs.Added.{Sheet}
 use Rattle.table.specs.declared.Table.{Table}
 use Rattle.table.specs.Records.{reads}
 use Rattle.mapper_laws.specs.declared.Mapping.{Mapping}
-use Rattle.part.specs.Adds.{Answer, accepted, refused, Result}
+use Rattle.part.specs.Answers.{Answer, accepted, refused, Result}
 use Rattle.part.specs.declared.Part.{Part}
 use Rattle.part.specs.declared.Added.{Added}
 use Rattle.part.specs.declared.Adding.{Adding}

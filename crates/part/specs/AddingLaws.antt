@@ -34,7 +34,8 @@ use Rattle.part.specs.Sound.{Sound}
 use Rattle.part.specs.SoundTest.{sound}
 use Rattle.part.specs.SoundLaws.{sound-reflects, used-count}
 use Rattle.part.specs.Sheets.{readOf}
-use Rattle.part.specs.Adds.{Answer, accepted, refused, extended, isDriven, isRead, Offer, Add}
+use Rattle.part.specs.Answers.{Answer, accepted, refused}
+use Rattle.part.specs.Adds.{extended, isDriven, isRead, Offer, Add}
 use Rattle.part.specs.Adding.{addingAnswer, sheetOf, withTable, stored}
 use Rattle.part.specs.declared.Part.{Part}
 use Rattle.part.specs.declared.Adding.{Adding}

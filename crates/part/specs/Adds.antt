@@ -12,25 +12,13 @@ use Rattle.cover.specs.Tables.{Table as LookupTable}
 use Rattle.cover.specs.Added.{Sheet, AddedLeast}
 use Rattle.table.specs.Limits.{tableBase, inputRoom, tableRoom}
 use Rattle.table.specs.Records.{recordOf}
-use Rattle.part.specs.Parts.{blanks, inUse, tablesOf}
+use Rattle.part.specs.Parts.{inUse, tablesOf}
 use Rattle.part.specs.SoundTest.{sound}
 use Rattle.part.specs.Sheets.{Reading, sheet, refused as unread, readOf}
+use Rattle.part.specs.Answers.{Answer, accepted, refused, Result, empty}
 use Rattle.part.specs.declared.Part.{Part}
 
-pub data Answer : Type 0 where
-  accepted : Answer
-  refused : (number place : ℕ) → Answer
-
--- what a call hands back
-pub record Result : Type 0 where
-  pub part : Part
-  pub answer : Answer
-
 -- ---- opening
-
--- a part of no tables
-abbrev pub empty : ℕ → ℕ → Part
-empty k capacity = record { k = k; capacity = capacity; used = 0; tables = blanks }
 
 -- the answer of an opening, and its part: all zeros where it is turned down
 abbrev pub opened : ℕ → ℕ → Result

@@ -2,6 +2,7 @@ pub mod Parts
 pub mod Sound
 pub mod SoundTest
 pub mod Sheets
+pub mod Answers
 pub mod Adds
 pub mod Openings
 pub mod Adding

@@ -1,5 +1,5 @@
 -- What the answer of an opening says: 01's number and place for each case. Definitions only.
-use Rattle.part.specs.Adds.{Answer, accepted, refused, Result}
+use Rattle.part.specs.Answers.{Answer, accepted, refused, Result}
 use Rattle.part.specs.declared.Opened.{Opened}
 use Rattle.part.specs.declared.Opening.{Opening}
 use Rattle.part.specs.declared.Opening.the-variants.{Accepted, KOutOfRange, CapacityOutOfRange}

@@ -8,7 +8,8 @@ use lib.ListN.{length, drop}
 use Rattle.decimal.specs.Number.{columns}
 use Rattle.decimal.specs.Columns.{fieldsOf, signedFieldOf}
 use Rattle.sheet.specs.Cut.{sheetText}
-use Rattle.part.specs.Adds.{accepted, refused, Result, Add}
+use Rattle.part.specs.Answers.{accepted, refused, Result}
+use Rattle.part.specs.Adds.{Add}
 use Rattle.part.specs.Listing.{listOf}
 use Rattle.part.specs.declared.Part.{Part}
 use Rattle.opening.specs.Opening.{openingNumbers, openedBy}

@@ -26,7 +26,8 @@ use Rattle.sheet.specs.declared.Answer.the-variants.{Accepted as Read, Refused 
 use Rattle.sheet.specs.declared.Next.{Next}
 use Rattle.part.specs.Parts.{Shaped}
 use Rattle.part.specs.Sound.{Sound}
-use Rattle.part.specs.Adds.{Answer, accepted, refused, Result, Offer, Add}
+use Rattle.part.specs.Answers.{Answer, accepted, refused, Result}
+use Rattle.part.specs.Adds.{Offer, Add}
 use Rattle.demands.specs.AddLaws.{Outcome, unsound, misread, driven, read, full, taken, outcome, kept, opened-shaped, opened-sound}
 use Rattle.demands.specs.AddLaws.{not-refused}
 use Rattle.part.specs.Adding.{sheetOf}

@@ -8,7 +8,7 @@ use lib.Seq.{take-at, drop-at}
 use borrow.Author.Tests.{le-leb}
 use Rattle.part.specs.Parts.{Shaped}
 use Rattle.part.specs.Sound.{Sound}
-use Rattle.part.specs.Adds.{Answer, accepted, refused}
+use Rattle.part.specs.Answers.{Answer, accepted, refused}
 use Rattle.demands.specs.AddLaws.{kept, outcome}
 use Rattle.part.specs.declared.Part.{Part}
 use Rattle.listing.specs.Lines as lines

@@ -6,7 +6,8 @@ use mathlib.Core.Option.{some}
 use mathlib.Core.List.{List, [], _∷_}
 use lib.ListN.{length, drop}
 use Rattle.decimal.specs.Number.{Number}
-use Rattle.part.specs.Adds.{accepted, refused, Result, opened}
+use Rattle.part.specs.Answers.{accepted, refused, Result}
+use Rattle.part.specs.Adds.{opened}
 use Rattle.demands.specs.AddLaws.{opened-shaped}
 use Rattle.demands.specs.Calls.{Call, Chain, done, call}
 use Rattle.demands.specs.Theorems.{demand-2, demand-3}

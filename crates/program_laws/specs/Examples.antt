@@ -8,7 +8,7 @@ use mathlib.Core.List.{List, [], _∷_, _++_, map}
 use Rattle.sheet.specs.Step.{_>>=_, require, given}
 use Rattle.sheet.specs.Checks.{bytes}
 use Rattle.sheet.specs.Cut.{sheetText}
-use Rattle.part.specs.Adds.{accepted, refused}
+use Rattle.part.specs.Answers.{accepted, refused}
 use Rattle.demands.specs.Calls.{add}
 use Rattle.part.specs.declared.Part.{Part}
 use Rattle.opening.specs.Opening.{openingNumbers, openedBy}

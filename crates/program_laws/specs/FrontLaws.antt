@@ -21,7 +21,8 @@ use Rattle.sheet.specs.FrontLaws.{sheetRoom, front-read, front-rest}
 use Rattle.table.specs.Limits.{tableRoom}
 use Rattle.part.specs.Parts.{Shaped}
 use Rattle.part.specs.Sound.{Sound}
-use Rattle.part.specs.Adds.{Answer, accepted, refused, Result, Add}
+use Rattle.part.specs.Answers.{Answer, accepted, refused, Result}
+use Rattle.part.specs.Adds.{Add}
 use Rattle.part.specs.Sheets.{readOf}
 use Rattle.demands.specs.AddLaws.{kept, outcome}
 use Rattle.demands.specs.Calls.{add, call, done, here}

@@ -7,7 +7,8 @@ use mathlib.Core.List.{List, [], _∷_, map}
 use lib.ListN.{length, take, drop}
 use Rattle.decimal.specs.Number.{Number}
 use Rattle.sheet.specs.Cut.{sheetText}
-use Rattle.part.specs.Adds.{Answer, accepted, refused, Result, opened}
+use Rattle.part.specs.Answers.{Answer, accepted, refused, Result}
+use Rattle.part.specs.Adds.{opened}
 use Rattle.demands.specs.Calls.{Call, add, final, Chain}
 use Rattle.demands.specs.Demands.{Demand2, Demand3}
 use Rattle.part.specs.Listing.{listOf}

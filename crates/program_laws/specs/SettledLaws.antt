@@ -13,7 +13,8 @@ use Rattle.decimal.specs.FieldLaws.{field-read, signed-read}
 use Rattle.sheet.specs.Cut.{sheetText}
 use Rattle.part.specs.Parts.{Shaped}
 use Rattle.part.specs.Sound.{Sound}
-use Rattle.part.specs.Adds.{Answer, accepted, refused, Result, opened, Add}
+use Rattle.part.specs.Answers.{Answer, accepted, refused, Result}
+use Rattle.part.specs.Adds.{opened, Add}
 use Rattle.demands.specs.AddLaws.{kept, outcome, opened-shaped, opened-sound, not-refused}
 use Rattle.demands.specs.Calls.{Call, add, final, Chain, done, call}
 use Rattle.demands.specs.CountLaws.{call-kept}

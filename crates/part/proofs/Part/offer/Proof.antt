@@ -11,7 +11,8 @@ use Rattle.table.specs.declared.Table.{Table}
 use Rattle.table.specs.Limits.{tableRoom}
 use Rattle.mapper_laws.specs.declared.Mapping.{Mapping}
 use Rattle.part.specs.Parts.{tablesOf, Shaped}
-use Rattle.part.specs.Adds.{accepted, isDriven, isRead, Offer}
+use Rattle.part.specs.Answers.{accepted}
+use Rattle.part.specs.Adds.{isDriven, isRead, Offer}
 use Rattle.part.specs.Adding.{sheetOf}
 use Rattle.part.specs.AddingLaws.{used-padded, Looked, looked-none, looked-more, looked-all, offer-driven, offer-read, offer-full, offer-stored, offer-same}
 use Rattle.part.specs.declared.Part.{Part}

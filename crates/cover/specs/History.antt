@@ -1,0 +1,18 @@
+-- A part made by adding sheets one after the other, and the value that each is to have. Definitions only: the laws are in HistoryLaws.
+use Prim.Native.Nat.{ℕ}
+use mathlib.Core.Path.{_≡_}
+use mathlib.Core.Bool.{Bool}
+use mathlib.Core.List.{List, [], _∷_, _++_}
+use Rattle.tree.specs.Tree.{turned, value}
+use Rattle.cover.specs.Tables.{Table}
+use Rattle.cover.specs.Added.{Sheet, Added, Fresh}
+
+-- a part made by adding sheets, and those sheets, the last one first
+pub data History (base K : ℕ) : List Table → List Sheet → Type 0 where
+  start : History base K [] []
+  add : {old new : List Table} {s : Sheet} {ss : List Sheet} → History base K old ss → Added base K old new s → Fresh s old →
+      History base K (old ++ new) (s ∷ ss)
+
+-- in the values `e`, the sheet's output net has its value
+abbrev pub Met : (ℕ → Bool) → Sheet → Type 0
+Met e s = e (s .out) ≡ turned (s .inverted) (value (s .tree) e)
