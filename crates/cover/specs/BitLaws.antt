@@ -11,9 +11,9 @@ use lib.Dec.{eqb}
 use lib.ListN.{length}
 use lib.Pow.{shr-shr}
 use Rattle.lists.specs.Cases.{by-eqb}
-use Rattle.lists.specs.Lists.{_∈_}
+use Rattle.lists.specs.Trusted.Lists.{_∈_}
 use Rattle.lists.specs.ListLaws.{not-first}
-use Rattle.cover.specs.Bits.{bit, digit, truthOf, index, place}
+use Rattle.cover.specs.Trusted.Bits.{bit, digit, truthOf, index, place}
 
 low : (b : Bool) (n : ℕ) → bit (digit b n) 0 ≡ b
 low true n =

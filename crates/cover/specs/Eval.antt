@@ -7,11 +7,11 @@ use mathlib.Core.Bool.{Bool, cond}
 use mathlib.Core.List.{List, [], _∷_, _++_, map}
 use lib.ListN.{length, length-map}
 use Rattle.lists.specs.Cases.{by-eqb}
-use Rattle.lists.specs.Lists.{_∈_, first, later, Every}
+use Rattle.lists.specs.Trusted.Lists.{_∈_, first, later, Every}
 use Rattle.lists.specs.ListLaws.{not-first, every-none, every-cons, every-head, every-tail, every-left, every-right}
-use Rattle.cover.specs.Bits.{bit, index, place}
+use Rattle.cover.specs.Trusted.Bits.{bit, index, place}
 use Rattle.cover.specs.BitLaws.{bit-truthOf, index-lt, bit-index}
-use Rattle.cover.specs.Tables.{Table, output, tabled, Placed, numbered, driven, put, writes, step, run, settled}
+use Rattle.cover.specs.Trusted.Tables.{Table, output, tabled, Placed, numbered, driven, put, writes, step, run, settled}
 
 -- `d` and `e` have the same values at the codes
 abbrev pub Agree : (ℕ → Bool) → (ℕ → Bool) → List ℕ → Type 0

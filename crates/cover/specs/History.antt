@@ -3,9 +3,9 @@ use Prim.Native.Nat.{ℕ}
 use mathlib.Core.Path.{_≡_}
 use mathlib.Core.Bool.{Bool}
 use mathlib.Core.List.{List, [], _∷_, _++_}
-use Rattle.tree.specs.Tree.{turned, value}
-use Rattle.cover.specs.Tables.{Table}
-use Rattle.cover.specs.Added.{Sheet, Added, Fresh}
+use Rattle.tree.specs.Trusted.Tree.{turned, value}
+use Rattle.cover.specs.Trusted.Tables.{Table}
+use Rattle.cover.specs.Trusted.CoverTables.{Sheet, Added, Fresh}
 
 -- a part made by adding sheets, and those sheets, the last one first
 pub data History (base K : ℕ) : List Table → List Sheet → Type 0 where

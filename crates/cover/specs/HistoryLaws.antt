@@ -5,13 +5,13 @@ use native.Mathlib.Omega.{arith}
 use mathlib.Core.Bool.{Bool}
 use mathlib.Core.List.{List}
 use lib.ListN.{length}
-use Rattle.lists.specs.Lists.{Every}
+use Rattle.lists.specs.Trusted.Lists.{Every}
 use Rattle.lists.specs.ListLaws.{every-none, every-cons, every-append, every-left, every-right}
-use Rattle.cover.specs.Tables.{Table, numbered, settled}
+use Rattle.cover.specs.Trusted.Tables.{Table, numbered, settled}
 use Rattle.cover.specs.Eval.{numbered-append, settled-append, Holds, uses}
-use Rattle.cover.specs.Added.{Sheet}
+use Rattle.cover.specs.Trusted.CoverTables.{Sheet}
 use Rattle.cover.specs.History.{History, start, Met, add}
-use Rattle.cover.specs.AddedLaws.{new-low, new-holds, holds-met, old-holds}
+use Rattle.cover.specs.AddLaws.{new-low, new-holds, holds-met, old-holds}
 
 module _ (base K : ℕ) where
   -- no table uses a later one

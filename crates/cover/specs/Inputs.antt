@@ -5,15 +5,15 @@ use mathlib.Core.Path.{_≡_, refl}
 use mathlib.Core.Logic.{_⊎_, inl, inr}
 use mathlib.Core.Bool.{Bool, false}
 use mathlib.Core.List.{List, [], _++_, Memᴰ·append-right}
-use Rattle.lists.specs.Lists.{_∈_, first, Every}
+use Rattle.lists.specs.Trusted.Lists.{_∈_, first, Every}
 use Rattle.lists.specs.ListLaws.{every-none, every-cons, every-head, every-append, every-left, every-right, permuted-to, permuted-from}
 use Rattle.lists.specs.NumberLaws.{sorted-permuted}
 use Rattle.tree.specs.declared.Kind.{Kind}
-use Rattle.tree.specs.Tree.{Node, leaves}
-use Rattle.cover.specs.Cover.{Cover, net, top, Fanins, end, old, new, SplitOf, Rooted, rooted}
+use Rattle.tree.specs.Trusted.Tree.{Node, leaves}
+use Rattle.cover.specs.Trusted.Cover.{Cover, net, top, Fanins, end, old, new, SplitOf, Rooted, rooted}
 use Rattle.cover.specs.Nets.{nets, nets*, split-nets}
-use Rattle.cover.specs.Tables.{Table, Placed}
-use Rattle.cover.specs.Placed.{number, placed, code, codes, codes*, tableOf, records, records*}
+use Rattle.cover.specs.Trusted.Tables.{Table, Placed}
+use Rattle.cover.specs.Trusted.Placed.{number, placed, code, codes, codes*, tableOf, records, records*}
 
 -- the table drives nothing or, if it is the table m, the net n; and its inputs have the property P
 abbrev pub Tidy : ℕ → ℕ → (ℕ → Type 0) → Placed → Type 0

@@ -1,8 +1,5 @@
-pub mod Cover
+pub mod Trusted
 pub mod Nets
-pub mod Bits
-pub mod Tables
-pub mod Placed
 pub mod BitLaws
 pub mod Eval
 pub mod Value
@@ -10,8 +7,7 @@ pub mod Inputs
 pub mod Size
 pub mod Rising
 pub mod Whole
-pub mod Added
 pub mod History
-pub mod AddedTables
-pub mod AddedLaws
 pub mod HistoryLaws
+pub mod CoverTableLaws
+pub mod AddLaws

@@ -6,10 +6,10 @@ use mathlib.Core.Path.{_≡_, refl, ap}
 use mathlib.Core.Bool.{Bool}
 use mathlib.Core.List.{List, [], _∷_, _++_}
 use lib.ListN.{length, length-append}
-use Rattle.lists.specs.Lists.{Permuted, empty, gather}
+use Rattle.lists.specs.Trusted.Lists.{Permuted, empty, gather}
 use Rattle.lists.specs.ListLaws.{permuted-refl, permuted-trans, permuted-append, permuted-length, gather-append, gather-inserted}
-use Rattle.tree.specs.Tree.{Node, Edges, leaves, leaves*}
-use Rattle.cover.specs.Cover.{
+use Rattle.tree.specs.Trusted.Tree.{Node, Edges, leaves, leaves*}
+use Rattle.cover.specs.Trusted.Cover.{
   Cover,
   net,
   top,

@@ -8,14 +8,14 @@ use mathlib.Core.Logic.{by-cases}
 use mathlib.Core.Bool.{Bool, false}
 use mathlib.Core.List.{List, [], _∷_, _++_, append-nil}
 use Rattle.lists.specs.Cases.{by-eqb}
-use Rattle.lists.specs.Lists.{Every, Sorted, Rising, Distinct, Permuted, sum}
+use Rattle.lists.specs.Trusted.Lists.{Every, Sorted, Rising, Distinct, Permuted, sum}
 use Rattle.lists.specs.ListLaws.{every-none, every-cons, every-append}
 use Rattle.lists.specs.NumberLaws.{sum-append, sum-permuted, one-if, is, times, sorted-permuted, sorted-sorted, no-times, distinct-times, sorted-rising}
 use Rattle.tree.specs.declared.Kind.{Kind}
-use Rattle.tree.specs.Tree.{Node, leaves}
-use Rattle.cover.specs.Cover.{Cover, net, top, Fanins, end, old, new, SplitOf}
-use Rattle.cover.specs.Tables.{Table, Placed, numbered}
-use Rattle.cover.specs.Placed.{code, codes, codes*, tableOf, placed, records, records*}
+use Rattle.tree.specs.Trusted.Tree.{Node, leaves}
+use Rattle.cover.specs.Trusted.Cover.{Cover, net, top, Fanins, end, old, new, SplitOf}
+use Rattle.cover.specs.Trusted.Tables.{Table, Placed, numbered}
+use Rattle.cover.specs.Trusted.Placed.{code, codes, codes*, tableOf, placed, records, records*}
 use Rattle.cover.specs.Nets.{nets, nets*, split-nets}
 
 module _ (base x : ℕ) where

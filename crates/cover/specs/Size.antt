@@ -6,16 +6,16 @@ use mathlib.Core.Path.{_≡_, refl, sym, _∙_}
 use mathlib.Core.Bool.{Bool, false}
 use mathlib.Core.List.{List, [], _++_}
 use lib.ListN.{length, length-append}
-use Rattle.lists.specs.Lists.{Every, sorted}
+use Rattle.lists.specs.Trusted.Lists.{Every, sorted}
 use Rattle.lists.specs.ListLaws.{every-none, every-cons, every-append, permuted-length}
 use Rattle.lists.specs.NumberLaws.{sorted-permuted}
 use Rattle.tree.specs.declared.Kind.{Kind}
-use Rattle.tree.specs.Tree.{turned}
-use Rattle.cover.specs.Bits.{bit, place}
+use Rattle.tree.specs.Trusted.Tree.{turned}
+use Rattle.cover.specs.Trusted.Bits.{bit, place}
 use Rattle.cover.specs.BitLaws.{truthOf-lt}
-use Rattle.cover.specs.Cover.{Cover, net, top, Fanins, end, old, new, pick, arity, tables, tables*, width, widths, Fits, Fits*}
-use Rattle.cover.specs.Tables.{Table, Placed}
-use Rattle.cover.specs.Placed.{code, codes, codes*, held*, tableOf, placed, records, records*}
+use Rattle.cover.specs.Trusted.Cover.{Cover, net, top, Fanins, end, old, new, pick, arity, tables, tables*, width, widths, Fits, Fits*}
+use Rattle.cover.specs.Trusted.Tables.{Table, Placed}
+use Rattle.cover.specs.Trusted.Placed.{code, codes, codes*, held*, tableOf, placed, records, records*}
 
 -- 2 to K inputs, and no bit in the truth table but at an index of theirs
 pub record Sized (K : ℕ) (p : Placed) : Type 0 where

@@ -4,16 +4,16 @@ use Prim.Native.Nat.{ℕ, zero, suc, _+_, _<_}
 use mathlib.Core.Path.{_≡_, refl, sym, ap, ap₂, _∙_}
 use mathlib.Core.Bool.{Bool, true, false}
 use mathlib.Core.List.{List, [], _∷_, _++_}
-use Rattle.lists.specs.Lists.{later, Every, Inserted, here, there, sorted}
+use Rattle.lists.specs.Trusted.Lists.{later, Every, Inserted, here, there, sorted}
 use Rattle.lists.specs.ListLaws.{every-none, every-cons, every-head, every-tail, every-append, every-left, every-right, inserted-from, permuted-from}
 use Rattle.lists.specs.NumberLaws.{sorted-permuted}
 use Rattle.tree.specs.declared.Kind.{Kind}
 use Rattle.tree.specs.declared.Kind.the-variants.{And as and, Or as or}
-use Rattle.tree.specs.Tree.{Node, Edges, turned, meet, unit, value, values}
-use Rattle.cover.specs.Cover.{Cover, net, top, Fanins, end, old, new, pick, frontier, SplitOf, same, split, Matched, done, match, Rooted, rooted}
-use Rattle.cover.specs.Tables.{output}
+use Rattle.tree.specs.Trusted.Tree.{Node, Edges, turned, meet, unit, value, values}
+use Rattle.cover.specs.Trusted.Cover.{Cover, net, top, Fanins, end, old, new, pick, frontier, SplitOf, same, split, Matched, done, match, Rooted, rooted}
+use Rattle.cover.specs.Trusted.Tables.{output}
 use Rattle.cover.specs.Eval.{Agree, tabled-output, in-driven, Holds}
-use Rattle.cover.specs.Placed.{placed, code, codes, codes*, held, held*, tableOf, records, records*}
+use Rattle.cover.specs.Trusted.Placed.{placed, code, codes, codes*, held, held*, tableOf, records, records*}
 
 module _ (base : ℕ) where
   -- ---- what a gate holds looks at nothing but its codes, so that its table has that value

@@ -6,14 +6,14 @@ use mathlib.Core.Path.{_≡_, refl, ap, ap₂, _∙_}
 use mathlib.Core.Bool.{Bool}
 use mathlib.Core.List.{List, [], _∷_, _++_}
 use lib.ListN.{length}
-use Rattle.lists.specs.Lists.{Every, sorted}
+use Rattle.lists.specs.Trusted.Lists.{Every, sorted}
 use Rattle.lists.specs.ListLaws.{every-none, permuted-trans}
 use Rattle.lists.specs.NumberLaws.{sorted-permuted, sorted-sorted, sorted-only}
 use Rattle.tree.specs.declared.Kind.{Kind}
-use Rattle.tree.specs.Tree.{Node, gate, Edges, leaves, leaves*, turned, value}
-use Rattle.cover.specs.Cover.{Cover, net, top, Fanins, end, old, new, pick, frontier, tables, tables*, SplitOf, split, Matched, Rooted, rooted, CoverOf}
-use Rattle.cover.specs.Tables.{Table, Placed, tabled}
-use Rattle.cover.specs.Placed.{number, code, codes, codes*, tableOf, records, records*}
+use Rattle.tree.specs.Trusted.Tree.{Node, gate, Edges, leaves, leaves*, turned, value}
+use Rattle.cover.specs.Trusted.Cover.{Cover, net, top, Fanins, end, old, new, pick, frontier, tables, tables*, SplitOf, split, Matched, Rooted, rooted, CoverOf}
+use Rattle.cover.specs.Trusted.Tables.{Table, Placed, tabled}
+use Rattle.cover.specs.Trusted.Placed.{number, code, codes, codes*, tableOf, records, records*}
 use Rattle.cover.specs.Value.{gate-held}
 use Rattle.cover.specs.Nets.{nets, nets*, split-nets}
 use Rattle.cover.specs.Size.{records-length*}

@@ -9,10 +9,10 @@ use lib.Dec.{eqb}
 use lib.ListN.{length, take, drop}
 use lib.Seq.{take-append-seam, drop-append-seam}
 use Rattle.lists.specs.Cases.{by-eqb}
-use Rattle.lists.specs.Lists.{Every}
+use Rattle.lists.specs.Trusted.Lists.{Every}
 use Rattle.lists.specs.ListLaws.{every-head, every-tail}
 use Rattle.lists.specs.TestLaws.{Reflects, reflects-lt, reflects-and, by-reflects}
-use Rattle.decimal.specs.Columns.{room, column, fieldOf, fieldsOf}
+use Rattle.decimal.specs.Trusted.Columns.{room, column, fieldOf, fieldsOf}
 
 pub reflects-room : (width n : ℕ) → Reflects (room width n) ((0 < width) × (n < 10 ^ width))
 reflects-room width n = reflects-and (reflects-lt 0 width) (reflects-lt n (10 ^ width))

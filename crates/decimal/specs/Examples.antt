@@ -6,8 +6,8 @@ use mathlib.Core.Option.{Option, none, some}
 use mathlib.Core.List.{[], _∷_, map}
 use lib.IntN.{pos, negsuc}
 use lib.ListN.{replicate}
-use Rattle.decimal.specs.Number.{Number, fieldNumber}
-use Rattle.decimal.specs.Columns.{fieldOf, signedRoom, signedFieldOf}
+use Rattle.decimal.specs.Trusted.Number.{Number, fieldNumber}
+use Rattle.decimal.specs.Trusted.Columns.{fieldOf, signedRoom, signedFieldOf}
 use Rattle.decimal.specs.Reading.{numberOf}
 
 plus : ℕ → Option Number

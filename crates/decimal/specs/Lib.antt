@@ -1,8 +1,7 @@
-pub mod Number
+pub mod Trusted
 pub mod NumberLaws
 pub mod Reading
 pub mod ReadingLaws
-pub mod Columns
 pub mod ColumnLaws
 pub mod FieldLaws
 pub mod Writing

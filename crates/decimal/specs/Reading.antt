@@ -8,7 +8,7 @@ use mathlib.Core.List.{List}
 use lib.IntN.{ℤ, pos, negℤ, natAbs}
 use lib.ListN.{length, drop}
 use lib.Signed.{nonNeg}
-use Rattle.decimal.specs.Number.{Number, signed, number, fieldNumber}
+use Rattle.decimal.specs.Trusted.Number.{Number, signed, number, fieldNumber}
 use Rattle.decimal.specs.declared.Field.{Field}
 use Rattle.decimal.specs.declared.Field.the-variants.{Value, NoNumber}
 use Rattle.decimal.specs.declared.Parsed.{Parsed}

@@ -9,9 +9,9 @@ use mir.Syntax.{w32}
 use mir.Val.{SFits, toZ, ofZ}
 use mir.Facts.{toZ-ofZ}
 use lib.IntN.{ℤ, pos, negsuc, negℤ}
-use Rattle.decimal.specs.Number.{Number, columns, fieldNumber, Within}
+use Rattle.decimal.specs.Trusted.Number.{Number, columns, fieldNumber, Within}
 use Rattle.decimal.specs.NumberLaws.{Given, field-given, field-within}
-use Rattle.decimal.specs.Columns.{fieldOf, signedFieldOf}
+use Rattle.decimal.specs.Trusted.Columns.{fieldOf, signedFieldOf}
 use Rattle.decimal.specs.FieldLaws.{field-read, signed-read}
 use Rattle.decimal.specs.Reading.{valueOf, numberOf, answerOf, fieldRead}
 use Rattle.decimal.specs.declared.Field.the-variants.{Value, NoNumber}

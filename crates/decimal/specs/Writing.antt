@@ -5,8 +5,8 @@ use mathlib.Core.Bool.{Bool, true, false, not, cond, _&&_}
 use mathlib.Core.List.{List}
 use lib.Dec.{leb, eqb}
 use lib.ListN.{length}
-use Rattle.decimal.specs.Number.{Number}
-use Rattle.decimal.specs.Columns.{room, fieldOf, signedRoom, signedFieldOf, placed}
+use Rattle.decimal.specs.Trusted.Number.{Number}
+use Rattle.decimal.specs.Trusted.Columns.{room, fieldOf, signedRoom, signedFieldOf, placed}
 use Rattle.decimal.specs.declared.Written.{Written}
 use Rattle.decimal.specs.declared.Written.the-variants.{Done, TooWide}
 

@@ -7,11 +7,11 @@ use mathlib.Core.List.{List}
 use lib.ListN.{length}
 use borrow.Author.Tests.{le-leb}
 use Rattle.lists.specs.TestLaws.{reflects-true}
-use Rattle.decimal.specs.Number.{Number, Within}
-use Rattle.decimal.specs.Columns.{room, fieldOf, signedRoom, signedFieldOf}
+use Rattle.decimal.specs.Trusted.Number.{Number, Within}
+use Rattle.decimal.specs.Trusted.Columns.{room, fieldOf, signedRoom, signedFieldOf}
 use Rattle.decimal.specs.ColumnLaws.{reflects-room}
 use Rattle.decimal.specs.Writing.{outcome, fieldWritten, signedWrittenAt}
-use Rattle.decimal.specs.Columns.{placed}
+use Rattle.decimal.specs.Trusted.Columns.{placed}
 use Rattle.decimal.specs.declared.Written.the-variants.{Done}
 
 pub written : (old : List ℕ) (n : ℕ) → 0 < length old → n < 10 ^ length old → fieldWritten old n ≡ record { answer = Done; bytes = fieldOf (length old) n }

@@ -2,7 +2,7 @@
 ghost use mathlib.Core.Path.{_≡_};
 ghost use Prim.Native.Nat.{_+_, _≤_};
 ghost use lib.ListN.{length, drop};
-ghost use Rattle.decimal.specs.Number.{columns, digits, natural, signed};
+ghost use Rattle.decimal.specs.Trusted.Number.{columns, digits, natural, signed};
 ghost use Rattle.decimal.specs.Reading.{answerOf, fieldRead, parsed, Skipped};
 use decimal::COLUMNS;
 use decimal::Field;

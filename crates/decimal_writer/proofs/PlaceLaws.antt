@@ -9,7 +9,7 @@ use lib.ListN.{length, take}
 use borrow.Author.Tests.{le-leb, lt-leb}
 use borrow.Rule.Slice.PartMut.{midOf, putMid, mid-len, post-is, put-same}
 use Rattle.decimal.specs.Writing.{outcome}
-use Rattle.decimal.specs.Columns.{placed}
+use Rattle.decimal.specs.Trusted.Columns.{placed}
 use Rattle.decimal.specs.declared.Written.{Written}
 use Rattle.decimal.specs.declared.Written.the-variants.{Done, TooWide}
 

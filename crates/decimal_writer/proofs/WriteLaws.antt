@@ -10,8 +10,8 @@ use lib.ListN.{length, drop, set, length-set}
 use lib.Seq.{drop-cons, drop-set-lt, getD-set-same}
 use Rattle.lists.specs.Cases.{by-eqb, by-leb}
 use Rattle.lists.specs.TestLaws.{reflects-eq, reflects-not, reflects-and, reflects-same, reflects-true, by-reflects}
-use Rattle.decimal.specs.Columns.{room, column, fieldOf, signedFieldOf}
-use Rattle.decimal.specs.Number.{Number}
+use Rattle.decimal.specs.Trusted.Columns.{room, column, fieldOf, signedFieldOf}
+use Rattle.decimal.specs.Trusted.Number.{Number}
 use Rattle.decimal.specs.ColumnLaws.{reflects-room, ten-pos}
 use Rattle.decimal.specs.FieldLaws.{plain-field, minus-digits}
 use Rattle.decimal.specs.Writing.{outcome, fieldWritten, signedWritten, digitOf, DigitCount}

@@ -1,7 +1,7 @@
 // The writer of a field: a number right-justified after blanks, into a whole field or into a part of a longer line.
 ghost use mathlib.Core.Path.{_≡_};
 ghost use lib.ListN.{length};
-ghost use Rattle.decimal.specs.Columns.{fieldOf};
+ghost use Rattle.decimal.specs.Trusted.Columns.{fieldOf};
 ghost use Rattle.decimal.specs.Reading.{numberOf};
 ghost use Rattle.decimal.specs.Writing.{fieldWritten, signedWritten, fieldWrittenAt, signedWrittenAt, digitOf, DigitCount};
 use decimal::Written;

@@ -6,26 +6,26 @@ use mathlib.Core.Bool.{cond}
 use mathlib.Core.List.{List}
 use lib.Dec.{eqb}
 use lib.ListN.{length, length-replicate}
-use Rattle.lists.specs.Lists.{Every}
-use Rattle.lists.specs.Tests.{elem, within}
+use Rattle.lists.specs.Trusted.Lists.{Every}
+use Rattle.lists.specs.Trusted.Tests.{elem, within}
 use Rattle.lists.specs.TestLaws.{Reflects, reflects-le, reflects-eq, reflects-any, reflects-elem, reflects-within, by-reflects, by-either}
-use Rattle.cover.specs.Cover.{Least}
+use Rattle.cover.specs.Trusted.Cover.{Least}
 use Rattle.plan.specs.Least.{least-unique}
-use Rattle.cover.specs.Tables.{Table as LookupTable}
-use Rattle.cover.specs.Added.{Sheet, Fresh}
-use Rattle.cover.specs.AddedTables.{added-sized}
-use Rattle.table.specs.Limits.{tableBase, inputRoom, tableRoom, KRange, CapacityRange}
-use Rattle.table.specs.Records.{blank}
-use Rattle.table.specs.Rules.{Blank}
+use Rattle.cover.specs.Trusted.Tables.{Table as LookupTable}
+use Rattle.cover.specs.Trusted.CoverTables.{Sheet, Fresh}
+use Rattle.cover.specs.CoverTableLaws.{added-sized}
+use Rattle.table.specs.Trusted.Limits.{tableBase, inputRoom, tableRoom, KRange, CapacityRange}
+use Rattle.table.specs.Trusted.Records.{blank}
+use Rattle.table.specs.Trusted.Rules.{Blank}
 use Rattle.table.specs.TestedLaws.{no-records}
-use Rattle.part.specs.Parts.{blanks, tablesOf, Shaped}
-use Rattle.part.specs.Sound.{Sound}
-use Rattle.part.specs.SoundTest.{sound}
+use Rattle.part.specs.Trusted.Parts.{blanks, tablesOf, Shaped}
+use Rattle.part.specs.Trusted.Sound.{Sound}
+use Rattle.part.specs.Trusted.SoundTest.{sound}
 use Rattle.part.specs.SoundLaws.{sound-reflects}
-use Rattle.part.specs.Sheets.{Reading, sheet, refused as unread, readOf}
-use Rattle.part.specs.Answers.{Answer, accepted, refused, Result, empty}
-use Rattle.part.specs.Adds.{opened, isDriven, isRead, Refused, Accepted, Take, Add}
-use Rattle.demands.specs.Nets.{Driven, Read}
+use Rattle.part.specs.Trusted.Reading.{Reading, sheet, refused as unread, readOf}
+use Rattle.part.specs.Trusted.Answers.{Answer, accepted, refused, Result, empty}
+use Rattle.part.specs.Trusted.Add.{opened, isDriven, isRead, Refused, Accepted, Take, Add}
+use Rattle.demands.specs.Trusted.Nets.{Driven, Read}
 use Rattle.demands.specs.ExtendLaws.{every-replicate, every-numbered, extended-shaped, extended-sound}
 use Rattle.part.specs.declared.Part.{Part}
 

@@ -5,26 +5,26 @@ use native.Mathlib.Omega.{arith}
 use mathlib.Core.Path.{_≡_, refl}
 use mathlib.Core.Bool.{true, false}
 use mathlib.Core.List.{List, [], _∷_}
-use Rattle.lists.specs.Lists.{Every, here}
+use Rattle.lists.specs.Trusted.Lists.{Every, here}
 use Rattle.lists.specs.ListLaws.{every-none, every-cons, permuted-refl}
 use Rattle.tree.specs.declared.Kind.the-variants.{And as and, Or as or}
-use Rattle.tree.specs.Tree.{leaf, gate, none, edge}
-use Rattle.cover.specs.Cover.{Cover, net, top, end, old, Rooted, rooted, tables, CoverOf, Least, same, split, done, match}
-use Rattle.cover.specs.Tables.{Table as LookupTable}
-use Rattle.cover.specs.Added.{Sheet, AddedLeast}
-use Rattle.sheet.specs.Step.{_>>=_, require, given}
+use Rattle.tree.specs.Trusted.Tree.{leaf, gate, none, edge}
+use Rattle.cover.specs.Trusted.Cover.{Cover, net, top, end, old, Rooted, rooted, tables, CoverOf, Least, same, split, done, match}
+use Rattle.cover.specs.Trusted.Tables.{Table as LookupTable}
+use Rattle.cover.specs.Trusted.CoverTables.{Sheet, AddedLeast}
+use Rattle.sheet.specs.Trusted.Step.{_>>=_, require, given}
 use Rattle.sheet.specs.Checks.{bytes}
-use Rattle.part.specs.Parts.{blanks}
-use Rattle.part.specs.SoundTest.{sound}
-use Rattle.part.specs.Sheets.{sheet, readOf}
-use Rattle.part.specs.Answers.{accepted, Result}
-use Rattle.part.specs.Adds.{opened, extended, Add}
-use Rattle.demands.specs.Calls.{add, final, Chain, call}
+use Rattle.part.specs.Trusted.Parts.{blanks}
+use Rattle.part.specs.Trusted.SoundTest.{sound}
+use Rattle.part.specs.Trusted.Reading.{sheet, readOf}
+use Rattle.part.specs.Trusted.Answers.{accepted, Result}
+use Rattle.part.specs.Trusted.Add.{opened, extended, Add}
+use Rattle.demands.specs.Trusted.Calls.{add, final, Chain, call}
 use Rattle.part.specs.Examples.{part}
 use Rattle.part.specs.declared.Part.{Part}
-use Rattle.demands.specs.Calls as calls
-use Rattle.demands.specs.Demands as Demands
-use Rattle.demands.specs.Demands.{Total, more}
+use Rattle.demands.specs.Trusted.Calls as calls
+use Rattle.demands.specs.Trusted.Demands as Demands
+use Rattle.demands.specs.Trusted.Demands.{Total, more}
 
 -- net 20 = (1 or 2) and (3 or 4), and net 21 = not (20 and not 5)
 abbrev first : Sheet

@@ -8,29 +8,29 @@ use mathlib.Core.List.{List}
 use lib.Dec.{leb}
 use lib.ListN.{length}
 use Rattle.lists.specs.TestLaws.{Reflects, reflects-le, reflects-true, by-reflects}
-use Rattle.cover.specs.Cover.{Least}
+use Rattle.cover.specs.Trusted.Cover.{Least}
 use Rattle.plan.specs.Least.{least-unique}
-use Rattle.cover.specs.Added.{Sheet, Fresh}
-use Rattle.table.specs.Limits.{KRange, CapacityRange}
+use Rattle.cover.specs.Trusted.CoverTables.{Sheet, Fresh}
+use Rattle.table.specs.Trusted.Limits.{KRange, CapacityRange}
 use Rattle.part.specs.declared.Part.{Part}
-use Rattle.part.specs.Parts.{tablesOf}
-use Rattle.part.specs.Sound.{Sound}
-use Rattle.part.specs.SoundTest.{sound}
+use Rattle.part.specs.Trusted.Parts.{tablesOf}
+use Rattle.part.specs.Trusted.Sound.{Sound}
+use Rattle.part.specs.Trusted.SoundTest.{sound}
 use Rattle.part.specs.SoundLaws.{sound-reflects}
-use Rattle.part.specs.Sheets.{Reading, sheet, readOf}
-use Rattle.part.specs.Answers.{Answer, accepted, refused}
-use Rattle.part.specs.Adds.{opened, isDriven, isRead, Add}
+use Rattle.part.specs.Trusted.Reading.{Reading, sheet, readOf}
+use Rattle.part.specs.Trusted.Answers.{Answer, accepted, refused}
+use Rattle.part.specs.Trusted.Add.{opened, isDriven, isRead, Add}
 use Rattle.demands.specs.AddLaws.{driven-reflects, read-reflects, opened-cases, Outcome, unsound, misread, driven, read, full, taken, outcome, not-refused, refused-stays}
 use Rattle.demands.specs.Settled as Settled
 use Rattle.demands.specs.Settled.{leastNumber, answerOf}
 use Rattle.demands.specs.ReadingLaws.{reads-right}
 use Rattle.demands.specs.SettledLaws.{least-number, add-answer}
-use Rattle.part.specs.Listing.{lineOf, listOf}
-use Rattle.list_line.specs.Writes as Writes
-use Rattle.list_line.specs.Writes.{wrote, pasted}
+use Rattle.part.specs.Trusted.Listing.{lineOf, listOf}
+use Rattle.list_line.specs.Trusted.Writes as Writes
+use Rattle.list_line.specs.Trusted.Writes.{wrote, pasted}
 use Rattle.listing.specs.Lines.{turnedDown, fitted, lineWritten, listWritten}
-use Rattle.demands.specs.Demands.{OpeningCondition, bad-k, bad-capacity, OpeningTold, AddCondition, not-sound, out-driven, out-read, no-room, not-read, Addable, AddTold}
-use Rattle.demands.specs.Demands.{WriteCondition, part-unsound, not-there, too-short, WriteTold}
+use Rattle.demands.specs.Trusted.Demands.{OpeningCondition, bad-k, bad-capacity, OpeningTold, AddCondition, not-sound, out-driven, out-read, no-room, not-read, Addable, AddTold}
+use Rattle.demands.specs.Trusted.Demands.{WriteCondition, part-unsound, not-there, too-short, WriteTold}
 
 reflects-false : {b : Bool} {P : Type 0} → Reflects b P → ¬ P → b ≡ false
 reflects-false r n = by-reflects (λ c. c ≡ false) r (λ h. absurd (n h)) (λ m. refl)

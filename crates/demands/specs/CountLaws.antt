@@ -4,22 +4,22 @@ use native.Mathlib.Omega.{arith}
 use mathlib.Core.Path.{_≡_, refl, sym, ap, ap₂, _∙_, subst}
 use mathlib.Core.List.{List, _∷_, _++_}
 use lib.ListN.{length}
-use Rattle.lists.specs.Lists.{_∈_}
-use Rattle.cover.specs.Cover.{Least}
+use Rattle.lists.specs.Trusted.Lists.{_∈_}
+use Rattle.cover.specs.Trusted.Cover.{Least}
 use Rattle.plan.specs.Least.{least-unique}
-use Rattle.cover.specs.Tables.{Table as LookupTable}
-use Rattle.cover.specs.Added.{Sheet}
-use Rattle.part.specs.Parts.{inUse, tablesOf, Shaped}
-use Rattle.part.specs.Sound.{Sound}
-use Rattle.part.specs.Sheets.{Reading, sheet, refused as unread, readOf}
-use Rattle.part.specs.Answers.{Answer, accepted, refused, Result}
-use Rattle.part.specs.Adds.{Refused, Accepted}
+use Rattle.cover.specs.Trusted.Tables.{Table as LookupTable}
+use Rattle.cover.specs.Trusted.CoverTables.{Sheet}
+use Rattle.part.specs.Trusted.Parts.{inUse, tablesOf, Shaped}
+use Rattle.part.specs.Trusted.Sound.{Sound}
+use Rattle.part.specs.Trusted.Reading.{Reading, sheet, refused as unread, readOf}
+use Rattle.part.specs.Trusted.Answers.{Answer, accepted, refused, Result}
+use Rattle.part.specs.Trusted.Add.{Refused, Accepted}
 use Rattle.part.specs.declared.Part.{Part}
 use Rattle.demands.specs.ReadingLaws.{refused-below}
 use Rattle.demands.specs.ExtendLaws.{extended-inUse, extended-tables}
 use Rattle.demands.specs.AddLaws.{Kept, Outcome, unsound, misread, driven, read, full, taken, outcome, kept, same-kept, not-refused}
-use Rattle.demands.specs.Calls.{Call, add, final, sheetsRead, ifAccepted, Promise, sheetsOf, Chain, done, call, acceptedIn, Link, here, next}
-use Rattle.demands.specs.Demands.{Total, none, more, left, Passes, Taken, Room, CallAccounted, Demand3}
+use Rattle.demands.specs.Trusted.Calls.{Call, add, final, sheetsRead, ifAccepted, Promise, sheetsOf, Chain, done, call, acceptedIn, Link, here, next}
+use Rattle.demands.specs.Trusted.Demands.{Total, none, more, left, Passes, Taken, Room, CallAccounted, Demand3}
 
 -- two readings
 pub same-sheet : {v : Reading} {s t : Sheet} → v ≡ sheet s → v ≡ sheet t → s ≡ t

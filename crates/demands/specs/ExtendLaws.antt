@@ -6,22 +6,22 @@ use mathlib.Core.Logic.{_⊎_, inl, inr, _≢_, ⊎-elim}
 use mathlib.Core.List.{List, [], _∷_, _++_, map, Memᴰ·append-right}
 use lib.ListN.{length, take, drop, replicate, length-append, length-map, length-drop, length-replicate}
 use lib.Seq.{drop-append-seam, take-at, drop-at, drop-drop}
-use Rattle.lists.specs.Lists.{_∈_, first, later, Every}
+use Rattle.lists.specs.Trusted.Lists.{_∈_, first, later, Every}
 use Rattle.lists.specs.ListLaws.{every-none, every-cons, every-head, every-tail, every-append}
-use Rattle.cover.specs.Tables.{Table as LookupTable, Placed, numbered}
+use Rattle.cover.specs.Trusted.Tables.{Table as LookupTable, Placed, numbered}
 use Rattle.cover.specs.Eval.{numbered-is}
-use Rattle.cover.specs.Placed.{number}
-use Rattle.cover.specs.Added.{Sheet, Added, Fresh}
-use Rattle.cover.specs.AddedTables.{added-sized, added-rising, added-tidy, added-inputs, added-drives}
-use Rattle.table.specs.Limits.{tableBase, inputRoom}
-use Rattle.table.specs.Records.{tableOf, recordOf}
+use Rattle.cover.specs.Trusted.Placed.{number}
+use Rattle.cover.specs.Trusted.CoverTables.{Sheet, Added, Fresh}
+use Rattle.cover.specs.CoverTableLaws.{added-sized, added-rising, added-tidy, added-inputs, added-drives}
+use Rattle.table.specs.Trusted.Limits.{tableBase, inputRoom}
+use Rattle.table.specs.Trusted.Records.{tableOf, recordOf}
 use Rattle.table.specs.RecordLaws.{read-back, all-back}
-use Rattle.table.specs.Rules.{Padded, Coded, Sized, Sourced, DrivenOnce, ReadAfter, EveryTwo, places}
+use Rattle.table.specs.Trusted.Rules.{Padded, Coded, Sized, Sourced, DrivenOnce, ReadAfter, EveryTwo, places}
 use Rattle.table.specs.RuleLaws.{map-append, placesAfter, Follows, rules-append}
-use Rattle.part.specs.Parts.{inUse, tablesOf, Shaped}
-use Rattle.part.specs.Sound.{Sound}
+use Rattle.part.specs.Trusted.Parts.{inUse, tablesOf, Shaped}
+use Rattle.part.specs.Trusted.Sound.{Sound}
 use Rattle.part.specs.SoundLaws.{used-count}
-use Rattle.part.specs.Adds.{extended}
+use Rattle.part.specs.Trusted.Add.{extended}
 use Rattle.table.specs.declared.Table.{Table}
 use Rattle.part.specs.declared.Part.{Part}
 

@@ -7,17 +7,17 @@ use mathlib.Core.Logic.{_⊎_, inl, inr, ⊎-elim}
 use mathlib.Core.Bool.{Bool, cond}
 use mathlib.Core.List.{List, [], _∷_, map, Memᴰ·cast, Memᴰ·of-map, List·Memᴰ·not-nil}
 use Rattle.lists.specs.Cases.{by-eqb}
-use Rattle.lists.specs.Lists.{_∈_, first, later, Every}
+use Rattle.lists.specs.Trusted.Lists.{_∈_, first, later, Every}
 use Rattle.lists.specs.ListLaws.{not-first, every-head, every-tail}
-use Rattle.cover.specs.Bits.{bit, index}
-use Rattle.cover.specs.Tables.{Table as LookupTable, output, Placed, numbered, put, writes, step, run, settled}
+use Rattle.cover.specs.Trusted.Bits.{bit, index}
+use Rattle.cover.specs.Trusted.Tables.{Table as LookupTable, output, Placed, numbered, put, writes, step, run, settled}
 use Rattle.cover.specs.Eval.{in-driven, driven-in, numbered-is}
-use Rattle.table.specs.Limits.{tableBase}
-use Rattle.table.specs.Records.{tableOf}
-use Rattle.table.specs.Rules.{IsNet, places, Rules}
-use Rattle.part.specs.Parts.{inUse, tablesOf}
-use Rattle.part.specs.Sound.{Sound}
-use Rattle.demands.specs.Nets.{Driven}
+use Rattle.table.specs.Trusted.Limits.{tableBase}
+use Rattle.table.specs.Trusted.Records.{tableOf}
+use Rattle.table.specs.Trusted.Rules.{IsNet, places, Rules}
+use Rattle.part.specs.Trusted.Parts.{inUse, tablesOf}
+use Rattle.part.specs.Trusted.Sound.{Sound}
+use Rattle.demands.specs.Trusted.Nets.{Driven}
 use Rattle.table.specs.declared.Table.{Table}
 use Rattle.part.specs.declared.Part.{Part}
 

@@ -7,21 +7,21 @@ use mathlib.Core.Logic.{_⊎_, inl, inr, ⊎-elim}
 use mathlib.Core.Bool.{Bool, false}
 use mathlib.Core.List.{List, [], _++_, Memᴰ·append-left, Memᴰ·append-right, List·Memᴰ·append-cases}
 use lib.ListN.{length}
-use Rattle.lists.specs.Lists.{_∈_, first, Every}
+use Rattle.lists.specs.Trusted.Lists.{_∈_, first, Every}
 use Rattle.lists.specs.ListLaws.{every-append, permuted-to, permuted-from}
 use Rattle.lists.specs.NumberLaws.{sorted-permuted}
 use Rattle.tree.specs.declared.Kind.{Kind}
-use Rattle.tree.specs.Tree.{Node, leaves}
-use Rattle.cover.specs.Cover.{Cover, net, top, Fanins, end, old, new, SplitOf, Rooted, rooted}
+use Rattle.tree.specs.Trusted.Tree.{Node, leaves}
+use Rattle.cover.specs.Trusted.Cover.{Cover, net, top, Fanins, end, old, new, SplitOf, Rooted, rooted}
 use Rattle.cover.specs.Nets.{nets, nets*, split-nets}
-use Rattle.cover.specs.Tables.{Table as LookupTable, Placed, numbered}
+use Rattle.cover.specs.Trusted.Tables.{Table as LookupTable, Placed, numbered}
 use Rattle.cover.specs.Eval.{numbered-is}
-use Rattle.cover.specs.Placed.{number, placed, code, codes, codes*, tableOf, records, records*}
+use Rattle.cover.specs.Trusted.Placed.{number, placed, code, codes, codes*, tableOf, records, records*}
 use Rattle.cover.specs.Inputs.{root-in}
-use Rattle.cover.specs.Added.{Sheet, Added}
-use Rattle.cover.specs.AddedTables.{added-inputs, added-tidy}
+use Rattle.cover.specs.Trusted.CoverTables.{Sheet, Added}
+use Rattle.cover.specs.CoverTableLaws.{added-inputs, added-tidy}
 use Rattle.demands.specs.ExtendLaws.{every-numbered}
-use Rattle.demands.specs.Nets.{Driven, Read}
+use Rattle.demands.specs.Trusted.Nets.{Driven, Read}
 
 module _ (base : ℕ) where
   -- one of the tables reads x

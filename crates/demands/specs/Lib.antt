@@ -1,7 +1,5 @@
-pub mod Nets
+pub mod Trusted
 pub mod Readable
-pub mod Calls
-pub mod Demands
 pub mod Settled
 pub mod ReadingLaws
 pub mod ExtendLaws
@@ -16,4 +14,4 @@ pub mod ListingLaws
 pub mod ConditionLaws
 pub mod Theorems
 pub mod ChainExample
-pub mod AddingExamples
+pub mod AnswerExamples

@@ -7,21 +7,21 @@ use mathlib.Core.Logic.{⊎-elim}
 use mathlib.Core.List.{List, [], _∷_, _++_, append-assoc, map, Memᴰ·map, Memᴰ·of-map}
 use lib.ListN.{length, drop, getD, length-take, length-drop, take-append-drop}
 use lib.Seq.{getD-take, ext-getD, length-take-le}
-use Rattle.lists.specs.Lists.{_∈_, first, later, Every, gather, upto}
+use Rattle.lists.specs.Trusted.Lists.{_∈_, first, later, Every, gather, upto}
 use Rattle.lists.specs.ListLaws.{every-none, every-at, every-cons, every-head, every-tail}
-use Rattle.tree.specs.Limits.{greatestNet}
-use Rattle.decimal.specs.Columns.{fieldOf, fieldsOf}
+use Rattle.tree.specs.Trusted.Limits.{greatestNet}
+use Rattle.decimal.specs.Trusted.Columns.{fieldOf, fieldsOf}
 use Rattle.decimal.specs.ColumnLaws.{field-only, fields-only}
-use Rattle.cover.specs.Tables.{Placed}
-use Rattle.table.specs.Limits.{inputRoom}
-use Rattle.table.specs.Records.{reads, tableOf, blank}
-use Rattle.table.specs.Rules.{AllZero, Blank, NamesTable, Padded, places}
+use Rattle.cover.specs.Trusted.Tables.{Placed}
+use Rattle.table.specs.Trusted.Limits.{inputRoom}
+use Rattle.table.specs.Trusted.Records.{reads, tableOf, blank}
+use Rattle.table.specs.Trusted.Rules.{AllZero, Blank, NamesTable, Padded, places}
 use Rattle.table.specs.RuleLaws.{old-place, placed}
-use Rattle.part.specs.Parts.{inUse, Shaped}
-use Rattle.part.specs.Sound.{Sound}
+use Rattle.part.specs.Trusted.Parts.{inUse, Shaped}
+use Rattle.part.specs.Trusted.Sound.{Sound}
 use Rattle.part.specs.SoundLaws.{used-count}
 use Rattle.demands.specs.ExtendLaws.{every-take, every-drop}
-use Rattle.part.specs.Listing.{tableLine, lineOf, listOf}
+use Rattle.part.specs.Trusted.Listing.{tableLine, lineOf, listOf}
 use Rattle.table.specs.declared.Table.{Table}
 use Rattle.part.specs.declared.Part.{Part}
 

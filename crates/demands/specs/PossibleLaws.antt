@@ -6,34 +6,34 @@ use mathlib.Core.Path.{_≡_, refl, sym, ap, ap₂, _∙_, subst}
 use mathlib.Core.Bool.{Bool, false}
 use mathlib.Core.List.{List, [], _∷_, _++_, append-nil}
 use lib.ListN.{length, length-append}
-use Rattle.lists.specs.Lists.{Every, Permuted, Inserted, here, there, Paired, no-pair, pair}
+use Rattle.lists.specs.Trusted.Lists.{Every, Permuted, Inserted, here, there, Paired, no-pair, pair}
 use Rattle.lists.specs.ListLaws.{every-none, every-cons, every-append, every-left, every-right, permuted-from, permuted-to, permuted-refl}
 use Rattle.lists.specs.NumberLaws.{sorted-permuted}
-use Rattle.lists.specs.Tests.{either}
+use Rattle.lists.specs.Trusted.Tests.{either}
 use Rattle.lists.specs.TestLaws.{reflects-le, by-reflects}
 use Rattle.tree.specs.declared.Kind.{Kind}
-use Rattle.tree.specs.Tree.{Node, Edges}
-use Rattle.cover.specs.Cover.{Cover, net, top, Fanins, end, old, new, pick, arity, frontier, tables, tables*, width, widths, Fits, Fits*, SplitOf, split, Matched, done, match, Rooted, rooted, CoverOf, Least}
+use Rattle.tree.specs.Trusted.Tree.{Node, Edges}
+use Rattle.cover.specs.Trusted.Cover.{Cover, net, top, Fanins, end, old, new, pick, arity, frontier, tables, tables*, width, widths, Fits, Fits*, SplitOf, split, Matched, done, match, Rooted, rooted, CoverOf, Least}
 use Rattle.cover.specs.Nets.{nets, nets*, split-nets}
-use Rattle.cover.specs.Tables.{Table as LookupTable, Placed, numbered}
+use Rattle.cover.specs.Trusted.Tables.{Table as LookupTable, Placed, numbered}
 use Rattle.cover.specs.Eval.{numbered-append}
-use Rattle.cover.specs.Placed.{number, placed, code, codes, codes*, tableOf, records, records*}
-use Rattle.cover.specs.Added.{Sheet, Legal, Added}
-use Rattle.table.specs.Limits.{tableBase}
-use Rattle.part.specs.Parts.{tablesOf}
-use Rattle.part.specs.Sound.{Sound}
+use Rattle.cover.specs.Trusted.Placed.{number, placed, code, codes, codes*, tableOf, records, records*}
+use Rattle.cover.specs.Trusted.CoverTables.{Sheet, Legal, Added}
+use Rattle.table.specs.Trusted.Limits.{tableBase}
+use Rattle.part.specs.Trusted.Parts.{tablesOf}
+use Rattle.part.specs.Trusted.Sound.{Sound}
 use Rattle.part.specs.SoundLaws.{sound-reflects}
-use Rattle.part.specs.Sheets.{Reading, sheet, refused as unread, readOf}
+use Rattle.part.specs.Trusted.Reading.{Reading, sheet, refused as unread, readOf}
 use Rattle.demands.specs.Readable.{Readable}
 use Rattle.demands.specs.ReadingLaws.{reads-right}
-use Rattle.part.specs.Answers.{Answer, accepted, refused, Result}
-use Rattle.part.specs.Adds.{extended, isRead, Refused, Accepted, Fill, Offer, Take, Add}
+use Rattle.part.specs.Trusted.Answers.{Answer, accepted, refused, Result}
+use Rattle.part.specs.Trusted.Add.{extended, isRead, Refused, Accepted, Fill, Offer, Take, Add}
 use Rattle.demands.specs.AddLaws.{driven-reflects, read-reflects}
-use Rattle.demands.specs.Calls.{Call, add, Promise, Chain, call}
+use Rattle.demands.specs.Trusted.Calls.{Call, add, Promise, Chain, call}
 use Rattle.demands.specs.Settled.{leastNumber}
 use Rattle.demands.specs.SettledLaws.{least-number}
 use Rattle.part.specs.declared.Part.{Part}
-use Rattle.demands.specs.Calls as calls
+use Rattle.demands.specs.Trusted.Calls as calls
 
 -- ---- the cover with its tables numbered after m others
 

@@ -2,9 +2,9 @@
 use mathlib.Core.Path.{_≡_}
 use lib.Dec.{T}
 use Rattle.tree.specs.declared.Kind.{Kind}
-use Rattle.tree.specs.Tree.{Edges, gate, proper}
-use Rattle.cover.specs.Added.{Sheet, Legal}
-use Rattle.table.specs.Limits.{tableBase}
+use Rattle.tree.specs.Trusted.Tree.{Edges, gate, proper}
+use Rattle.cover.specs.Trusted.CoverTables.{Sheet, Legal}
+use Rattle.table.specs.Trusted.Limits.{tableBase}
 
 -- its nets are nets, no net stands at two leaves, the output net at none, the root is a gate, and each gate has two fanins or more
 pub record Readable (s : Sheet) : Type 0 where

@@ -3,13 +3,13 @@ use Prim.Native.Nat.{ℕ, _≤_}
 use native.Mathlib.Omega.{arith}
 use mathlib.Core.Path.{_≡_, refl, subst}
 use mathlib.Core.List.{List}
-use Rattle.cover.specs.Added.{Sheet}
-use Rattle.sheet.specs.Sheet.{DrawnSheet, Outcome, sheet as drew, refused as unread}
-use Rattle.sheet.specs.Read.{readSheet}
-use Rattle.sheet.specs.Trees.{drawn}
+use Rattle.cover.specs.Trusted.CoverTables.{Sheet}
+use Rattle.sheet.specs.Trusted.Sheet.{DrawnSheet, Outcome, sheet as drew, refused as unread}
+use Rattle.sheet.specs.Trusted.Read.{readSheet}
+use Rattle.sheet.specs.Trusted.Trees.{drawn}
 use Rattle.sheet.specs.TreeLaws.{read-drawn}
 use Rattle.sheet.specs.RefusalLaws.{refused-told}
-use Rattle.part.specs.Sheets.{sheet, refused, readingOf, readOf}
+use Rattle.part.specs.Trusted.Reading.{sheet, refused, readingOf, readOf}
 use Rattle.demands.specs.Readable.{Readable}
 
 module _ (text : List ℕ) where

@@ -5,13 +5,13 @@ use mathlib.Core.Path.{_≡_}
 use mathlib.Core.Bool.{cond}
 use lib.Dec.{leb}
 use Rattle.plan.specs.Least.{least-tables}
-use Rattle.cover.specs.Added.{Sheet}
-use Rattle.table.specs.Rules.{IsNet}
-use Rattle.part.specs.Parts.{tablesOf}
-use Rattle.part.specs.SoundTest.{sound}
-use Rattle.part.specs.Sheets.{Reading, sheet, refused as unread}
-use Rattle.part.specs.Answers.{Answer, accepted, refused}
-use Rattle.part.specs.Adds.{isDriven, isRead}
+use Rattle.cover.specs.Trusted.CoverTables.{Sheet}
+use Rattle.table.specs.Trusted.Rules.{IsNet}
+use Rattle.part.specs.Trusted.Parts.{tablesOf}
+use Rattle.part.specs.Trusted.SoundTest.{sound}
+use Rattle.part.specs.Trusted.Reading.{Reading, sheet, refused as unread}
+use Rattle.part.specs.Trusted.Answers.{Answer, accepted, refused}
+use Rattle.part.specs.Trusted.Add.{isDriven, isRead}
 use Rattle.part.specs.declared.Part.{Part}
 
 -- the number that the search finds, which is the least number of a sheet that was read (`least-number` in SettledLaws)

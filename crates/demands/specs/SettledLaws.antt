@@ -8,26 +8,26 @@ use mathlib.Core.Bool.{true, cond, _||_}
 use mathlib.Core.List.{List, _∷_, _++_, map}
 use lib.Dec.{T, leb, eqb}
 use lib.ListN.{length}
-use Rattle.lists.specs.Tests.{elem, either}
+use Rattle.lists.specs.Trusted.Tests.{elem, either}
 use Rattle.lists.specs.TestLaws.{reflects-le, reflects-eq, reflects-or, reflects-elem, by-reflects, reflects-same, reflects-true}
-use Rattle.tree.specs.Tree.{proper, leaves}
-use Rattle.cover.specs.Cover.{Least}
+use Rattle.tree.specs.Trusted.Tree.{proper, leaves}
+use Rattle.cover.specs.Trusted.Cover.{Least}
 use Rattle.plan.specs.Least.{least-unique, least-tables, least-is}
-use Rattle.cover.specs.Added.{Sheet, Fresh}
-use Rattle.table.specs.Limits.{tableBase}
-use Rattle.table.specs.Rules.{IsNet}
-use Rattle.part.specs.Parts.{tablesOf, Shaped}
-use Rattle.part.specs.Sound.{Sound}
-use Rattle.part.specs.SoundTest.{sound}
+use Rattle.cover.specs.Trusted.CoverTables.{Sheet, Fresh}
+use Rattle.table.specs.Trusted.Limits.{tableBase}
+use Rattle.table.specs.Trusted.Rules.{IsNet}
+use Rattle.part.specs.Trusted.Parts.{tablesOf, Shaped}
+use Rattle.part.specs.Trusted.Sound.{Sound}
+use Rattle.part.specs.Trusted.SoundTest.{sound}
 use Rattle.part.specs.SoundLaws.{sound-reflects}
-use Rattle.part.specs.Sheets.{Reading, sheet, refused as unread, readOf}
-use Rattle.part.specs.Answers.{Answer, accepted, refused, Result}
-use Rattle.part.specs.Adds.{isDriven, isRead, Refused, Accepted, Fill, Offer, Take, Add}
+use Rattle.part.specs.Trusted.Reading.{Reading, sheet, refused as unread, readOf}
+use Rattle.part.specs.Trusted.Answers.{Answer, accepted, refused, Result}
+use Rattle.part.specs.Trusted.Add.{isDriven, isRead, Refused, Accepted, Fill, Offer, Take, Add}
 use Rattle.demands.specs.ExtendLaws.{extended-tables, extended-sound}
-use Rattle.demands.specs.Nets.{Driven, Read}
+use Rattle.demands.specs.Trusted.Nets.{Driven, Read}
 use Rattle.demands.specs.AddLaws.{driven-reflects, read-reflects, Outcome, unsound, misread, driven, read, full, taken as took, outcome, not-refused}
 use Rattle.demands.specs.LeafLaws.{reads-after, reads-still, drives-after, drives-still}
-use Rattle.demands.specs.Calls.{Call, add, final, Promise, Chain, done, call}
+use Rattle.demands.specs.Trusted.Calls.{Call, add, final, Promise, Chain, done, call}
 use Rattle.demands.specs.Readable.{Readable}
 use Rattle.demands.specs.ReadingLaws.{reads-right}
 use Rattle.demands.specs.CountLaws.{same-sheet, call-kept}

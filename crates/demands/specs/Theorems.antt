@@ -6,17 +6,17 @@ use native.Mathlib.Omega.{arith}
 use mathlib.Core.Path.{_≡_, ap, _∙_, subst}
 use mathlib.Core.List.{List, _∷_, map}
 use lib.ListN.{length}
-use Rattle.lists.specs.Lists.{Every}
+use Rattle.lists.specs.Trusted.Lists.{Every}
 use Rattle.lists.specs.ListLaws.{every-none, every-cons}
-use Rattle.part.specs.Parts.{tablesOf, Shaped}
-use Rattle.part.specs.Sound.{Sound}
-use Rattle.part.specs.Answers.{accepted, refused, Result}
-use Rattle.part.specs.Adds.{opened, Add}
-use Rattle.part.specs.Adding.{addingAnswer, addedResult}
+use Rattle.part.specs.Trusted.Parts.{tablesOf, Shaped}
+use Rattle.part.specs.Trusted.Sound.{Sound}
+use Rattle.part.specs.Trusted.Answers.{accepted, refused, Result}
+use Rattle.part.specs.Trusted.Add.{opened, Add}
+use Rattle.part.specs.Trusted.AddAnswers.{addingAnswer, addedResult}
 use Rattle.part.specs.declared.Part.{Part}
 use Rattle.part.specs.declared.Added.{Added}
-use Rattle.demands.specs.Calls.{Call, add, Chain, done, call, acceptedIn}
-use Rattle.demands.specs.Demands.{Demand1, lastPart, Demand2, Total, Demand3}
+use Rattle.demands.specs.Trusted.Calls.{Call, add, Chain, done, call, acceptedIn}
+use Rattle.demands.specs.Trusted.Demands.{Demand1, lastPart, Demand2, Total, Demand3}
 use Rattle.demands.specs.AddLaws.{opened-empty, opened-shaped, opened-sound}
 use Rattle.demands.specs.ConditionLaws.{opening-told, add-told, line-told, list-told}
 use Rattle.demands.specs.CountLaws.{call-kept, chain-kept, counted}

@@ -6,28 +6,28 @@ use mathlib.Core.Path.{_≡_, refl, sym, ap, ap₂, _∙_, subst}
 use mathlib.Core.Bool.{Bool}
 use mathlib.Core.List.{List, [], _∷_, _++_, append-assoc, append-nil, Memᴰ·append-left, Memᴰ·append-right}
 use lib.ListN.{length, length-take}
-use Rattle.lists.specs.Lists.{_∈_, first, later, Every}
+use Rattle.lists.specs.Trusted.Lists.{_∈_, first, later, Every}
 use Rattle.lists.specs.ListLaws.{every-none, every-cons, every-append}
-use Rattle.cover.specs.Tables.{Table as LookupTable}
-use Rattle.cover.specs.Added.{Sheet}
+use Rattle.cover.specs.Trusted.Tables.{Table as LookupTable}
+use Rattle.cover.specs.Trusted.CoverTables.{Sheet}
 use Rattle.cover.specs.History.{History, start, Met}
 use Rattle.cover.specs.HistoryLaws.{history-met}
-use Rattle.sheet.specs.Sheet.{DrawnSheet, sheet as drew}
-use Rattle.sheet.specs.Read.{readSheet}
-use Rattle.sheet.specs.Trees.{drawn}
+use Rattle.sheet.specs.Trusted.Sheet.{DrawnSheet, sheet as drew}
+use Rattle.sheet.specs.Trusted.Read.{readSheet}
+use Rattle.sheet.specs.Trusted.Trees.{drawn}
 use Rattle.sheet.specs.ValueLaws.{sheet-value}
-use Rattle.table.specs.Limits.{tableBase}
-use Rattle.table.specs.Records.{tableOf}
-use Rattle.part.specs.Parts.{inUse, tablesOf, Shaped}
-use Rattle.part.specs.Sound.{Sound}
-use Rattle.part.specs.Sheets.{readOf}
-use Rattle.part.specs.Answers.{Answer, accepted, refused, Result}
-use Rattle.part.specs.Adds.{opened, Refused}
+use Rattle.table.specs.Trusted.Limits.{tableBase}
+use Rattle.table.specs.Trusted.Records.{tableOf}
+use Rattle.part.specs.Trusted.Parts.{inUse, tablesOf, Shaped}
+use Rattle.part.specs.Trusted.Sound.{Sound}
+use Rattle.part.specs.Trusted.Reading.{readOf}
+use Rattle.part.specs.Trusted.Answers.{Answer, accepted, refused, Result}
+use Rattle.part.specs.Trusted.Add.{opened, Refused}
 use Rattle.demands.specs.ReadingLaws.{drawn-back}
 use Rattle.demands.specs.ExtendLaws.{every-map, extended-tables}
 use Rattle.demands.specs.AddLaws.{opened-shaped, opened-empty, Outcome, unsound, misread, driven, read, full, taken, outcome}
-use Rattle.demands.specs.Calls.{Call, add, final, sheetsRead, ifAccepted, Promise, sheetsOf, Chain, done, call, acceptedIn, Link, here, next}
-use Rattle.demands.specs.Demands.{Taken, valuesIn, lastPart, Served, CallServed}
+use Rattle.demands.specs.Trusted.Calls.{Call, add, final, sheetsRead, ifAccepted, Promise, sheetsOf, Chain, done, call, acceptedIn, Link, here, next}
+use Rattle.demands.specs.Trusted.Demands.{Taken, valuesIn, lastPart, Served, CallServed}
 use Rattle.demands.specs.CountLaws.{call-kept, counted}
 use Rattle.part.specs.declared.Part.{Part}
 

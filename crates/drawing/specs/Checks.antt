@@ -7,11 +7,11 @@ use Rattle.tree.specs.declared.Kind.the-variants.{And as and, Or as or}
 use Rattle.sheet.specs.declared.Source.{Source}
 use Rattle.sheet.specs.declared.Source.the-variants.{Net as net, Gate as gate}
 use Rattle.sheet.specs.declared.Edge.{Edge as Fanin}
-use Rattle.sheet.specs.Sheet.{DrawnSheet, sheet}
-use Rattle.sheet.specs.Step.{_>>=_, require, given}
-use Rattle.sheet.specs.Read.{readSheet}
+use Rattle.sheet.specs.Trusted.Sheet.{DrawnSheet, sheet}
+use Rattle.sheet.specs.Trusted.Step.{_>>=_, require, given}
+use Rattle.sheet.specs.Trusted.Read.{readSheet}
 use Rattle.sheet.specs.Checks.{bytes}
-use Rattle.drawing.specs.Written.{written}
+use Rattle.drawing.specs.Trusted.Written.{written}
 
 abbrev up : Source → Fanin
 up s = record { inverted = false; source = s }

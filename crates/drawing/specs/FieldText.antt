@@ -10,9 +10,9 @@ use lib.Dec.{T}
 use lib.ListN.{length}
 use Rattle.lists.specs.Cases.{by-eqb, by-leb}
 use Rattle.lists.specs.TestLaws.{reflects-within, reflects-true, by-reflects}
-use Rattle.decimal.specs.Number.{Number, digits, natural, unsigned, negated, signed, number, columns, fieldNumber}
+use Rattle.decimal.specs.Trusted.Number.{Number, digits, natural, unsigned, negated, signed, number, columns, fieldNumber}
 use Rattle.decimal.specs.NumberLaws.{natural-below}
-use Rattle.decimal.specs.Columns.{room, column, fieldOf, signedColumn, signedFieldOf}
+use Rattle.decimal.specs.Trusted.Columns.{room, column, fieldOf, signedColumn, signedFieldOf}
 use Rattle.decimal.specs.ColumnLaws.{reflects-room, div-more}
 use Rattle.decimal.specs.FieldLaws.{plain-field, minus-digits}
 

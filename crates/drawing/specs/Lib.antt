@@ -1,4 +1,4 @@
-pub mod Written
+pub mod Trusted
 pub mod Checks
 pub mod LineLaws
 pub mod RoundTrip

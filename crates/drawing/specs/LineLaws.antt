@@ -8,15 +8,15 @@ use mathlib.Core.Option.{some}
 use mathlib.Core.List.{List, [], _∷_, _++_, append-assoc}
 use lib.ListN.{length}
 use lib.Seq.{take-at, drop-at}
-use Rattle.lists.specs.Lists.{Every}
+use Rattle.lists.specs.Trusted.Lists.{Every}
 use Rattle.lists.specs.ListLaws.{every-none, every-cons, every-head, every-tail, every-append}
-use Rattle.decimal.specs.Number.{Number, columns, fieldNumber, Within}
-use Rattle.decimal.specs.Columns.{room, column, signedColumn, signedFieldOf}
+use Rattle.decimal.specs.Trusted.Number.{Number, columns, fieldNumber, Within}
+use Rattle.decimal.specs.Trusted.Columns.{room, column, signedColumn, signedFieldOf}
 use Rattle.decimal.specs.FieldLaws.{signed-length, signed-read}
-use Rattle.sheet.specs.Limits.{mostFields}
-use Rattle.sheet.specs.Line.{after, line, with, cells, fields}
+use Rattle.sheet.specs.Trusted.Limits.{mostFields}
+use Rattle.sheet.specs.Trusted.Line.{after, line, with, cells, fields}
 use Rattle.sheet.specs.CutLaws.{line-step}
-use Rattle.drawing.specs.Written.{fieldsText, lineText}
+use Rattle.drawing.specs.Trusted.Written.{fieldsText, lineText}
 
 -- ---- bytes without a line feed
 

@@ -7,23 +7,23 @@ use mathlib.Core.Option.{Option, none, some}
 use mathlib.Core.List.{List, [], _∷_, _++_, map, append-assoc, append-nil}
 use lib.Dec.{T, eqb→eq}
 use lib.ListN.{length, take, drop, length-map, take-append-drop}
-use Rattle.lists.specs.Lists.{gather}
+use Rattle.lists.specs.Trusted.Lists.{gather}
 use Rattle.lists.specs.Cases.{and-split}
-use Rattle.lists.specs.Tests.{within}
+use Rattle.lists.specs.Trusted.Tests.{within}
 use Rattle.tree.specs.declared.Kind.{Kind}
 use Rattle.tree.specs.declared.Kind.the-variants.{And as and, Or as or}
-use Rattle.decimal.specs.Number.{Number, columns, fieldNumber}
-use Rattle.sheet.specs.Limits.{mostGates, fewestFanins, mostFanins, mostFields}
-use Rattle.sheet.specs.Line.{line, with, cells, fields}
-use Rattle.sheet.specs.Sheet.{DrawnSheet, sheet, codeOf}
-use Rattle.sheet.specs.Step.{Step}
+use Rattle.decimal.specs.Trusted.Number.{Number, columns, fieldNumber}
+use Rattle.sheet.specs.Trusted.Limits.{mostGates, fewestFanins, mostFanins, mostFields}
+use Rattle.sheet.specs.Trusted.Line.{line, with, cells, fields}
+use Rattle.sheet.specs.Trusted.Sheet.{DrawnSheet, sheet, codeOf}
+use Rattle.sheet.specs.Trusted.Step.{Step}
 use Rattle.sheet.specs.StepLaws.{Meets, on, off, meets-any, meets-bind, meets-require, meets-given}
-use Rattle.sheet.specs.Read.{counts, two, Seen, nothing, readHead, readFanin, readFanins, kindOf, gateHeadOf, readGate, readLeft, readAll, reading, readSheet}
-use Rattle.sheet.specs.Formed.{WellFormed}
+use Rattle.sheet.specs.Trusted.Read.{counts, two, Seen, nothing, readHead, readFanin, readFanins, kindOf, gateHeadOf, readGate, readLeft, readAll, reading, readSheet}
+use Rattle.sheet.specs.Trusted.Formed.{WellFormed}
 use Rattle.sheet.specs.NumberLaws.{by-test, counts-holds}
 use Rattle.sheet.specs.ReadLaws.{source-named, read-formed}
 use Rattle.sheet.specs.CutLaws.{line-cut, empty-is}
-use Rattle.drawing.specs.Written.{signedNumber, plainNumber, fieldsText, lineText, kindNumber, faninNumber, gateNumbers, gateLine, written}
+use Rattle.drawing.specs.Trusted.Written.{signedNumber, plainNumber, fieldsText, lineText, kindNumber, faninNumber, gateNumbers, gateLine, written}
 use Rattle.drawing.specs.FieldText.{no-some, field-text}
 use Rattle.drawing.specs.RoundTrip.{read-written}
 

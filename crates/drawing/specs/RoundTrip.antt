@@ -8,25 +8,25 @@ use mathlib.Core.List.{List, [], _∷_, _++_, map, append-assoc, append-nil}
 use lib.Dec.{T}
 use lib.ListN.{length, length-append, length-map}
 use borrow.Author.Tests.{le-leb, lt-leb, lt-ltb}
-use Rattle.lists.specs.Lists.{_∈_, first, later, Every, Distinct, gather}
+use Rattle.lists.specs.Trusted.Lists.{_∈_, first, later, Every, Distinct, gather}
 use Rattle.lists.specs.ListLaws.{every-none, every-cons, every-head, every-tail, every-left, every-right, permuted-to}
-use Rattle.lists.specs.Tests.{elem}
+use Rattle.lists.specs.Trusted.Tests.{elem}
 use Rattle.lists.specs.TestLaws.{reflects-lt, reflects-eq, reflects-not, reflects-elem, reflects-within, reflects-true}
 use Rattle.tree.specs.declared.Kind.{Kind}
 use Rattle.tree.specs.declared.Kind.the-variants.{And as and, Or as or}
-use Rattle.tree.specs.Limits.{greatestNet}
-use Rattle.decimal.specs.Number.{columns, Within}
+use Rattle.tree.specs.Trusted.Limits.{greatestNet}
+use Rattle.decimal.specs.Trusted.Number.{columns, Within}
 use Rattle.sheet.specs.declared.Source.{Source}
 use Rattle.sheet.specs.declared.Source.the-variants.{Net as net, Gate as gate}
 use Rattle.sheet.specs.declared.Edge.{Edge as Fanin}
-use Rattle.sheet.specs.Limits.{gateBase, mostGates, fewestFanins, mostFanins, mostLeaves}
-use Rattle.sheet.specs.Line.{fields}
-use Rattle.sheet.specs.Sheet.{DrawnGate, DrawnSheet, sheet, netOf, gateOf, codeOf, faninNets, faninGates, leafNets, gatesRead, from}
-use Rattle.sheet.specs.Step.{Step, good, _>>=_, require, given}
-use Rattle.sheet.specs.Read.{Seen, nothing, readHead, sourceOf, readSource, readFanins, kindOf, gateHeadOf, readGate, readLeft, readUnread, readAll, reading, readSheet}
-use Rattle.sheet.specs.Formed.{Net, LeafNet, FaninCount, Before, Earlier, WellFormed}
+use Rattle.sheet.specs.Trusted.Limits.{gateBase, mostGates, fewestFanins, mostFanins, mostLeaves}
+use Rattle.sheet.specs.Trusted.Line.{fields}
+use Rattle.sheet.specs.Trusted.Sheet.{DrawnGate, DrawnSheet, sheet, netOf, gateOf, codeOf, faninNets, faninGates, leafNets, gatesRead, from}
+use Rattle.sheet.specs.Trusted.Step.{Step, good, _>>=_, require, given}
+use Rattle.sheet.specs.Trusted.Read.{Seen, nothing, readHead, sourceOf, readSource, readFanins, kindOf, gateHeadOf, readGate, readLeft, readUnread, readAll, reading, readSheet}
+use Rattle.sheet.specs.Trusted.Formed.{Net, LeafNet, FaninCount, Before, Earlier, WellFormed}
 use Rattle.sheet.specs.ReadLaws.{gates-distinct}
-use Rattle.drawing.specs.Written.{signedNumber, plainNumber, fieldsText, headNumbers, kindNumber, faninNumber, gateNumbers, gateLine, written}
+use Rattle.drawing.specs.Trusted.Written.{signedNumber, plainNumber, fieldsText, headNumbers, kindNumber, faninNumber, gateNumbers, gateLine, written}
 use Rattle.drawing.specs.LineLaws.{line-written, fields-written}
 
 -- ---- steps that go on

@@ -1,9 +1,9 @@
 // What a fanin reads: a net, or a mapped gate that is not placed.
 ghost use mathlib.Core.Path.{_≡_};
 ghost use Prim.Native.Nat.{_<_, _≤_};
-ghost use Rattle.lists.specs.Lists.{Every};
-ghost use Rattle.sheet.specs.Limits.{mostGates};
-ghost use Rattle.sheet.specs.Sheet.{gateOf};
+ghost use Rattle.lists.specs.Trusted.Lists.{Every};
+ghost use Rattle.sheet.specs.Trusted.Limits.{mostGates};
+ghost use Rattle.sheet.specs.Trusted.Sheet.{gateOf};
 ghost use Rattle.mapper_laws.specs.CodeMap.{leafOf};
 ghost use Rattle.mapper_laws.specs.CodePair.{placeIn, readAs, keyIn};
 use mapper_laws::Held;

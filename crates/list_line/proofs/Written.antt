@@ -4,12 +4,12 @@ use mathlib.Core.Path.{_≡_, sym, ap, _∙_}
 use mathlib.Core.List.{List}
 use lib.ListN.{length}
 use Rattle.lists.specs.TestLaws.{reflects-le, reflects-and, reflects-true}
-use Rattle.decimal.specs.Columns.{fieldOf}
+use Rattle.decimal.specs.Trusted.Columns.{fieldOf}
 use Rattle.decimal.specs.ColumnLaws.{reflects-room, field-length}
 use Rattle.decimal.specs.Writing.{Outcome, outcome, fieldWrittenAt}
-use Rattle.decimal.specs.Columns.{placed}
+use Rattle.decimal.specs.Trusted.Columns.{placed}
 use Rattle.decimal.specs.declared.Written.{Written}
-use Rattle.list_line.specs.Writes.{pasted}
+use Rattle.list_line.specs.Trusted.Writes.{pasted}
 
 pub number-written : (old new : List ℕ) (at width n : ℕ) {a : Written} → at + width ≤ length old → (0 < width) × (n < 10 ^ width) →
     record { answer = a; bytes = new } ≡ fieldWrittenAt old at width n → new ≡ pasted old at (fieldOf width n)

@@ -7,11 +7,11 @@ use mathlib.Core.List.{List, [], _∷_, _++_, append-nil}
 use lib.ListN.{length, getD, take, length-append}
 use lib.Seq.{take-suc}
 use Rattle.lists.specs.ListLaws.{gather-append}
-use Rattle.decimal.specs.Columns.{fieldOf, fieldsOf}
+use Rattle.decimal.specs.Trusted.Columns.{fieldOf, fieldsOf}
 use Rattle.decimal.specs.ColumnLaws.{field-length}
 use Rattle.table.specs.declared.Table.{Table}
-use Rattle.table.specs.Records.{reads}
-use Rattle.part.specs.Listing.{tableLine}
+use Rattle.table.specs.Trusted.Records.{reads}
+use Rattle.part.specs.Trusted.Listing.{tableLine}
 use Rattle.list_line.specs.Line.{tableWidth}
 
 pub fields-length : (ns : List ℕ) → length (fieldsOf ns) ≡ 6 * length ns

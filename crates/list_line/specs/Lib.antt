@@ -1,4 +1,4 @@
-pub mod Writes
+pub mod Trusted
 pub mod Line
 pub mod PasteLaws
 pub mod FieldLaws

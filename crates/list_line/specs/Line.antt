@@ -2,8 +2,8 @@
 use Prim.Native.Nat.{ℕ, _+_, _*_}
 use mathlib.Core.List.{List, [], _∷_, _++_}
 use lib.ListN.{length}
-use Rattle.decimal.specs.Columns.{fieldsOf}
-use Rattle.table.specs.Records.{reads}
+use Rattle.decimal.specs.Trusted.Columns.{fieldsOf}
+use Rattle.table.specs.Trusted.Records.{reads}
 use Rattle.table.specs.declared.Table.{Table}
 
 -- line 0 of a part with this K, this capacity and this used count

@@ -5,7 +5,7 @@ use mathlib.Core.Path.{_≡_, sym, ap, ap₂, _∙_}
 use mathlib.Core.List.{List, [], _∷_, _++_, append-assoc}
 use lib.ListN.{length, take, drop, set, length-append, length-drop, take-append-drop}
 use lib.Seq.{length-take-le, take-at, drop-drop, drop-append-add, set-split}
-use Rattle.list_line.specs.Writes.{pasted}
+use Rattle.list_line.specs.Trusted.Writes.{pasted}
 
 pub paste-none : (old : List ℕ) (at : ℕ) → pasted old at [] ≡ old
 paste-none old at = let e : at + 0 ≡ at = omega arith in rw e (take-append-drop at old)

@@ -1,2 +1,3 @@
+pub mod Trusted
 pub mod Lines
 pub mod LineLaws

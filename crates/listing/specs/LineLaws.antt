@@ -9,18 +9,18 @@ use lib.Dec.{leb}
 use lib.ListN.{length, getD, length-append, length-take, List·getD-eq-default}
 use lib.Seq.{getD-take}
 use Rattle.lists.specs.ListLaws.{every-at, gather-append, gather-map}
-use Rattle.lists.specs.Lists.{gather, upto}
+use Rattle.lists.specs.Trusted.Lists.{gather, upto}
 use Rattle.lists.specs.Cases.{by-leb}
-use Rattle.table.specs.Records.{blank}
+use Rattle.table.specs.Trusted.Records.{blank}
 use Rattle.table.specs.RuleLaws.{map-append}
 use Rattle.part.specs.declared.Part.{Part}
 use Rattle.table.specs.ResultLaws.{says-true}
-use Rattle.part.specs.Parts.{inUse}
-use Rattle.part.specs.Sound.{Sound}
-use Rattle.part.specs.SoundTest.{sound}
+use Rattle.part.specs.Trusted.Parts.{inUse}
+use Rattle.part.specs.Trusted.Sound.{Sound}
+use Rattle.part.specs.Trusted.SoundTest.{sound}
 use Rattle.part.specs.SoundLaws.{sound-reflects}
-use Rattle.part.specs.Listing.{tableLine, lineOf, listOf}
-use Rattle.list_line.specs.Writes.{wrote, pasted}
+use Rattle.part.specs.Trusted.Listing.{tableLine, lineOf, listOf}
+use Rattle.list_line.specs.Trusted.Writes.{wrote, pasted}
 use Rattle.list_line.specs.FieldLaws.{table-length}
 use Rattle.list_line.specs.Line.{tableWidth, topLine}
 use Rattle.listing.specs.Lines.{turnedDown, fitted, lineWritten, listWritten, tableLines, longest}

@@ -5,22 +5,13 @@ use mathlib.Core.Bool.{cond}
 use mathlib.Core.List.{List}
 use lib.Dec.{leb}
 use lib.ListN.{length, getD}
-use Rattle.lists.specs.Lists.{gather, upto}
-use Rattle.table.specs.Limits.{inputRoom, tableRoom}
-use Rattle.table.specs.Records.{blank}
+use Rattle.lists.specs.Trusted.Lists.{gather, upto}
+use Rattle.table.specs.Trusted.Limits.{inputRoom, tableRoom}
+use Rattle.table.specs.Trusted.Records.{blank}
 use Rattle.part.specs.declared.Part.{Part}
-use Rattle.part.specs.SoundTest.{sound}
-use Rattle.part.specs.Listing.{tableLine, lineOf, listOf}
-pub use Rattle.list_line.specs.Writes.{Result, wrote, refused, Outcome, pasted}
-use Rattle.listing.specs.declared.Answer.{Answer}
-use Rattle.listing.specs.declared.Answer.the-variants.{Wrote, NotSound, NoLine, NoRoom}
-
--- 01's number for each refusal
-abbrev pub resultOf : Answer → Result
-resultOf (Wrote count) = wrote count
-resultOf NotSound = refused 20 0
-resultOf NoLine = refused 15 0
-resultOf NoRoom = refused 14 0
+use Rattle.part.specs.Trusted.SoundTest.{sound}
+use Rattle.part.specs.Trusted.Listing.{tableLine, lineOf, listOf}
+pub use Rattle.list_line.specs.Trusted.Writes.{Result, wrote, refused, Outcome, pasted}
 
 -- turned down: no byte is altered
 abbrev pub turnedDown : ℕ → List ℕ → Outcome

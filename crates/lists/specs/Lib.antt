@@ -1,6 +1,5 @@
-pub mod Lists
+pub mod Trusted
 pub mod Cases
-pub mod Tests
 pub mod ListLaws
 pub mod MixLaws
 pub mod NumberLaws

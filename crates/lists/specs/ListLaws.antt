@@ -7,7 +7,7 @@ use mathlib.Core.Logic.{_≢_, ⊎-elim}
 use mathlib.Core.List.{List, [], _∷_, _++_, append-assoc, map, List·Memᴰ·not-nil, List·Memᴰ·append-cases, Memᴰ·append-left, Memᴰ·append-right}
 use lib.ListN.{length, getD, drop}
 use lib.Seq.{drop-nil}
-use Rattle.lists.specs.Lists.{_∈_, first, later, Every, Inserted, here, there, Permuted, empty, more, gather}
+use Rattle.lists.specs.Trusted.Lists.{_∈_, first, later, Every, Inserted, here, there, Permuted, empty, more, gather}
 
 module _ {A : Type 0} where
   -- ---- every element

@@ -5,9 +5,9 @@ use mathlib.Core.Logic.{_⊎_, inl, inr}
 use mathlib.Core.Bool.{Bool, true, false, not, _&&_, _||_}
 use mathlib.Core.List.{List, [], _∷_, Memᴰ·cast}
 use lib.Dec.{T, leb, ltb, eqb, leb→le, le→leb, eqb→eq, eqb-refl, T-not, not-T}
-use Rattle.lists.specs.Lists.{_∈_, first, later, Every, Pairwise}
+use Rattle.lists.specs.Trusted.Lists.{_∈_, first, later, Every, Pairwise}
 use Rattle.lists.specs.ListLaws.{every-none, every-cons, every-head, every-tail}
-use Rattle.lists.specs.Tests.{all, any, elem, pairwise, within, either}
+use Rattle.lists.specs.Trusted.Tests.{all, any, elem, pairwise, within, either}
 
 pub record Reflects (b : Bool) (P : Type 0) : Type 0 where
   pub to : T b → P

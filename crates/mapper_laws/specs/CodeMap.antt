@@ -3,29 +3,29 @@ use Prim.Native.Nat.{ℕ, _+_, _<_, _≤_}
 use mathlib.Core.Path.{_≡_}
 use mathlib.Core.Bool.{Bool, true, false}
 use lib.ListN.{length, getD, set, take}
-use Rattle.lists.specs.Lists.{Every, upto}
+use Rattle.lists.specs.Trusted.Lists.{Every, upto}
 use Rattle.tree.specs.declared.Kind.{Kind}
-use Rattle.tree.specs.Limits.{codeBase}
+use Rattle.tree.specs.Trusted.Limits.{codeBase}
 use Rattle.plan.specs.declared.Key.{Key}
 use Rattle.plan.specs.declared.Token.{Token}
 use Rattle.plan.specs.Key.{leaf-key}
 use Rattle.plan.specs.Reach.{LeastReach}
 use Rattle.plan.specs.Plans.{Planned}
 use Rattle.plan.specs.Entries.{Good as GoodKeys}
-use Rattle.cover.specs.Tables.{Table as LookupTable}
-use Rattle.cover.specs.Added.{AddedLeast}
+use Rattle.cover.specs.Trusted.Tables.{Table as LookupTable}
+use Rattle.cover.specs.Trusted.CoverTables.{AddedLeast}
 use Rattle.plan.specs.Limits.{mostBelow}
 use Rattle.sheet.specs.declared.Edge.{Edge}
 use Rattle.sheet.specs.declared.Gate.{Gate}
 use Rattle.sheet.specs.declared.Sheet.{Sheet}
-use Rattle.sheet.specs.Limits.{mostGates, mostFanins, faninRoom}
-use Rattle.sheet.specs.Sheet.{DrawnGate, faninGates}
-use Rattle.sheet.specs.Answers.{drawnGate, drawnSheet}
-use Rattle.sheet.specs.Trees.{drawn}
-use Rattle.sheet.specs.Formed.{WellFormed}
+use Rattle.sheet.specs.Trusted.Limits.{mostGates, mostFanins, faninRoom}
+use Rattle.sheet.specs.Trusted.Sheet.{DrawnGate, faninGates}
+use Rattle.sheet.specs.Trusted.Answers.{drawnGate, drawnSheet}
+use Rattle.sheet.specs.Trusted.Trees.{drawn}
+use Rattle.sheet.specs.Trusted.Formed.{WellFormed}
 use Rattle.table.specs.declared.Table.{Table}
-use Rattle.table.specs.Limits.{inputRoom, tableRoom}
-use Rattle.table.specs.Records.{tableOf, recordOf}
+use Rattle.table.specs.Trusted.Limits.{inputRoom, tableRoom}
+use Rattle.table.specs.Trusted.Records.{tableOf, recordOf}
 use Rattle.mapper_laws.specs.declared.Mapping.{Mapping}
 use Rattle.mapper_laws.specs.declared.Run.{Run}
 use Rattle.pending.specs.Pendings.{Kept, Neat}

@@ -8,31 +8,31 @@ use mathlib.Core.Bool.{false}
 use mathlib.Core.List.{List, [], _∷_, _++_, append-assoc, append-nil, map}
 use lib.ListN.{length, getD, set, take, drop, length-set, length-take}
 use lib.Seq.{getD-take, getD-drop, length-take-le, take-suc, take-suc-set, getD-set-same, getD-set-other}
-use Rattle.lists.specs.Lists.{Every, Sorted}
+use Rattle.lists.specs.Trusted.Lists.{Every, Sorted}
 use Rattle.lists.specs.Cases.{by-eqb}
 use Rattle.lists.specs.ListLaws.{every-none, every-head, every-left, every-right}
 use Rattle.lists.specs.NumberLaws.{sorted-sorted}
 use Rattle.tree.specs.declared.Kind.{Kind}
-use Rattle.tree.specs.Limits.{codeBase}
+use Rattle.tree.specs.Trusted.Limits.{codeBase}
 use Rattle.plan.specs.declared.Key.{Key}
 use Rattle.plan.specs.declared.Plan.{Plan}
 use Rattle.plan.specs.Key.{leaf-key}
 use Rattle.plan.specs.PlanOf.{Answer, PlanOf}
 use Rattle.plan.specs.PlanOfLaws.{plan-answer, answer-most}
-use Rattle.cover.specs.Placed.{codes*}
+use Rattle.cover.specs.Trusted.Placed.{codes*}
 use Rattle.plan.specs.Steps.{tokens}
 use Rattle.table.specs.declared.Table.{Table}
-use Rattle.table.specs.Limits.{inputRoom}
-use Rattle.table.specs.Records.{tableOf, recordOf}
+use Rattle.table.specs.Trusted.Limits.{inputRoom}
+use Rattle.table.specs.Trusted.Records.{tableOf, recordOf}
 use Rattle.table.specs.RecordLaws.{read-back}
 use Rattle.table.specs.RuleLaws.{map-append}
 use Rattle.sheet.specs.declared.Source.{Source}
 use Rattle.sheet.specs.declared.Source.the-variants.{Net, Gate}
 use Rattle.sheet.specs.declared.Edge.{Edge}
 use Rattle.sheet.specs.declared.Gate.{Gate as SheetGate}
-use Rattle.sheet.specs.Limits.{mostGates}
-use Rattle.sheet.specs.Answers.{drawnGate}
-use Rattle.sheet.specs.Sheet.{gateOf, faninGates}
+use Rattle.sheet.specs.Trusted.Limits.{mostGates}
+use Rattle.sheet.specs.Trusted.Answers.{drawnGate}
+use Rattle.sheet.specs.Trusted.Sheet.{gateOf, faninGates}
 use Rattle.mapper_laws.specs.declared.Run.{Run}
 use Rattle.mapper_laws.specs.declared.Operands.{Operands}
 use Rattle.mapper_laws.specs.declared.Held.{Held}

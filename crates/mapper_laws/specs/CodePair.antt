@@ -9,7 +9,7 @@ use Rattle.plan.specs.Key.{leaf-key, join, cuts}
 use Rattle.sheet.specs.declared.Source.{Source}
 use Rattle.sheet.specs.declared.Source.the-variants.{Net, Gate}
 use Rattle.table.specs.declared.Table.{Table}
-use Rattle.table.specs.Records.{recordOf}
+use Rattle.table.specs.Trusted.Records.{recordOf}
 use Rattle.pending.specs.declared.Pending.{Pending}
 use Rattle.mapper_laws.specs.declared.Operands.{Operands}
 use Rattle.mapper_laws.specs.declared.Run.{Run}

@@ -6,9 +6,9 @@ use mathlib.Core.Path.{_≡_}
 use lib.ListN.{length, getD, set, take, drop}
 use Rattle.table.specs.declared.Table.{Table}
 use Rattle.tree.specs.declared.Kind.{Kind}
-use Rattle.tree.specs.Limits.{codeBase}
-use Rattle.table.specs.Records.{tableOf, recordOf}
-use Rattle.cover.specs.Tables.{Table as LookupTable}
+use Rattle.tree.specs.Trusted.Limits.{codeBase}
+use Rattle.table.specs.Trusted.Records.{tableOf, recordOf}
+use Rattle.cover.specs.Trusted.Tables.{Table as LookupTable}
 use Rattle.pending.specs.declared.Pending.{Pending}
 use Rattle.mapper_laws.specs.declared.Run.{Run}
 use Rattle.mapper_laws.specs.declared.Operands.{Operands}

@@ -8,15 +8,15 @@ use mathlib.Core.List.{List, [], _∷_, _++_, map}
 use lib.ListN.{length, getD, set, take, drop, length-map, length-set, length-take}
 use lib.Seq.{drop-cons, getD-take, getD-set-same, getD-set-other, take-suc-set, length-take-le}
 use Rattle.lists.specs.Cases.{by-eqb}
-use Rattle.lists.specs.Lists.{Sorted}
+use Rattle.lists.specs.Trusted.Lists.{Sorted}
 use Rattle.lists.specs.ListLaws.{every-none, drop-past}
 use Rattle.lists.specs.NumberLaws.{sorted-sorted}
 use Rattle.tree.specs.declared.Kind.{Kind}
-use Rattle.tree.specs.Limits.{codeBase}
-use Rattle.cover.specs.Tables.{Table as LookupTable}
+use Rattle.tree.specs.Trusted.Limits.{codeBase}
+use Rattle.cover.specs.Trusted.Tables.{Table as LookupTable}
 use Rattle.table.specs.declared.Table.{Table}
-use Rattle.table.specs.Limits.{inputRoom}
-use Rattle.table.specs.Records.{tableOf, recordOf}
+use Rattle.table.specs.Trusted.Limits.{inputRoom}
+use Rattle.table.specs.Trusted.Records.{tableOf, recordOf}
 use Rattle.table.specs.RecordLaws.{read-back}
 use Rattle.table.specs.RuleLaws.{map-append}
 use Rattle.pending.specs.declared.Pending.{Pending}

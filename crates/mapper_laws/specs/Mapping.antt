@@ -5,24 +5,24 @@ use mathlib.Core.Path.{_≡_}
 use mathlib.Core.Bool.{Bool, false}
 use mathlib.Core.List.{List, [], _∷_, _++_, map}
 use lib.ListN.{length, getD}
-use Rattle.lists.specs.Lists.{Every, Distinct, Permuted, Paired, gather, sum}
+use Rattle.lists.specs.Trusted.Lists.{Every, Distinct, Permuted, Paired, gather, sum}
 use Rattle.tree.specs.declared.Kind.{Kind}
 use Rattle.tree.specs.declared.Kind.the-variants.{And as and}
-use Rattle.tree.specs.Tree.{Node, gate, Edges}
+use Rattle.tree.specs.Trusted.Tree.{Node, gate, Edges}
 use Rattle.plan.specs.declared.Key.{Key}
 use Rattle.plan.specs.declared.Token.{Token}
 use Rattle.plan.specs.Key.{leaf-key}
-use Rattle.cover.specs.Cover.{Cover, net, top, Fanins, end}
+use Rattle.cover.specs.Trusted.Cover.{Cover, net, top, Fanins, end}
 use Rattle.cover.specs.Nets.{nets*}
 use Rattle.plan.specs.Reach.{Best}
-use Rattle.cover.specs.Tables.{Table, Placed, numbered}
-use Rattle.cover.specs.Placed.{tableOf, records*}
+use Rattle.cover.specs.Trusted.Tables.{Table, Placed, numbered}
+use Rattle.cover.specs.Trusted.Placed.{tableOf, records*}
 use Rattle.plan.specs.Plans.{Body}
 use Rattle.sheet.specs.declared.Source.{Source}
 use Rattle.sheet.specs.declared.Source.the-variants.{Net, Gate}
 use Rattle.sheet.specs.declared.Edge.{Edge}
-use Rattle.sheet.specs.Sheet.{DrawnGate, leafNets, gatesRead}
-use Rattle.sheet.specs.Trees.{treesOf}
+use Rattle.sheet.specs.Trusted.Sheet.{DrawnGate, leafNets, gatesRead}
+use Rattle.sheet.specs.Trusted.Trees.{treesOf}
 use Rattle.pending.specs.Operands.{Operand, single}
 use Rattle.mapper_laws.specs.Run.{run}
 

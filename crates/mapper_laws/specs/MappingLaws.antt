@@ -6,21 +6,21 @@ use mathlib.Core.Bool.{Bool, false}
 use mathlib.Core.List.{List, [], _∷_, _++_, append-assoc, append-nil}
 use lib.ListN.{length, getD, length-append, length-map, List·getD-append}
 use lib.Seq.{getD-append-add}
-use Rattle.lists.specs.Lists.{Every, Distinct, Permuted, Paired, no-pair, pair, gather, upto, sum}
+use Rattle.lists.specs.Trusted.Lists.{Every, Distinct, Permuted, Paired, no-pair, pair, gather, upto, sum}
 use Rattle.lists.specs.ListLaws.{every-none, every-cons, every-head, every-at, every-append, every-left, every-right, permuted-refl, permuted-sym, permuted-trans, permuted-append, permuted-swap, permuted-length, gather-append, gather-permuted, gather-same, interchange}
 use Rattle.lists.specs.MixLaws.{paired-append}
 use Rattle.lists.specs.NumberLaws.{sum-append, sum-same, sum-none}
 use Rattle.tree.specs.declared.Kind.{Kind}
-use Rattle.tree.specs.Tree.{Node, leaf, gate, leaves, leaves*}
+use Rattle.tree.specs.Trusted.Tree.{Node, leaf, gate, leaves, leaves*}
 use Rattle.plan.specs.declared.Key.{Key}
 use Rattle.plan.specs.declared.Token.{Token}
-use Rattle.cover.specs.Cover.{Cover, net, top, tables, split}
+use Rattle.cover.specs.Trusted.Cover.{Cover, net, top, tables, split}
 use Rattle.cover.specs.Nets.{split-nets, tables-most*}
-use Rattle.cover.specs.Tables.{Table, Placed, numbered}
+use Rattle.cover.specs.Trusted.Tables.{Table, Placed, numbered}
 use Rattle.cover.specs.Eval.{numbered-append, numbered-length}
 use Rattle.cover.specs.Size.{records-length*}
 use Rattle.plan.specs.Least.{body-least}
-use Rattle.cover.specs.Placed.{tableOf}
+use Rattle.cover.specs.Trusted.Placed.{tableOf}
 use Rattle.plan.specs.Reach.{LeastReach, Best, at-leaf, Bests, at-end, at-edge}
 use Rattle.plan.specs.ReachLaws.{best-gate}
 use Rattle.plan.specs.Plans.{Planned, drawn, Standing, Ready, ready-none, ready-edge}
@@ -29,11 +29,11 @@ use Rattle.plan.specs.Placings.{inner}
 use Rattle.sheet.specs.declared.Source.{Source}
 use Rattle.sheet.specs.declared.Source.the-variants.{Net, Gate}
 use Rattle.sheet.specs.declared.Edge.{Edge}
-use Rattle.sheet.specs.Sheet.{DrawnGate, DrawnSheet, from, netOf, gateOf, faninNets, faninGates, leafNets, gatesRead}
-use Rattle.sheet.specs.Trees.{nodeOf, edgesOf, treesOf, treeOf, drawn as drawnSheet}
-use Rattle.sheet.specs.Formed.{WellFormed}
+use Rattle.sheet.specs.Trusted.Sheet.{DrawnGate, DrawnSheet, from, netOf, gateOf, faninNets, faninGates, leafNets, gatesRead}
+use Rattle.sheet.specs.Trusted.Trees.{nodeOf, edgesOf, treesOf, treeOf, drawn as drawnSheet}
+use Rattle.sheet.specs.Trusted.Formed.{WellFormed}
 use Rattle.sheet.specs.TreeLaws.{without, from-end}
-use Rattle.cover.specs.Added.{Legal, AddedLeast}
+use Rattle.cover.specs.Trusted.CoverTables.{Legal, AddedLeast}
 use Rattle.pending.specs.Operands.{single}
 use Rattle.mapper_laws.specs.Mapping.{Mapped, unmapped, mappedAt, leafCount, Stood, keyOf, sourceCover, keysOf, coversOf, Low, heldTable, innerOf, sourceTable, operandsOf, Progress, Next}
 use Rattle.mapper_laws.specs.CountLaws.{mapped-sums}

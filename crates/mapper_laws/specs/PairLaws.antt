@@ -6,7 +6,7 @@ use mathlib.Core.Path.{_≡_, refl, sym, ap, ap₂, _∙_, subst, subst₂}
 use mathlib.Core.Bool.{Bool, true, false}
 use mathlib.Core.List.{List, [], _∷_, _++_}
 use lib.ListN.{length, take, replicate, getD}
-use Rattle.lists.specs.Lists.{Every, empty, more, here, there, neither, left, right}
+use Rattle.lists.specs.Trusted.Lists.{Every, empty, more, here, there, neither, left, right}
 use Rattle.lists.specs.ListLaws.{every-none, every-cons, every-head, every-tail}
 use Rattle.tree.specs.declared.Kind.{Kind}
 use Rattle.plan.specs.declared.Key.{Key}
@@ -24,9 +24,9 @@ use Rattle.sheet.specs.declared.Source.{Source}
 use Rattle.sheet.specs.declared.Source.the-variants.{Net, Gate}
 use Rattle.sheet.specs.declared.Edge.{Edge}
 use Rattle.sheet.specs.declared.Gate.{Gate as SheetGate}
-use Rattle.sheet.specs.Limits.{mostGates}
-use Rattle.sheet.specs.Answers.{drawnGate}
-use Rattle.sheet.specs.Sheet.{gateOf}
+use Rattle.sheet.specs.Trusted.Limits.{mostGates}
+use Rattle.sheet.specs.Trusted.Answers.{drawnGate}
+use Rattle.sheet.specs.Trusted.Sheet.{gateOf}
 use Rattle.mapper_laws.specs.declared.Operands.{Operands}
 use Rattle.mapper_laws.specs.declared.Held.{Held}
 use Rattle.mapper_laws.specs.declared.MappedGate.{MappedGate}
@@ -35,7 +35,7 @@ use Rattle.pending.specs.declared.Pending.{Pending}
 use Rattle.pending.specs.Operands.{merged}
 use Rattle.pending.specs.Pendings.{operandOf, Mergeable}
 use Rattle.table.specs.declared.Table.{Table}
-use Rattle.table.specs.Records.{recordOf}
+use Rattle.table.specs.Trusted.Records.{recordOf}
 use Rattle.mapper_laws.specs.CodeRun.{operandAt, heldIf, pushed, leftPlaced, joined, Joins, Holds, Following, Runnable, Ran}
 use Rattle.mapper_laws.specs.CodeRunLaws.{push-advanced, join-fits, join-advanced, following-start, following-advances, following-next, following-end}
 use Rattle.mapper_laws.specs.CodeMap.{withFanin, keysIn, Mappable, GateMapped, noHeld, Reaches, Gathering, Gathers, Staged}

@@ -5,7 +5,7 @@ use mathlib.Core.Bool.{Bool, true, false}
 use mathlib.Core.List.{List, [], _∷_, _++_}
 use lib.ListN.{length, getD}
 use Rattle.tree.specs.declared.Kind.{Kind}
-use Rattle.cover.specs.Tables.{Table}
+use Rattle.cover.specs.Trusted.Tables.{Table}
 use Rattle.pending.specs.Operands.{Operand, single, merged}
 use Rattle.plan.specs.declared.Token.{Token}
 use Rattle.plan.specs.declared.Token.the-variants.{Push as push, Join as join}

@@ -7,17 +7,17 @@ use mathlib.Core.Bool.{Bool, true, false, cond}
 use mathlib.Core.List.{List, [], _∷_, _++_, append-assoc, append-nil}
 use lib.ListN.{length, getD, length-append}
 use Rattle.lists.specs.Cases.{by-eqb}
-use Rattle.lists.specs.Lists.{Permuted, sorted, upto, gather}
+use Rattle.lists.specs.Trusted.Lists.{Permuted, sorted, upto, gather}
 use Rattle.lists.specs.ListLaws.{every-none, every-cons, every-head, every-append, permuted-sym, permuted-trans, permuted-append, permuted-to, permuted-from}
 use Rattle.lists.specs.NumberLaws.{sorted-permuted, sorted-sorted, sorted-only}
 use Rattle.tree.specs.declared.Kind.{Kind}
 use Rattle.tree.specs.declared.Kind.the-variants.{And as and, Or as or}
-use Rattle.tree.specs.Tree.{Edges, turned, meet, unit}
-use Rattle.cover.specs.Bits.{bit, digit}
-use Rattle.cover.specs.Cover.{Cover, net, top, Fanins, end, new, pick}
-use Rattle.cover.specs.Tables.{Table, output, tabled, numbered}
+use Rattle.tree.specs.Trusted.Tree.{Edges, turned, meet, unit}
+use Rattle.cover.specs.Trusted.Bits.{bit, digit}
+use Rattle.cover.specs.Trusted.Cover.{Cover, net, top, Fanins, end, new, pick}
+use Rattle.cover.specs.Trusted.Tables.{Table, output, tabled, numbered}
 use Rattle.cover.specs.Eval.{Agree, tabled-output, numbered-append}
-use Rattle.cover.specs.Placed.{code, codes, codes*, held, held*, tableOf, records*}
+use Rattle.cover.specs.Trusted.Placed.{code, codes, codes*, held, held*, tableOf, records*}
 use Rattle.cover.specs.Value.{held-same, held-same*}
 use Rattle.plan.specs.declared.Key.{Key}
 use Rattle.plan.specs.declared.Token.{Token}

@@ -5,7 +5,7 @@ use mathlib.Core.Path.{_≡_, refl, sym, ap, _∙_}
 use mathlib.Core.Bool.{Bool, true, false}
 use mathlib.Core.List.{List, [], _∷_, _++_, append-assoc, append-nil}
 use lib.ListN.{length, getD, length-append}
-use Rattle.lists.specs.Lists.{upto}
+use Rattle.lists.specs.Trusted.Lists.{upto}
 use Rattle.lists.specs.ListLaws.{permuted-length}
 use Rattle.lists.specs.NumberLaws.{sorted-permuted, upto-length}
 use Rattle.tree.specs.declared.Kind.{Kind}
@@ -13,7 +13,7 @@ use Rattle.plan.specs.declared.Key.{Key}
 use Rattle.plan.specs.declared.Token.{Token}
 use Rattle.plan.specs.declared.Token.the-variants.{Join as join}
 use Rattle.plan.specs.Key.{leaf-key, Taken, held, cut}
-use Rattle.cover.specs.Tables.{Table}
+use Rattle.cover.specs.Trusted.Tables.{Table}
 use Rattle.plan.specs.Plans.{Denotes, fanin, binary, Planned}
 use Rattle.pending.specs.Operands.{Operand, single, merged}
 use Rattle.mapper_laws.specs.Run.{merge, operand, tables, SafeRun}

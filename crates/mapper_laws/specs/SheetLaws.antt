@@ -8,35 +8,35 @@ use mathlib.Core.List.{List, [], _∷_, _++_, map}
 use lib.ListN.{List·getD-append, length, getD, set, take, drop, length-map, length-set, length-append, length-replicate, replicate, take-append-drop}
 use lib.Seq.{take-length, getD-append-add, getD-take, length-take-le, take-suc, take-suc-set, getD-set-same, getD-set-other}
 use Rattle.lists.specs.Cases.{by-eqb}
-use Rattle.lists.specs.Lists.{Every, Distinct, gather, sorted, upto}
+use Rattle.lists.specs.Trusted.Lists.{Every, Distinct, gather, sorted, upto}
 use Rattle.lists.specs.ListLaws.{every-none, every-cons, every-head, every-append, every-left, every-right, every-at, permuted-length, gather-append}
 use Rattle.lists.specs.NumberLaws.{sorted-permuted}
 use Rattle.tree.specs.declared.Kind.the-variants.{And}
-use Rattle.tree.specs.Limits.{codeBase}
+use Rattle.tree.specs.Trusted.Limits.{codeBase}
 use Rattle.plan.specs.Entries.{Small, Fanin}
 use Rattle.plan.specs.Reach.{LeastReach}
 use Rattle.plan.specs.ReachBounds.{reach-small}
 use Rattle.plan.specs.Plans.{Planned}
-use Rattle.cover.specs.Placed.{codes*, held*, tableOf as gateTable}
+use Rattle.cover.specs.Trusted.Placed.{codes*, held*, tableOf as gateTable}
 use Rattle.cover.specs.Nets.{least-bounds}
-use Rattle.cover.specs.Added.{AddedLeast}
+use Rattle.cover.specs.Trusted.CoverTables.{AddedLeast}
 use Rattle.cover.specs.Size.{codes-length*}
-use Rattle.cover.specs.Tables.{Table as LookupTable}
+use Rattle.cover.specs.Trusted.Tables.{Table as LookupTable}
 use Rattle.sheet.specs.declared.Source.{Source}
 use Rattle.sheet.specs.declared.Source.the-variants.{Net, Gate}
 use Rattle.sheet.specs.declared.Edge.{Edge}
-use Rattle.sheet.specs.Limits.{mostGates}
-use Rattle.sheet.specs.Sheet.{DrawnGate, DrawnSheet, gateOf, faninNets, faninGates, leafNets, gatesRead}
-use Rattle.sheet.specs.Trees.{drawn}
+use Rattle.sheet.specs.Trusted.Limits.{mostGates}
+use Rattle.sheet.specs.Trusted.Sheet.{DrawnGate, DrawnSheet, gateOf, faninNets, faninGates, leafNets, gatesRead}
+use Rattle.sheet.specs.Trusted.Trees.{drawn}
 use Rattle.sheet.specs.TreeLaws.{drawn-legal, leaves-count}
 use Rattle.sheet.specs.declared.Sheet.{Sheet}
 use Rattle.sheet.specs.declared.Gate.{Gate as SheetGate}
-use Rattle.sheet.specs.Answers.{drawnGate, drawnSheet}
-use Rattle.sheet.specs.Formed.{Before, Earlier, WellFormed}
+use Rattle.sheet.specs.Trusted.Answers.{drawnGate, drawnSheet}
+use Rattle.sheet.specs.Trusted.Formed.{Before, Earlier, WellFormed}
 use Rattle.sheet.specs.ReadLaws.{gates-distinct}
 use Rattle.table.specs.declared.Table.{Table}
-use Rattle.table.specs.Limits.{inputRoom, tableRoom}
-use Rattle.table.specs.Records.{tableOf, recordOf}
+use Rattle.table.specs.Trusted.Limits.{inputRoom, tableRoom}
+use Rattle.table.specs.Trusted.Records.{tableOf, recordOf}
 use Rattle.table.specs.RecordLaws.{read-back}
 use Rattle.table.specs.RuleLaws.{map-append}
 use Rattle.mapper_laws.specs.CodeRunLaws.{map-at, stack-length, placed-length}

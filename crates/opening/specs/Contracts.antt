@@ -1,7 +1,7 @@
 -- What the code's values stand for: an answer as a number and a line, and the part that an opening line gives. Definitions only.
 use mathlib.Core.Bool.{cond}
 use lib.Dec.{eqb}
-use Rattle.part.specs.Answers.{Answer, accepted, refused, Result}
+use Rattle.part.specs.Trusted.Answers.{Answer, accepted, refused, Result}
 use Rattle.opening.specs.declared.Told.{Told}
 use Rattle.opening.specs.declared.Start.{Start}
 

@@ -1,4 +1,4 @@
-pub mod Opening
+pub mod Trusted
 pub mod Contracts
 pub mod OpeningLaws
 pub mod OpeningLine

@@ -7,8 +7,8 @@ use mathlib.Core.List.{List}
 use borrow.Author.Tests.{eq-eqb, ne-eqb}
 use lib.Dec.{eqb}
 use lib.ListN.{getD, take, drop}
-use Rattle.decimal.specs.Number.{Number, columns, fieldNumber}
-use Rattle.opening.specs.Opening.{both, openingNumbers}
+use Rattle.decimal.specs.Trusted.Number.{Number, columns, fieldNumber}
+use Rattle.opening.specs.Trusted.Opening.{both, openingNumbers}
 
 both-none : (x : Option Number) → both x none ≡ none
 both-none none = refl

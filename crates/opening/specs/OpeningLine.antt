@@ -9,15 +9,15 @@ use lib.ListN.{length, getD, take, drop, List·getD-eq-default}
 use lib.Seq.{take-add, split-at}
 use Rattle.lists.specs.ListLaws.{every-none, every-cons}
 use Rattle.lists.specs.Cases.{by-eqb, by-leb}
-use Rattle.decimal.specs.Number.{Number, columns, fieldNumber}
-use Rattle.decimal.specs.Columns.{signedFieldOf}
+use Rattle.decimal.specs.Trusted.Number.{Number, columns, fieldNumber}
+use Rattle.decimal.specs.Trusted.Columns.{signedFieldOf}
 use Rattle.decimal.specs.NumberLaws.{field-within}
-use Rattle.sheet.specs.Line.{line, with, fields}
-use Rattle.drawing.specs.Written.{fieldsText, lineText}
+use Rattle.sheet.specs.Trusted.Line.{line, with, fields}
+use Rattle.drawing.specs.Trusted.Written.{fieldsText, lineText}
 use Rattle.drawing.specs.FieldText.{no-some, field-text}
 use Rattle.drawing.specs.LineLaws.{line-written, fields-written}
 use Rattle.drawing.specs.OneText.{fields-text, line-text}
-use Rattle.opening.specs.Opening.{both, openingNumbers}
+use Rattle.opening.specs.Trusted.Opening.{both, openingNumbers}
 use Rattle.opening.specs.OpeningLaws.{two-numbers}
 
 with-some : (o : Option Number) (p : Option (List Number)) {x : Number} {xs : List Number} → with o p ≡ some (x ∷ xs) → (o ≡ some x) × (p ≡ some xs)

@@ -1,9 +1,9 @@
 // The opening line of an input: K and the capacity in two fields, and the part that they open.
 ghost use mathlib.Core.Path.{_≡_};
 ghost use mathlib.Core.Option.{none};
-ghost use Rattle.part.specs.Adds.{opened};
-ghost use Rattle.part.specs.Openings.{openingAnswer};
-ghost use Rattle.opening.specs.Opening.{count as countOf, openingNumbers, openedBy};
+ghost use Rattle.part.specs.Trusted.Add.{opened};
+ghost use Rattle.part.specs.Trusted.OpenAnswers.{openingAnswer};
+ghost use Rattle.opening.specs.Trusted.Opening.{count as countOf, openingNumbers, openedBy};
 ghost use Rattle.opening.specs.Contracts.{told as toldAnswer, startResult};
 use decimal::Field;
 use part::Opening;

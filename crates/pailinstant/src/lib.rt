@@ -1,6 +1,6 @@
 // The mapper for programs in other languages: `rt staticlib pailinstant` writes the archive.
 ghost use mathlib.Core.Path.{_≡_};
-ghost use Rattle.refusals.specs.Sentences.{refusalText, fitted};
+ghost use Rattle.refusals.specs.Trusted.Sentences.{refusalText, fitted};
 ghost use Rattle.pailinstant.specs.Calls.{PrintedInto};
 use program::Printed;
 use program::run;

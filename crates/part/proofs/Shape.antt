@@ -6,12 +6,12 @@ use lib.ListN.{length, length-map}
 use mir.Val.{Val}
 use denote.Array.{each}
 use denote.Shadow.{shadow}
-use Rattle.lists.specs.Lists.{Every}
+use Rattle.lists.specs.Trusted.Lists.{Every}
 use Rattle.lists.specs.ListLaws.{every-none, every-cons}
 use Rattle.table.specs.declared.Table.{Table}
 use Rattle.part.specs.declared.Part.{Part}
-use Rattle.table.specs.Limits.{inputRoom, tableRoom}
-use Rattle.part.specs.Parts.{Shaped}
+use Rattle.table.specs.Trusted.Limits.{inputRoom, tableRoom}
+use Rattle.part.specs.Trusted.Parts.{Shaped}
 use Rattle.table.proofs.Table.{the-field}
 
 -- the records are owned, one by one

@@ -7,13 +7,13 @@ use mathlib.Core.List.{List, [], _∷_, _++_}
 use lib.ListN.{length, replicate, drop}
 use Rattle.table.specs.declared.Table.{Table}
 use Rattle.part.specs.declared.Part.{Part}
-use Rattle.table.specs.Limits.{inputRoom}
-use Rattle.table.specs.Records.{blank}
-use Rattle.table.specs.RecordTest.{Verdict, none, bad, refused, tested}
-use Rattle.part.specs.Parts.{blanks}
-use Rattle.part.specs.SoundTest.{sound}
-use Rattle.part.specs.Adds.{opened}
-use Rattle.part.specs.Listing.{listOf}
+use Rattle.table.specs.Trusted.Limits.{inputRoom}
+use Rattle.table.specs.Trusted.Records.{blank}
+use Rattle.table.specs.Trusted.RecordTest.{Verdict, none, bad, refused, tested}
+use Rattle.part.specs.Trusted.Parts.{blanks}
+use Rattle.part.specs.Trusted.SoundTest.{sound}
+use Rattle.part.specs.Trusted.Add.{opened}
+use Rattle.part.specs.Trusted.Listing.{listOf}
 
 -- a record with its unused inputs zero
 abbrev pub made : ℕ → List ℕ → ℕ → Table

@@ -1,12 +1,5 @@
-pub mod Parts
-pub mod Sound
-pub mod SoundTest
-pub mod Sheets
-pub mod Answers
-pub mod Adds
-pub mod Openings
-pub mod Adding
-pub mod Listing
+pub mod Trusted
 pub mod SoundLaws
-pub mod AddingLaws
 pub mod Examples
+pub mod Storing
+pub mod StoringLaws

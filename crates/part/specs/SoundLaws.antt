@@ -5,12 +5,12 @@ use mathlib.Core.Path.{_≡_}
 use lib.ListN.{length, drop, length-take}
 use lib.Seq.{length-take-le}
 use Rattle.lists.specs.TestLaws.{Reflects, reflects-le, reflects-map, reflects-and, reflects-all}
-use Rattle.table.specs.RecordTest.{isBlank}
+use Rattle.table.specs.Trusted.RecordTest.{isBlank}
 use Rattle.table.specs.TestedLaws.{blank-reflects, none-reflects}
 use Rattle.part.specs.declared.Part.{Part}
-use Rattle.part.specs.Parts.{inUse, Shaped}
-use Rattle.part.specs.Sound.{Sound}
-use Rattle.part.specs.SoundTest.{sound}
+use Rattle.part.specs.Trusted.Parts.{inUse, Shaped}
+use Rattle.part.specs.Trusted.Sound.{Sound}
+use Rattle.part.specs.Trusted.SoundTest.{sound}
 
 -- THE TEST OF A PART says that it is sound
 pub sound-reflects : (p : Part) → Reflects (sound p) (Sound p)

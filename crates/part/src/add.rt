@@ -1,12 +1,13 @@
 // Adding a sheet to a part.
 ghost use mathlib.Core.Path.{_≡_};
-ghost use Rattle.sheet.specs.Answers.{drawnSheet};
-ghost use Rattle.sheet.specs.Formed.{WellFormed};
+ghost use Rattle.sheet.specs.Trusted.Answers.{drawnSheet};
+ghost use Rattle.sheet.specs.Trusted.Formed.{WellFormed};
 ghost use Prim.Native.Nat.{_<_};
-ghost use Rattle.table.specs.Rules.{Padded};
-ghost use Rattle.part.specs.Sound.{Sound};
-ghost use Rattle.part.specs.Adds.{Offer, Add};
-ghost use Rattle.part.specs.Adding.{sheetOf, addingAnswer, withTable};
+ghost use Rattle.table.specs.Trusted.Rules.{Padded};
+ghost use Rattle.part.specs.Trusted.Sound.{Sound};
+ghost use Rattle.part.specs.Trusted.Add.{Offer, Add};
+ghost use Rattle.part.specs.Storing.{sheetOf, withTable};
+ghost use Rattle.part.specs.Trusted.AddAnswers.{addingAnswer};
 use crate::Added;
 use crate::Adding;
 use crate::Part;

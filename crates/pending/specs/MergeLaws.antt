@@ -13,18 +13,18 @@ use lib.ListN.{length, getD, take, drop, set, replicate, length-append, length-m
 use lib.Pow.{pow-pos, pow-mono, shl-exact, shr-shr, ones-split, high, ones-lt}
 use lib.Seq.{slice, slice-cons, slice-empty, length-slice, length-take-le, getD-drop, getD-set-same, getD-set-other, take-suc, take-suc-set, drop-drop, drop-at, drop-set-lt, append-snoc, set-split, take-at}
 use Rattle.lists.specs.Cases.{by-eqb, by-leb, if-leb}
-use Rattle.lists.specs.Lists.{Sorted, insert, sorted}
+use Rattle.lists.specs.Trusted.Lists.{Sorted, insert, sorted}
 use Rattle.lists.specs.ListLaws.{inserted-length, permuted-refl, permuted-length}
 use Rattle.lists.specs.NumberLaws.{insert-inserted, insert-first, sorted-permuted, sorted-sorted, sorted-only}
 use Rattle.tree.specs.declared.Kind.{Kind}
 use Rattle.tree.specs.declared.Kind.the-variants.{And as and, Or as or}
-use Rattle.tree.specs.Tree.{turned, meet}
-use Rattle.cover.specs.Bits.{bit, digit, truthOf, index, place}
-use Rattle.cover.specs.Tables.{output, tabled}
+use Rattle.tree.specs.Trusted.Tree.{turned, meet}
+use Rattle.cover.specs.Trusted.Bits.{bit, digit, truthOf, index, place}
+use Rattle.cover.specs.Trusted.Tables.{output, tabled}
 use Rattle.cover.specs.BitLaws.{bit-shift, bit-truthOf, truthOf-lt, truthOf-only}
-use Rattle.table.specs.Limits.{inputRoom}
+use Rattle.table.specs.Trusted.Limits.{inputRoom}
 use Rattle.table.specs.declared.Table.{Table}
-use Rattle.table.specs.Records.{reads, tableOf, recordOf}
+use Rattle.table.specs.Trusted.Records.{reads, tableOf, recordOf}
 use Rattle.pending.specs.declared.Pending.{Pending}
 use Rattle.pending.specs.Operands.{merged}
 use Rattle.pending.specs.Pendings.{operandOf, Mergeable}

@@ -4,10 +4,10 @@ use mathlib.Core.Path.{_≡_}
 use mathlib.Core.Bool.{Bool, not}
 use mathlib.Core.List.{List, _++_, map}
 use lib.ListN.{length, getD, take, replicate}
-use Rattle.lists.specs.Lists.{Sorted}
-use Rattle.cover.specs.Bits.{bit, index, place, truthOf}
+use Rattle.lists.specs.Trusted.Lists.{Sorted}
+use Rattle.cover.specs.Trusted.Bits.{bit, index, place, truthOf}
 use Rattle.table.specs.declared.Table.{Table}
-use Rattle.table.specs.Limits.{inputRoom}
+use Rattle.table.specs.Trusted.Limits.{inputRoom}
 
 -- the inputs of a record, its unused ones zero
 abbrev pub padded : List ℕ → List ℕ

@@ -2,10 +2,10 @@
 use Prim.Native.Nat.{ℕ}
 use mathlib.Core.Bool.{Bool}
 use mathlib.Core.List.{[], _∷_, _++_}
-use Rattle.lists.specs.Lists.{sorted}
+use Rattle.lists.specs.Trusted.Lists.{sorted}
 use Rattle.tree.specs.declared.Kind.{Kind}
-use Rattle.tree.specs.Tree.{turned, meet}
-use Rattle.cover.specs.Tables.{Table, output, tabled}
+use Rattle.tree.specs.Trusted.Tree.{turned, meet}
+use Rattle.cover.specs.Trusted.Tables.{Table, output, tabled}
 
 -- a table that is not placed, and whether it is read inverted
 pub record Operand : Type 0 where

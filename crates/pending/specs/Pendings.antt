@@ -1,10 +1,10 @@
 -- The code's pending tables as operands of a plan's run. Definitions only.
 use Prim.Native.Nat.{_+_, _≤_}
 use mathlib.Core.Path.{_≡_}
-use Rattle.lists.specs.Lists.{Sorted}
+use Rattle.lists.specs.Trusted.Lists.{Sorted}
 use Rattle.table.specs.declared.Table.{Table}
-use Rattle.table.specs.Limits.{inputRoom}
-use Rattle.table.specs.Records.{reads, tableOf, recordOf}
+use Rattle.table.specs.Trusted.Limits.{inputRoom}
+use Rattle.table.specs.Trusted.Records.{reads, tableOf, recordOf}
 use Rattle.pending.specs.declared.Pending.{Pending}
 use Rattle.pending.specs.Operands.{Operand}
 

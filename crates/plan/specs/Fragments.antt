@@ -6,10 +6,10 @@ use mathlib.Core.Path.{_≡_, refl, subst}
 use mathlib.Core.Bool.{Bool, false}
 use mathlib.Core.List.{List, [], _∷_, _++_, append-nil, map}
 use lib.ListN.{length, getD}
-use Rattle.lists.specs.Lists.{Inserted, Permuted, empty, more, Paired, no-pair, pair, upto}
+use Rattle.lists.specs.Trusted.Lists.{Inserted, Permuted, empty, more, Paired, no-pair, pair, upto}
 use Rattle.lists.specs.MixLaws.{paired-append}
-use Rattle.tree.specs.Tree.{Node, Edges, none, edge}
-use Rattle.cover.specs.Cover.{Cover, net, top, Fanins, end, pick, arity, frontier, tables, tables*, width, widths, Fits*, Fits, SplitOf, same, split, Matched, done, match}
+use Rattle.tree.specs.Trusted.Tree.{Node, Edges, none, edge}
+use Rattle.cover.specs.Trusted.Cover.{Cover, net, top, Fanins, end, pick, arity, frontier, tables, tables*, width, widths, Fits*, Fits, SplitOf, same, split, Matched, done, match}
 use Rattle.plan.specs.declared.Key.{Key}
 use Rattle.plan.specs.Key.{leaf-key, Taken, held, cut, Way}
 use Rattle.plan.specs.Plans.{Fragment, drawn, made, marked, place, Says, Standing, Ready, ready-none, ready-edge}

@@ -5,15 +5,15 @@ use mathlib.Core.Bool.{Bool}
 use mathlib.Core.List.{List, []}
 use native.Mathlib.Nat.{add-zero, zero-add}
 use native.Mathlib.Omega.{arith}
-use Rattle.lists.specs.Lists.{Permuted, empty, more, Mix, left, Paired, no-pair, pair}
+use Rattle.lists.specs.Trusted.Lists.{Permuted, empty, more, Mix, left, Paired, no-pair, pair}
 use Rattle.lists.specs.MixLaws.{mix-none, mix-all, paired-insert, paired-split}
-use Rattle.tree.specs.Tree.{Node, Edges}
+use Rattle.tree.specs.Trusted.Tree.{Node, Edges}
 use Rattle.plan.specs.declared.Key.{Key}
 use Rattle.plan.specs.Key.{key, leaf-key, _≼_}
 use Rattle.plan.specs.KeyLaws.{≼-refl, ≼-trans, join-low}
 use Rattle.plan.specs.Reach.{Reach, one, both, LeastReach, Best, at-leaf, at-gate, Bests, at-end, at-edge}
 use Rattle.plan.specs.ReachLaws.{reach-permuted}
-use Rattle.cover.specs.Cover.{
+use Rattle.cover.specs.Trusted.Cover.{
   Cover,
   net,
   top,

@@ -4,7 +4,7 @@ use Prim.Native.Nat.{ℕ, _/_, _%_}
 use mathlib.Core.Path.{_≡_}
 use mathlib.Core.List.{List, [], _∷_}
 use lib.Bits.{bitAnd}
-use Rattle.cover.specs.Cover.{pick}
+use Rattle.cover.specs.Trusted.Cover.{pick}
 
 -- the elements of the list at the set bits of the mask; the first element is at the lowest bit
 abbrev pub select : {A : Type 0} → ℕ → List A → List A

@@ -5,13 +5,13 @@ use mathlib.Core.Path.{_≡_, refl, sym, ap, ap₂, _∙_}
 use mathlib.Core.Bool.{Bool, false}
 use mathlib.Core.List.{List, [], _∷_, _++_, append-assoc, append-nil}
 use lib.ListN.{length, getD}
-use Rattle.lists.specs.Lists.{Permuted, more, here, there, upto, gather}
+use Rattle.lists.specs.Trusted.Lists.{Permuted, more, here, there, upto, gather}
 use Rattle.lists.specs.ListLaws.{permuted-refl, permuted-sym, permuted-trans, permuted-append, permuted-swap, gather-append, gather-permuted, gather-map}
 use Rattle.tree.specs.declared.Kind.{Kind}
-use Rattle.cover.specs.Cover.{Cover, net, top, Fanins, end}
+use Rattle.cover.specs.Trusted.Cover.{Cover, net, top, Fanins, end}
 use Rattle.plan.specs.declared.Key.{Key}
-use Rattle.cover.specs.Tables.{Placed}
-use Rattle.cover.specs.Placed.{placed, tableOf, records, records*}
+use Rattle.cover.specs.Trusted.Tables.{Placed}
+use Rattle.cover.specs.Trusted.Placed.{placed, tableOf, records, records*}
 use Rattle.plan.specs.declared.Token.{Token}
 use Rattle.plan.specs.declared.Token.the-variants.{Push as push, Join as join}
 use Rattle.plan.specs.Plans.{Denotes, fanin, binary, Planned, Fragment, drawn, made, marked, place, Runs, stop, pushed, joined}

@@ -6,13 +6,13 @@ use mathlib.Core.Path.{_≡_, refl, ap, _∙_, subst}
 use mathlib.Core.Bool.{Bool, true, false}
 use mathlib.Core.List.{List, [], _∷_, _++_}
 use lib.ListN.{length}
-use Rattle.lists.specs.Lists.{Permuted, upto}
+use Rattle.lists.specs.Trusted.Lists.{Permuted, upto}
 use Rattle.lists.specs.ListLaws.{permuted-length}
 use Rattle.lists.specs.MixLaws.{paired-permuted}
 use Rattle.lists.specs.NumberLaws.{upto-length}
 use Rattle.tree.specs.declared.Kind.{Kind}
-use Rattle.tree.specs.Tree.{leaf, gate, Edges}
-use Rattle.cover.specs.Cover.{Cover, net, top, Fanins, end, same, split, rooted, CoverOf}
+use Rattle.tree.specs.Trusted.Tree.{leaf, gate, Edges}
+use Rattle.cover.specs.Trusted.Cover.{Cover, net, top, Fanins, end, same, split, rooted, CoverOf}
 use Rattle.plan.specs.declared.Key.{Key}
 use Rattle.plan.specs.Key.{leaf-key}
 use Rattle.plan.specs.declared.Token.{Token}

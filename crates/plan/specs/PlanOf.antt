@@ -5,8 +5,8 @@ use mathlib.Core.Bool.{Bool, true, false, _&&_}
 use mathlib.Core.List.{List}
 use lib.Dec.{leb}
 use lib.ListN.{length, take, replicate}
-use Rattle.lists.specs.Lists.{upto}
-use Rattle.lists.specs.Tests.{all, within, either}
+use Rattle.lists.specs.Trusted.Lists.{upto}
+use Rattle.lists.specs.Trusted.Tests.{all, within, either}
 use Rattle.plan.specs.declared.Key.{Key}
 use Rattle.plan.specs.declared.Token.the-variants.{Push as push}
 use Rattle.plan.specs.declared.Plan.{Plan}

@@ -5,15 +5,15 @@ use mathlib.Core.Path.{_≡_}
 use mathlib.Core.Bool.{Bool, true, false}
 use mathlib.Core.List.{List, [], _∷_, _++_}
 use lib.ListN.{length, getD}
-use Rattle.lists.specs.Lists.{Permuted}
-use Rattle.tree.specs.Tree.{Node, Edges, none, edge}
-use Rattle.cover.specs.Cover.{Cover, net, top, Fanins, end, old, new, arity, frontier, tables, tables*, width, widths, Fits, Fits*, SplitOf, Matched}
+use Rattle.lists.specs.Trusted.Lists.{Permuted}
+use Rattle.tree.specs.Trusted.Tree.{Node, Edges, none, edge}
+use Rattle.cover.specs.Trusted.Cover.{Cover, net, top, Fanins, end, old, new, arity, frontier, tables, tables*, width, widths, Fits, Fits*, SplitOf, Matched}
 -- keys and tokens are those of the code
 use Rattle.plan.specs.declared.Key.{Key}
 use Rattle.plan.specs.declared.Token.{Token}
 use Rattle.plan.specs.declared.Token.the-variants.{Push as push, Join as join}
 use Rattle.plan.specs.Key.{leaf-key, Way}
-use Rattle.cover.specs.Placed.{number}
+use Rattle.cover.specs.Trusted.Placed.{number}
 
 -- ---- what a plan gives: its key
 

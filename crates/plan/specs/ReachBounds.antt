@@ -3,13 +3,13 @@ use Prim.Native.Nat.{ℕ, zero, suc, _+_, _*_, _/_, _%_, _≤_}
 use native.Mathlib.Omega.{arith}
 use mathlib.Core.List.{List, [], _∷_}
 use lib.ListN.{length}
-use Rattle.lists.specs.Lists.{Every, sum}
+use Rattle.lists.specs.Trusted.Lists.{Every, sum}
 use Rattle.lists.specs.ListLaws.{every-head, every-tail}
 use Rattle.lists.specs.MixLaws.{mix-every}
 use Rattle.lists.specs.NumberLaws.{sum-mix}
 use Rattle.plan.specs.declared.Key.{Key}
 use Rattle.plan.specs.KeyLaws.{join-width, join-below}
-use Rattle.cover.specs.Cover.{pick}
+use Rattle.cover.specs.Trusted.Cover.{pick}
 use Rattle.plan.specs.Masks.{select}
 use Rattle.plan.specs.MaskLaws.{select-every}
 use Rattle.plan.specs.Reach.{Reach, one, both, Wide}

@@ -5,11 +5,11 @@ use mathlib.Core.Path.{_≡_}
 use mathlib.Core.List.{List, [], _∷_}
 use native.Mathlib.Omega.{arith}
 use lib.ListN.{length}
-use Rattle.lists.specs.Lists.{Permuted, empty, more, here, neither, left, right}
+use Rattle.lists.specs.Trusted.Lists.{Permuted, empty, more, here, neither, left, right}
 use Rattle.lists.specs.ListLaws.{every-none, every-cons, every-head, permuted-sym}
 use Rattle.lists.specs.MixLaws.{mix-none, mix-permuted, mix-every}
 use Rattle.tree.specs.declared.Kind.{Kind}
-use Rattle.tree.specs.Tree.{Node, leaf, gate, Edges, none, edge}
+use Rattle.tree.specs.Trusted.Tree.{Node, leaf, gate, Edges, none, edge}
 use Rattle.plan.specs.declared.Key.{Key}
 use Rattle.plan.specs.Key.{_≼_}
 use Rattle.plan.specs.KeyLaws.{≼-refl, ≼-antisym, join-width}

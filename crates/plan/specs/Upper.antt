@@ -6,12 +6,12 @@ use mathlib.Core.Bool.{Bool}
 use mathlib.Core.List.{List, [], _∷_, map}
 use native.Mathlib.Omega.{arith}
 use lib.ListN.{length, getD}
-use Rattle.lists.specs.Lists.{Permuted, Paired, no-pair, pair, upto}
+use Rattle.lists.specs.Trusted.Lists.{Permuted, Paired, no-pair, pair, upto}
 use Rattle.lists.specs.ListLaws.{permuted-refl, permuted-trans, permuted-append}
 use Rattle.lists.specs.MixLaws.{mix-append, paired-mix}
 use Rattle.tree.specs.declared.Kind.{Kind}
-use Rattle.tree.specs.Tree.{Node, leaf, gate, Edges, none, edge}
-use Rattle.cover.specs.Cover.{Cover, Fanins}
+use Rattle.tree.specs.Trusted.Tree.{Node, leaf, gate, Edges, none, edge}
+use Rattle.cover.specs.Trusted.Cover.{Cover, Fanins}
 use Rattle.plan.specs.declared.Key.{Key}
 use Rattle.plan.specs.Key.{leaf-key}
 use Rattle.plan.specs.KeyLaws.{join-way}

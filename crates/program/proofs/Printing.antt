@@ -12,25 +12,26 @@ use mir.Val.{SFits, toZ, ofZ}
 use mir.Facts.{toZ-ofZ}
 use Rattle.lists.specs.Cases.{by-leb}
 use Rattle.lists.specs.TestLaws.{reflects-true}
-use Rattle.decimal.specs.Number.{Number, columns}
-use Rattle.decimal.specs.Columns.{fieldOf, signedFieldOf}
+use Rattle.decimal.specs.Trusted.Number.{Number, columns}
+use Rattle.decimal.specs.Trusted.Columns.{fieldOf, signedFieldOf}
 use Rattle.decimal.specs.Reading.{numberOf}
 use Rattle.decimal.specs.Writing as writing
 use Rattle.decimal.specs.WritingLaws.{signed-written-at}
 use Rattle.decimal.proofs.SignLaws.{minus-bits, negated-fits}
 use Rattle.decimal.specs.declared.Written.{Written}
-use Rattle.part.specs.Sound.{Sound}
+use Rattle.part.specs.Trusted.Sound.{Sound}
 use Rattle.part.specs.SoundLaws.{sound-reflects}
-use Rattle.part.specs.Listing.{listOf}
+use Rattle.part.specs.Trusted.Listing.{listOf}
 use Rattle.part.specs.declared.Part.{Part}
-use Rattle.list_line.specs.Writes.{Outcome, wrote, refused, pasted}
-use Rattle.listing.specs.Lines.{resultOf, turnedDown, fitted, listWritten}
+use Rattle.list_line.specs.Trusted.Writes.{Outcome, wrote, refused, pasted}
+use Rattle.listing.specs.Trusted.WriteAnswers.{resultOf}
+use Rattle.listing.specs.Lines.{turnedDown, fitted, listWritten}
 use Rattle.list_line.specs.PasteLaws.{paste-one, paste-length, paste-next}
 use Rattle.listing.specs.LineLaws.{fitted-out, fitted-in, list-there}
 use Rattle.listing.specs.declared.Answer.{Answer}
 use Rattle.listing.specs.declared.Answer.the-variants.{Wrote, NotSound, NoLine, NoRoom}
 use Rattle.list_line.proofs.Written.{number-written}
-use Rattle.program.specs.Program.{refusalLine}
+use Rattle.program.specs.Trusted.Program.{refusalLine}
 use Rattle.program.specs.Contracts.{WrittenAs}
 use Rattle.program.specs.declared.Printed.{Printed}
 use Rattle.program.specs.declared.Printed.the-variants.{Wrote as Printed-Wrote, NoRoom as Printed-NoRoom}

@@ -5,11 +5,11 @@ use mathlib.Core.Bool.{cond}
 use mathlib.Core.List.{List}
 use lib.Dec.{eqb}
 use lib.ListN.{length, take, drop}
-use Rattle.part.specs.Sound.{Sound}
-use Rattle.part.specs.Listing.{listOf}
+use Rattle.part.specs.Trusted.Sound.{Sound}
+use Rattle.part.specs.Trusted.Listing.{listOf}
 use Rattle.part.specs.declared.Part.{Part}
 use Rattle.listing.specs.Lines as lines
-use Rattle.program.specs.Program.{refusalLine, Mapped, Prints}
+use Rattle.program.specs.Trusted.Program.{refusalLine, Mapped, Prints}
 use Rattle.program.specs.declared.Printed.{Printed}
 use Rattle.program.specs.declared.Printed.the-variants.{Wrote, NoRoom}
 use Rattle.program.specs.declared.End.{End}

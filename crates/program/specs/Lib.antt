@@ -1,4 +1,4 @@
-pub mod Program
+pub mod Trusted
 pub mod Contracts
 pub mod ProgramLaws
 pub mod RoomLaws

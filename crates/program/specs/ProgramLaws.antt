@@ -8,35 +8,35 @@ use mathlib.Core.Option.{Option, none, some}
 use mathlib.Core.List.{List, [], _∷_}
 use borrow.Author.Tests.{eq-eqb, ne-eqb}
 use lib.ListN.{length, drop, length-drop}
-use Rattle.decimal.specs.Number.{Number}
-use Rattle.cover.specs.Cover.{Cover, Rooted, rooted, tables, Least}
+use Rattle.decimal.specs.Trusted.Number.{Number}
+use Rattle.cover.specs.Trusted.Cover.{Cover, Rooted, rooted, tables, Least}
 use Rattle.sheet.specs.declared.Refusal.{Refusal}
 use Rattle.sheet.specs.declared.Refusal.the-variants.{Layout, OutputNet, GateCount, GateKind, FaninCount, NoSource, GateTwice, NetTwice, OutputLeaf, LeafCount, GateUnread}
-use Rattle.sheet.specs.Sheet.{DrawnSheet, sheet as drew}
-use Rattle.sheet.specs.Step.{Step, good, bad, _>>=_}
-use Rattle.sheet.specs.Read.{readAll, reading, readSheet}
-use Rattle.sheet.specs.Cut.{sheetText, readNext}
+use Rattle.sheet.specs.Trusted.Sheet.{DrawnSheet, sheet as drew}
+use Rattle.sheet.specs.Trusted.Step.{Step, good, bad, _>>=_}
+use Rattle.sheet.specs.Trusted.Read.{readAll, reading, readSheet}
+use Rattle.sheet.specs.Trusted.Cut.{sheetText, readNext}
 use Rattle.sheet.specs.CutLaws.{leaving, next-is, text-less}
-use Rattle.sheet.specs.Formed.{WellFormed}
+use Rattle.sheet.specs.Trusted.Formed.{WellFormed}
 use Rattle.sheet.specs.ReadLaws.{read-formed}
-use Rattle.sheet.specs.Answers.{numberOf, drawnSheet}
+use Rattle.sheet.specs.Trusted.Answers.{numberOf, drawnSheet}
 use Rattle.sheet.specs.Promise.{answerStep, NextRead}
 use Rattle.sheet.specs.declared.Answer.{Answer as CodeAnswer}
 use Rattle.sheet.specs.declared.Answer.the-variants.{Accepted as Read, Refused as Misread}
 use Rattle.sheet.specs.declared.Next.{Next}
-use Rattle.part.specs.Parts.{Shaped}
-use Rattle.part.specs.Sound.{Sound}
-use Rattle.part.specs.Answers.{Answer, accepted, refused, Result}
-use Rattle.part.specs.Adds.{Offer, Add}
+use Rattle.part.specs.Trusted.Parts.{Shaped}
+use Rattle.part.specs.Trusted.Sound.{Sound}
+use Rattle.part.specs.Trusted.Answers.{Answer, accepted, refused, Result}
+use Rattle.part.specs.Trusted.Add.{Offer, Add}
 use Rattle.demands.specs.AddLaws.{Outcome, unsound, misread, driven, read, full, taken, outcome, kept, opened-shaped, opened-sound}
 use Rattle.demands.specs.AddLaws.{not-refused}
-use Rattle.part.specs.Adding.{sheetOf}
-use Rattle.part.specs.AddingLaws.{add-misread, add-offered}
-use Rattle.part.specs.Listing.{listOf}
+use Rattle.part.specs.Storing.{sheetOf}
+use Rattle.part.specs.StoringLaws.{add-misread, add-offered}
+use Rattle.part.specs.Trusted.Listing.{listOf}
 use Rattle.part.specs.declared.Part.{Part}
-use Rattle.opening.specs.Opening.{openingNumbers, count, openedBy}
+use Rattle.opening.specs.Trusted.Opening.{openingNumbers, count, openedBy}
 use Rattle.opening.specs.Contracts.{told, startResult}
-use Rattle.program.specs.Program.{refusalLine, Mapped, ended, stopped, added, After, Prints}
+use Rattle.program.specs.Trusted.Program.{refusalLine, Mapped, ended, stopped, added, After, Prints}
 use Rattle.program.specs.Contracts.{endLine, Ended}
 use Rattle.opening.specs.declared.Told.{Told}
 use Rattle.opening.specs.declared.Start.{Start}

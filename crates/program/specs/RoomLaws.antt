@@ -6,17 +6,17 @@ use mathlib.Core.List.{List}
 use lib.ListN.{length, take, drop}
 use lib.Seq.{take-at, drop-at}
 use borrow.Author.Tests.{le-leb}
-use Rattle.part.specs.Parts.{Shaped}
-use Rattle.part.specs.Sound.{Sound}
-use Rattle.part.specs.Answers.{Answer, accepted, refused}
+use Rattle.part.specs.Trusted.Parts.{Shaped}
+use Rattle.part.specs.Trusted.Sound.{Sound}
+use Rattle.part.specs.Trusted.Answers.{Answer, accepted, refused}
 use Rattle.demands.specs.AddLaws.{kept, outcome}
 use Rattle.part.specs.declared.Part.{Part}
 use Rattle.listing.specs.Lines as lines
 use Rattle.listing.specs.Lines.{longest}
 use Rattle.list_line.specs.PasteLaws.{paste-length}
 use Rattle.listing.specs.LineLaws.{list-short, fitted-in}
-use Rattle.opening.specs.Opening.{openingNumbers, openedBy}
-use Rattle.program.specs.Program.{Mapped, ended, stopped, added, After, Prints}
+use Rattle.opening.specs.Trusted.Opening.{openingNumbers, openedBy}
+use Rattle.program.specs.Trusted.Program.{Mapped, ended, stopped, added, After, Prints}
 use Rattle.program.specs.Contracts.{WrittenAs, Answered, AtFront}
 use Rattle.program.specs.ProgramLaws.{opened-good}
 use Rattle.program.specs.declared.Printed.{Printed}

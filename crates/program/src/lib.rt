@@ -2,11 +2,11 @@
 ghost use mathlib.Core.Path.{_≡_};
 ghost use Prim.Native.Nat.{_<_};
 ghost use lib.ListN.{drop};
-ghost use Rattle.part.specs.Adding.{addingAnswer};
-ghost use Rattle.part.specs.Sound.{Sound};
-ghost use Rattle.part.specs.Listing.{listOf};
+ghost use Rattle.part.specs.Trusted.AddAnswers.{addingAnswer};
+ghost use Rattle.part.specs.Trusted.Sound.{Sound};
+ghost use Rattle.part.specs.Trusted.Listing.{listOf};
 ghost use Rattle.opening.specs.Contracts.{told as toldAnswer};
-ghost use Rattle.program.specs.Program.{refusalLine};
+ghost use Rattle.program.specs.Trusted.Program.{refusalLine};
 ghost use Rattle.program.specs.Contracts.{WrittenAs, Answered, AtFront, Ended};
 use opening::OPENING;
 use opening::Told;

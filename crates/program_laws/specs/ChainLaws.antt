@@ -5,16 +5,16 @@ use mathlib.Core.Path.{_≡_, refl, subst}
 use mathlib.Core.Option.{some}
 use mathlib.Core.List.{List, [], _∷_}
 use lib.ListN.{length, drop}
-use Rattle.decimal.specs.Number.{Number}
-use Rattle.part.specs.Answers.{accepted, refused, Result}
-use Rattle.part.specs.Adds.{opened}
+use Rattle.decimal.specs.Trusted.Number.{Number}
+use Rattle.part.specs.Trusted.Answers.{accepted, refused, Result}
+use Rattle.part.specs.Trusted.Add.{opened}
 use Rattle.demands.specs.AddLaws.{opened-shaped}
-use Rattle.demands.specs.Calls.{Call, Chain, done, call}
+use Rattle.demands.specs.Trusted.Calls.{Call, Chain, done, call}
 use Rattle.demands.specs.Theorems.{demand-2, demand-3}
 use Rattle.part.specs.declared.Part.{Part}
-use Rattle.opening.specs.Opening.{openingNumbers, count, openedBy}
-use Rattle.program.specs.Program.{refusalLine, Mapped, ended, stopped, added, After, Prints}
-use Rattle.program_laws.specs.Runs.{Texts, end, stop, next, printedBy, Run}
+use Rattle.opening.specs.Trusted.Opening.{openingNumbers, count, openedBy}
+use Rattle.program.specs.Trusted.Program.{refusalLine, Mapped, ended, stopped, added, After, Prints}
+use Rattle.program_laws.specs.Trusted.Runs.{Texts, end, stop, next, printedBy, Run}
 
 -- a text that is not empty has a call
 pub texts-some : {text : List ℕ} {cs : List Call} {rs : List Result} → Texts text cs rs → 0 < length text → 0 < length cs

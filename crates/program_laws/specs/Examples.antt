@@ -5,15 +5,15 @@ use mathlib.Core.Path.{_≡_, refl}
 use mathlib.Core.Bool.{false}
 use mathlib.Core.Option.{none, some}
 use mathlib.Core.List.{List, [], _∷_, _++_, map}
-use Rattle.sheet.specs.Step.{_>>=_, require, given}
+use Rattle.sheet.specs.Trusted.Step.{_>>=_, require, given}
 use Rattle.sheet.specs.Checks.{bytes}
-use Rattle.sheet.specs.Cut.{sheetText}
-use Rattle.part.specs.Answers.{accepted, refused}
-use Rattle.demands.specs.Calls.{add}
+use Rattle.sheet.specs.Trusted.Cut.{sheetText}
+use Rattle.part.specs.Trusted.Answers.{accepted, refused}
+use Rattle.demands.specs.Trusted.Calls.{add}
 use Rattle.part.specs.declared.Part.{Part}
-use Rattle.opening.specs.Opening.{openingNumbers, openedBy}
-use Rattle.program.specs.Program.{refusalLine}
-use Rattle.program_laws.specs.Runs.{firstRefusal, Texts, end, stop, next}
+use Rattle.opening.specs.Trusted.Opening.{openingNumbers, openedBy}
+use Rattle.program.specs.Trusted.Program.{refusalLine}
+use Rattle.program_laws.specs.Trusted.Runs.{firstRefusal, Texts, end, stop, next}
 
 -- 01's example
 abbrev first-text : List ℕ

@@ -8,29 +8,29 @@ use mathlib.Core.List.{List, [], _∷_, _++_}
 use lib.ListN.{length, take, drop, length-append, length-drop, take-append-drop, List·getD-append}
 use lib.Seq.{take-all, take-append-le, drop-append-le, length-take-le}
 use Rattle.lists.specs.Cases.{by-leb}
-use Rattle.decimal.specs.Number.{columns}
-use Rattle.tree.specs.Tree.{leaves}
-use Rattle.cover.specs.Added.{Sheet}
+use Rattle.decimal.specs.Trusted.Number.{columns}
+use Rattle.tree.specs.Trusted.Tree.{leaves}
+use Rattle.cover.specs.Trusted.CoverTables.{Sheet}
 use Rattle.cover.specs.Nets.{least-bounds}
-use Rattle.sheet.specs.Sheet.{DrawnSheet, sheet as drew}
-use Rattle.sheet.specs.Read.{readSheet}
-use Rattle.sheet.specs.Cut.{sheetText}
+use Rattle.sheet.specs.Trusted.Sheet.{DrawnSheet, sheet as drew}
+use Rattle.sheet.specs.Trusted.Read.{readSheet}
+use Rattle.sheet.specs.Trusted.Cut.{sheetText}
 use Rattle.sheet.specs.CutLaws.{text-whole}
 use Rattle.sheet.specs.SizeLaws.{read-short}
 use Rattle.sheet.specs.FrontLaws.{sheetRoom, front-read, front-rest}
-use Rattle.table.specs.Limits.{tableRoom}
-use Rattle.part.specs.Parts.{Shaped}
-use Rattle.part.specs.Sound.{Sound}
-use Rattle.part.specs.Answers.{Answer, accepted, refused, Result}
-use Rattle.part.specs.Adds.{Add}
-use Rattle.part.specs.Sheets.{readOf}
+use Rattle.table.specs.Trusted.Limits.{tableRoom}
+use Rattle.part.specs.Trusted.Parts.{Shaped}
+use Rattle.part.specs.Trusted.Sound.{Sound}
+use Rattle.part.specs.Trusted.Answers.{Answer, accepted, refused, Result}
+use Rattle.part.specs.Trusted.Add.{Add}
+use Rattle.part.specs.Trusted.Reading.{readOf}
 use Rattle.demands.specs.AddLaws.{kept, outcome}
-use Rattle.demands.specs.Calls.{add, call, done, here}
+use Rattle.demands.specs.Trusted.Calls.{add, call, done, here}
 use Rattle.demands.specs.Theorems.{demand-3}
 use Rattle.demands.specs.ReadingLaws.{drawn-back}
 use Rattle.part.specs.declared.Part.{Part}
-use Rattle.opening.specs.Opening.{openingNumbers, openedBy}
-use Rattle.program.specs.Program.{Mapped, ended, stopped, added, After, Prints}
+use Rattle.opening.specs.Trusted.Opening.{openingNumbers, openedBy}
+use Rattle.program.specs.Trusted.Program.{Mapped, ended, stopped, added, After, Prints}
 use Rattle.program.specs.ProgramLaws.{grown, opened-good}
 use Rattle.program_laws.specs.Front.{room}
 

@@ -7,27 +7,27 @@ use mathlib.Core.Option.{Option, none, some}
 use mathlib.Core.List.{List, [], _∷_}
 use lib.ListN.{take, drop}
 use lib.Seq.{take-at}
-use Rattle.decimal.specs.Number.{Number, columns, fieldNumber}
-use Rattle.decimal.specs.Columns.{fieldOf, signedFieldOf}
+use Rattle.decimal.specs.Trusted.Number.{Number, columns, fieldNumber}
+use Rattle.decimal.specs.Trusted.Columns.{fieldOf, signedFieldOf}
 use Rattle.decimal.specs.FieldLaws.{field-read, signed-read}
-use Rattle.sheet.specs.Cut.{sheetText}
-use Rattle.part.specs.Parts.{Shaped}
-use Rattle.part.specs.Sound.{Sound}
-use Rattle.part.specs.Answers.{Answer, accepted, refused, Result}
-use Rattle.part.specs.Adds.{opened, Add}
+use Rattle.sheet.specs.Trusted.Cut.{sheetText}
+use Rattle.part.specs.Trusted.Parts.{Shaped}
+use Rattle.part.specs.Trusted.Sound.{Sound}
+use Rattle.part.specs.Trusted.Answers.{Answer, accepted, refused, Result}
+use Rattle.part.specs.Trusted.Add.{opened, Add}
 use Rattle.demands.specs.AddLaws.{kept, outcome, opened-shaped, opened-sound, not-refused}
-use Rattle.demands.specs.Calls.{Call, add, final, Chain, done, call}
+use Rattle.demands.specs.Trusted.Calls.{Call, add, final, Chain, done, call}
 use Rattle.demands.specs.CountLaws.{call-kept}
-use Rattle.part.specs.Listing.{listOf}
+use Rattle.part.specs.Trusted.Listing.{listOf}
 use Rattle.demands.specs.Settled.{Alike}
 use Rattle.demands.specs.SettledLaws.{alike-refl, answers-settled}
 use Rattle.part.specs.declared.Part.{Part}
 use Rattle.list_line.specs.Line.{topLine}
 use Rattle.listing.specs.Lines.{tableLines}
 use Rattle.listing.specs.LineLaws.{list-is}
-use Rattle.opening.specs.Opening.{openingNumbers, count, openedBy}
-use Rattle.program.specs.Program.{refusalLine, After, Prints}
-use Rattle.program_laws.specs.Runs.{Texts, end, stop, next, answers, usedCounts, firstRefusal, printedBy, Run, Settled, refusal, lists}
+use Rattle.opening.specs.Trusted.Opening.{openingNumbers, count, openedBy}
+use Rattle.program.specs.Trusted.Program.{refusalLine, After, Prints}
+use Rattle.program_laws.specs.Trusted.Runs.{Texts, end, stop, next, answers, usedCounts, firstRefusal, printedBy, Run, Settled, refusal, lists}
 use Rattle.program_laws.specs.ChainLaws.{mapped-run}
 
 -- ---- two runs of a text, from parts that differ in nothing that an answer depends on

@@ -8,11 +8,11 @@ use lib.Dec.{ltb}
 use lib.ListN.{length, getD, take, drop}
 use lib.Seq.{take-length, length-take-le}
 use Rattle.lists.specs.Cases.{by-leb}
-use Rattle.lists.specs.Tests.{within}
+use Rattle.lists.specs.Trusted.Tests.{within}
 use Rattle.lists.specs.TestLaws.{reflects-lt, reflects-within}
-use Rattle.table.specs.Limits.{inputRoom, tableRoom}
+use Rattle.table.specs.Trusted.Limits.{inputRoom, tableRoom}
 use Rattle.table.specs.ResultLaws.{says-true, says-false}
-use Rattle.table.specs.RecordTest.{keeps, bad, refused, walk, tested}
+use Rattle.table.specs.Trusted.RecordTest.{keeps, bad, refused, walk, tested}
 use Rattle.table.specs.SeenTest.{Stands, noneSeen, keepsIn, seenAfter}
 use Rattle.table.specs.SeenLaws.{stands-none, stands-after, keeps-stands}
 use Rattle.table.specs.WalkLaws.{walk-ends, walk-full, walk-stops, walk-goes, before-next}

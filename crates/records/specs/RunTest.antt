@@ -3,9 +3,9 @@
 use Prim.Native.Nat.{ℕ, _+_}
 use mathlib.Core.Bool.{true, false, cond, _&&_}
 use lib.Dec.{ltb, eqb}
-use Rattle.lists.specs.Tests.{within}
-use Rattle.table.specs.Limits.{inputRoom, tableRoom}
-use Rattle.table.specs.RecordTest.{Verdict, none, bad, refused}
+use Rattle.lists.specs.Trusted.Tests.{within}
+use Rattle.table.specs.Trusted.Limits.{inputRoom, tableRoom}
+use Rattle.table.specs.Trusted.RecordTest.{Verdict, none, bad, refused}
 use Rattle.table.specs.SeenTest.{noneSeen, seenAfter, keepsIn}
 use Rattle.table.specs.declared.Table.{Table}
 use Rattle.table.specs.declared.Seen.{Seen}

@@ -4,7 +4,7 @@
 ghost use mathlib.Core.Path.{_≡_};
 ghost use Prim.Native.Nat.{_<_, _≤_};
 ghost use lib.ListN.{take};
-ghost use Rattle.table.specs.RecordTest.{tested};
+ghost use Rattle.table.specs.Trusted.RecordTest.{tested};
 ghost use Rattle.records.specs.RunTest.{beginOf, stepOf, stoppedOf, finishOf, verdictOf};
 use table::INPUT_ROOM;
 use table::Seen;

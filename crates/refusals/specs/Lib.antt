@@ -1,3 +1,3 @@
-pub mod Sentences
+pub mod Trusted
 pub mod Lines
 pub mod LineLaws

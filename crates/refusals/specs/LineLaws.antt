@@ -12,7 +12,7 @@ use borrow.Author.Tests.{eq-eqb, ne-eqb}
 use Rattle.bytes.specs.Bytes.{indexOf, slice}
 use Rattle.lists.specs.Cases.{by-eqb, by-leb, and-split}
 use Rattle.lists.specs.TestLaws.{reflects-eq, reflects-lt}
-use Rattle.refusals.specs.Sentences.{Entry, _means_, sentenceIn, bytesOf}
+use Rattle.refusals.specs.Trusted.Sentences.{Entry, _means_, sentenceIn, bytesOf}
 use Rattle.refusals.specs.Lines.{after, line}
 
 -- ---- a text byte by byte

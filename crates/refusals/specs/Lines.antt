@@ -5,7 +5,7 @@ use mathlib.Core.List.{List, [], _∷_, _++_}
 use lib.Dec.{eqb}
 use lib.ListN.{take, replicate}
 use Rattle.bytes.specs.Bytes.{indexOf}
-use Rattle.refusals.specs.Sentences.{Entry, _means_, bytesOf}
+use Rattle.refusals.specs.Trusted.Sentences.{Entry, _means_, bytesOf}
 
 -- the text after its first n lines
 abbrev pub after : ℕ → List ℕ → List ℕ

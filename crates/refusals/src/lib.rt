@@ -2,7 +2,7 @@
 ghost use mathlib.Core.Path.{_≡_};
 ghost use Prim.Native.Nat.{_≤_};
 ghost use lib.ListN.{length, drop};
-ghost use Rattle.refusals.specs.Sentences.{refusalText, fitted};
+ghost use Rattle.refusals.specs.Trusted.Sentences.{refusalText, fitted};
 ghost use Rattle.refusals.specs.Lines.{after, line};
 
 // Writes a text to the front of the buffer and gives its length; 0, with the buffer as it was, where it does not fit.

@@ -4,7 +4,7 @@ ghost use mathlib.Core.Bool.{true, false};
 ghost use Prim.Native.Nat.{_≤_, _<_, _^_};
 ghost use lib.ListN.{take};
 ghost use Rattle.plan.specs.Key.{join as joinOf};
-ghost use Rattle.lists.specs.Tests.{all};
+ghost use Rattle.lists.specs.Trusted.Tests.{all};
 ghost use Rattle.plan.specs.Limits.{mostFanins, masks, mostSteps};
 ghost use Rattle.plan.specs.PlanOf.{faninTest, goodInput, blank as blankOf, PlanOf};
 ghost use Rattle.plan.specs.Steps.{stepped, joinToken, Took, Writable, Writes};

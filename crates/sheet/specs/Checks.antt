@@ -8,21 +8,21 @@ use mathlib.Core.Bool.{true, false}
 use mathlib.Core.Option.{Option, none, some}
 use mathlib.Core.List.{List, [], _∷_, _++_, map}
 use lib.ListN.{length, drop}
-use Rattle.lists.specs.Lists.{upto, gather}
+use Rattle.lists.specs.Trusted.Lists.{upto, gather}
 use Rattle.tree.specs.declared.Kind.the-variants.{And as and, Or as or}
-use Rattle.tree.specs.Tree.{Node, Edges, leaves}
-use Rattle.decimal.specs.Number.{Number}
-use Rattle.sheet.specs.Line.{fields}
+use Rattle.tree.specs.Trusted.Tree.{Node, Edges, leaves}
+use Rattle.decimal.specs.Trusted.Number.{Number}
+use Rattle.sheet.specs.Trusted.Line.{fields}
 use Rattle.sheet.specs.declared.Source.{Source}
 use Rattle.sheet.specs.declared.Source.the-variants.{Net as net, Gate as gate}
 use Rattle.sheet.specs.declared.Edge.{Edge as Fanin}
 use Rattle.sheet.specs.declared.Sheet.{Sheet}
-use Rattle.sheet.specs.Sheet.{DrawnSheet, Outcome, sheet, refused}
-use Rattle.sheet.specs.Step.{_>>=_, require, given}
-use Rattle.sheet.specs.Read.{readSheet}
-use Rattle.sheet.specs.Cut.{sheetText}
-use Rattle.sheet.specs.Trees.{treeOf}
-use Rattle.sheet.specs.Answers.{drawnSheet}
+use Rattle.sheet.specs.Trusted.Sheet.{DrawnSheet, Outcome, sheet, refused}
+use Rattle.sheet.specs.Trusted.Step.{_>>=_, require, given}
+use Rattle.sheet.specs.Trusted.Read.{readSheet}
+use Rattle.sheet.specs.Trusted.Cut.{sheetText}
+use Rattle.sheet.specs.Trusted.Trees.{treeOf}
+use Rattle.sheet.specs.Trusted.Answers.{drawnSheet}
 
 -- of ASCII text
 abbrev pub bytes : String → List ℕ

@@ -9,12 +9,12 @@ use mathlib.Core.List.{List, [], _∷_, _++_, append-assoc, append-nil}
 use lib.Dec.{T}
 use lib.ListN.{length, length-append}
 use Rattle.lists.specs.Cases.{by-eqb}
-use Rattle.sheet.specs.Line.{after, line}
-use Rattle.sheet.specs.Sheet.{DrawnGate, DrawnSheet, sheet, from}
-use Rattle.sheet.specs.Step.{Step, good, bad, _>>=_, require, given}
+use Rattle.sheet.specs.Trusted.Line.{after, line}
+use Rattle.sheet.specs.Trusted.Sheet.{DrawnGate, DrawnSheet, sheet, from}
+use Rattle.sheet.specs.Trusted.Step.{Step, good, bad, _>>=_, require, given}
 use Rattle.sheet.specs.StepLaws.{Meets, on, off, meets-any, meets-self, meets-bind, meets-require, meets-given}
-use Rattle.sheet.specs.Read.{empty, Head, Seen, nothing, readHead, readGate, readLeft, readUnread, readAll, reading, readSheet}
-use Rattle.sheet.specs.Cut.{lines, gatesOf, sheetText, readNext}
+use Rattle.sheet.specs.Trusted.Read.{empty, Head, Seen, nothing, readHead, readGate, readLeft, readUnread, readAll, reading, readSheet}
+use Rattle.sheet.specs.Trusted.Cut.{lines, gatesOf, sheetText, readNext}
 
 -- ---- a line
 

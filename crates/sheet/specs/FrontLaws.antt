@@ -7,15 +7,15 @@ use mathlib.Core.Option.{Option, none, some}
 use mathlib.Core.List.{List, [], _∷_, _++_, append-assoc}
 use lib.ListN.{length, length-append}
 use Rattle.lists.specs.Cases.{by-leb}
-use Rattle.decimal.specs.Number.{Number, columns}
-use Rattle.sheet.specs.Limits.{mostFields, mostGates}
-use Rattle.sheet.specs.Line.{after, line, fields}
-use Rattle.sheet.specs.Sheet.{DrawnGate, DrawnSheet, sheet, from}
-use Rattle.sheet.specs.Step.{Step, good, bad, _>>=_, given}
+use Rattle.decimal.specs.Trusted.Number.{Number, columns}
+use Rattle.sheet.specs.Trusted.Limits.{mostFields, mostGates}
+use Rattle.sheet.specs.Trusted.Line.{after, line, fields}
+use Rattle.sheet.specs.Trusted.Sheet.{DrawnGate, DrawnSheet, sheet, from}
+use Rattle.sheet.specs.Trusted.Step.{Step, good, bad, _>>=_, given}
 use Rattle.sheet.specs.StepLaws.{Meets, on, off, meets-map}
-use Rattle.sheet.specs.Read.{Head, Seen, nothing, readHead, readGate, readLeft, readUnread, readAll, reading, readSheet}
+use Rattle.sheet.specs.Trusted.Read.{Head, Seen, nothing, readHead, readGate, readLeft, readUnread, readAll, reading, readSheet}
 use Rattle.sheet.specs.ReadLaws.{head-meets}
-use Rattle.sheet.specs.Cut.{sheetText, readNext}
+use Rattle.sheet.specs.Trusted.Cut.{sheetText, readNext}
 use Rattle.sheet.specs.CutLaws.{Gates, added, sheetOf, withRest, leaving, line-step, line-cut, line-on, left-none, left-some, next-none, next-some, next-is, text-whole, text-of}
 use Rattle.sheet.specs.SizeLaws.{fields-filled}
 

@@ -1,14 +1,5 @@
-pub mod Limits
-pub mod Line
-pub mod Sheet
-pub mod Step
-pub mod Read
-pub mod Cut
-pub mod Answers
+pub mod Trusted
 pub mod Promise
-pub mod Trees
-pub mod Values
-pub mod Formed
 pub mod NumberLaws
 pub mod StepLaws
 pub mod ReadLaws

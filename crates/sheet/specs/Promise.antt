@@ -8,10 +8,10 @@ use Rattle.sheet.specs.declared.Answer.{Answer}
 use Rattle.sheet.specs.declared.Answer.the-variants.{Accepted, Refused}
 use Rattle.sheet.specs.declared.Reading.{Reading}
 use Rattle.sheet.specs.declared.Next.{Next}
-use Rattle.sheet.specs.Sheet.{DrawnSheet}
-use Rattle.sheet.specs.Step.{Step, good, bad}
-use Rattle.sheet.specs.Read.{readSheet}
-use Rattle.sheet.specs.Answers.{numberOf, drawnSheet, outcome, noSheet}
+use Rattle.sheet.specs.Trusted.Sheet.{DrawnSheet}
+use Rattle.sheet.specs.Trusted.Step.{Step, good, bad}
+use Rattle.sheet.specs.Trusted.Read.{readSheet}
+use Rattle.sheet.specs.Trusted.Answers.{numberOf, drawnSheet, outcome, noSheet}
 
 -- a sheet that is the whole text
 pub record SheetRead (text : List ℕ) (r : Reading) : Type 0 where

@@ -7,23 +7,23 @@ use mathlib.Core.Option.{Option, none, some}
 use mathlib.Core.List.{List, [], _∷_, _++_, append-assoc, append-nil}
 use lib.Dec.{ltb, ltb→lt, eqb→eq}
 use lib.ListN.{length, length-append}
-use Rattle.lists.specs.Lists.{_∈_, Every, Distinct, Permuted}
+use Rattle.lists.specs.Trusted.Lists.{_∈_, Every, Distinct, Permuted}
 use Rattle.lists.specs.ListLaws.{every-none, every-cons, every-head, every-append, permuted-sym}
 use Rattle.lists.specs.Cases.{and-split}
-use Rattle.lists.specs.Tests.{within}
+use Rattle.lists.specs.Trusted.Tests.{within}
 use Rattle.lists.specs.TestLaws.{reflects-elem, reflects-within}
-use Rattle.tree.specs.Limits.{greatestNet}
-use Rattle.decimal.specs.Number.{Number}
-use Rattle.sheet.specs.Limits.{gateBase, mostGates, fewestFanins, mostFanins, mostLeaves}
-use Rattle.sheet.specs.Line.{fields}
+use Rattle.tree.specs.Trusted.Limits.{greatestNet}
+use Rattle.decimal.specs.Trusted.Number.{Number}
+use Rattle.sheet.specs.Trusted.Limits.{gateBase, mostGates, fewestFanins, mostFanins, mostLeaves}
+use Rattle.sheet.specs.Trusted.Line.{fields}
 use Rattle.sheet.specs.declared.Source.{Source}
 use Rattle.sheet.specs.declared.Source.the-variants.{Net as net, Gate as gate}
 use Rattle.sheet.specs.declared.Edge.{Edge as Fanin}
-use Rattle.sheet.specs.Sheet.{DrawnGate, DrawnSheet, sheet, netOf, gateOf, codeOf, faninNets, faninGates, leafNets, gatesRead, from}
-use Rattle.sheet.specs.Step.{Step}
+use Rattle.sheet.specs.Trusted.Sheet.{DrawnGate, DrawnSheet, sheet, netOf, gateOf, codeOf, faninNets, faninGates, leafNets, gatesRead, from}
+use Rattle.sheet.specs.Trusted.Step.{Step}
 use Rattle.sheet.specs.StepLaws.{Meets, on, off, meets-map, meets-bind, meets-require, meets-given}
-use Rattle.sheet.specs.Read.{Seen, nothing, readHead, sourceOf, readSource, readFanin, readFanins, gateHeadOf, readGate, readLeft, readUnread, readAll, reading, readSheet}
-use Rattle.sheet.specs.Formed.{Net, LeafNet, FaninCount, Before, Earlier, WellFormed}
+use Rattle.sheet.specs.Trusted.Read.{Seen, nothing, readHead, sourceOf, readSource, readFanin, readFanins, gateHeadOf, readGate, readLeft, readUnread, readAll, reading, readSheet}
+use Rattle.sheet.specs.Trusted.Formed.{Net, LeafNet, FaninCount, Before, Earlier, WellFormed}
 use Rattle.sheet.specs.NumberLaws.{by-test, counts-holds, not-eqb, not-elem, distinct-end, distinct-permuted, same-numbers, from-once, in-from}
 
 -- what holds of the nets and gates read so far

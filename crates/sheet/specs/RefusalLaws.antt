@@ -6,15 +6,15 @@ use mathlib.Core.Logic.{_≢_}
 use mathlib.Core.Bool.{Bool, true, false}
 use mathlib.Core.Option.{Option, none, some}
 use mathlib.Core.List.{List, [], _∷_}
-use Rattle.decimal.specs.Number.{Number}
-use Rattle.sheet.specs.Limits.{mostGates}
-use Rattle.sheet.specs.Line.{fields}
+use Rattle.decimal.specs.Trusted.Number.{Number}
+use Rattle.sheet.specs.Trusted.Limits.{mostGates}
+use Rattle.sheet.specs.Trusted.Line.{fields}
 use Rattle.sheet.specs.declared.Source.{Source}
 use Rattle.sheet.specs.declared.Source.the-variants.{Net as net, Gate as gate}
-use Rattle.sheet.specs.Sheet.{DrawnSheet, refused, from}
-use Rattle.sheet.specs.Step.{Step, good, bad, _>>=_, require, given}
+use Rattle.sheet.specs.Trusted.Sheet.{DrawnSheet, refused, from}
+use Rattle.sheet.specs.Trusted.Step.{Step, good, bad, _>>=_, require, given}
 use Rattle.sheet.specs.StepLaws.{Meets, on, off, meets-any}
-use Rattle.sheet.specs.Read.{Seen, nothing, readHead, readSource, readFanin, readFanins, gateHeadOf, readGate, readLeft, readUnread, readAll, reading, readSheet}
+use Rattle.sheet.specs.Trusted.Read.{Seen, nothing, readHead, readSource, readFanin, readFanins, gateHeadOf, readGate, readLeft, readUnread, readAll, reading, readSheet}
 use Rattle.sheet.specs.ReadLaws.{head-meets}
 
 pub record Told (number place : ℕ) : Type 0 where

@@ -5,22 +5,22 @@ use mathlib.Core.Path.{_≡_, refl, ap}
 use mathlib.Core.Option.{Option, none, some}
 use mathlib.Core.List.{List, [], _∷_}
 use lib.ListN.{length, take, drop, length-append, length-drop}
-use Rattle.lists.specs.Lists.{Every, sum}
+use Rattle.lists.specs.Trusted.Lists.{Every, sum}
 use Rattle.lists.specs.ListLaws.{every-head, every-tail, permuted-length}
-use Rattle.tree.specs.Tree.{leaves}
-use Rattle.decimal.specs.Number.{Number, columns, fieldNumber}
-use Rattle.sheet.specs.Limits.{mostFields}
+use Rattle.tree.specs.Trusted.Tree.{leaves}
+use Rattle.decimal.specs.Trusted.Number.{Number, columns, fieldNumber}
+use Rattle.sheet.specs.Trusted.Limits.{mostFields}
 use Rattle.sheet.specs.declared.Source.{Source}
 use Rattle.sheet.specs.declared.Source.the-variants.{Net as net, Gate as gate}
 use Rattle.sheet.specs.declared.Edge.{Edge as Fanin}
-use Rattle.sheet.specs.Line.{with, cells, fields}
-use Rattle.sheet.specs.Sheet.{DrawnGate, DrawnSheet, sheet, netOf, gateOf, faninNets, faninGates, leafNets, gatesRead, from}
-use Rattle.sheet.specs.Step.{Step}
+use Rattle.sheet.specs.Trusted.Line.{with, cells, fields}
+use Rattle.sheet.specs.Trusted.Sheet.{DrawnGate, DrawnSheet, sheet, netOf, gateOf, faninNets, faninGates, leafNets, gatesRead, from}
+use Rattle.sheet.specs.Trusted.Step.{Step}
 use Rattle.sheet.specs.StepLaws.{Meets, on, off, meets-any, meets-bind, meets-require, meets-given}
-use Rattle.sheet.specs.Read.{two, Seen, nothing, readHead, readFanin, readFanins, gateHeadOf, readGate, readLeft, readUnread, readAll, reading, readSheet}
-use Rattle.sheet.specs.Formed.{FaninCount, WellFormed}
+use Rattle.sheet.specs.Trusted.Read.{two, Seen, nothing, readHead, readFanin, readFanins, gateHeadOf, readGate, readLeft, readUnread, readAll, reading, readSheet}
+use Rattle.sheet.specs.Trusted.Formed.{FaninCount, WellFormed}
 use Rattle.sheet.specs.ReadLaws.{read-formed}
-use Rattle.sheet.specs.Trees.{treeOf}
+use Rattle.sheet.specs.Trusted.Trees.{treeOf}
 use Rattle.sheet.specs.TreeLaws.{leaves-are}
 use Rattle.sheet.specs.CutLaws.{line-cut, empty-is}
 

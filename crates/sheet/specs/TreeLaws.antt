@@ -7,21 +7,21 @@ use mathlib.Core.List.{List, [], _∷_, _++_, append-assoc, append-nil}
 use lib.ListN.{length, getD, length-append, List·getD-append}
 use lib.Seq.{getD-append-add}
 use lib.Dec.{T}
-use Rattle.lists.specs.Lists.{Every, Inserted, here, there, Permuted, empty, more, gather}
+use Rattle.lists.specs.Trusted.Lists.{Every, Inserted, here, there, Permuted, empty, more, gather}
 use Rattle.lists.specs.ListLaws.{every-none, every-cons, every-head, every-tail, every-append, gather-append, permuted-refl, permuted-insert, permuted-sym, permuted-trans, permuted-append, permuted-swap, permuted-to, permuted-length, gather-permuted, gather-same, interchange}
 use Rattle.tree.specs.declared.Kind.{Kind}
-use Rattle.tree.specs.Tree.{Node, leaf, Edges, leaves, leaves*, many, proper, propers}
-use Rattle.sheet.specs.Limits.{gateBase, mostLeaves}
+use Rattle.tree.specs.Trusted.Tree.{Node, leaf, Edges, leaves, leaves*, many, proper, propers}
+use Rattle.sheet.specs.Trusted.Limits.{gateBase, mostLeaves}
 use Rattle.sheet.specs.declared.Source.{Source}
 use Rattle.sheet.specs.declared.Source.the-variants.{Net as net, Gate as gate}
 use Rattle.sheet.specs.declared.Edge.{Edge as Fanin}
-use Rattle.sheet.specs.Sheet.{DrawnGate, DrawnSheet, sheet, netOf, gateOf, faninNets, faninGates, leafNets, gatesRead, from}
-use Rattle.sheet.specs.Read.{readSheet}
+use Rattle.sheet.specs.Trusted.Sheet.{DrawnGate, DrawnSheet, sheet, netOf, gateOf, faninNets, faninGates, leafNets, gatesRead, from}
+use Rattle.sheet.specs.Trusted.Read.{readSheet}
 use Rattle.sheet.specs.ReadLaws.{read-formed}
 use Rattle.sheet.specs.NumberLaws.{distinct-permuted}
-use Rattle.sheet.specs.Trees.{treeAt, nodeOf, edgesOf, treesOf, treeOf, gateTrees, gateTrees*, drawn}
-use Rattle.sheet.specs.Formed.{FaninCount, Earlier, WellFormed}
-use Rattle.cover.specs.Added as Added
+use Rattle.sheet.specs.Trusted.Trees.{treeAt, nodeOf, edgesOf, treesOf, treeOf, gateTrees, gateTrees*, drawn}
+use Rattle.sheet.specs.Trusted.Formed.{FaninCount, Earlier, WellFormed}
+use Rattle.cover.specs.Trusted.CoverTables as Added
 
 -- ---- another order, without what the two have in common
 

@@ -5,13 +5,13 @@ use mathlib.Core.Bool.{Bool}
 use mathlib.Core.List.{List, [], _∷_, _++_, map, map-append}
 use lib.ListN.{length, List·getD-map}
 use Rattle.tree.specs.declared.Kind.{Kind}
-use Rattle.tree.specs.Tree.{Node, leaf, turned, meet, value, values}
+use Rattle.tree.specs.Trusted.Tree.{Node, leaf, turned, meet, value, values}
 use Rattle.sheet.specs.declared.Source.{Source}
 use Rattle.sheet.specs.declared.Source.the-variants.{Net as net, Gate as gate}
 use Rattle.sheet.specs.declared.Edge.{Edge as Fanin}
-use Rattle.sheet.specs.Sheet.{DrawnGate, DrawnSheet}
-use Rattle.sheet.specs.Trees.{treeAt, nodeOf, edgesOf, treesOf, treeOf}
-use Rattle.sheet.specs.Values.{valueAt, sourceValue, faninsValue, gateValues, rootValue, sheetValue}
+use Rattle.sheet.specs.Trusted.Sheet.{DrawnGate, DrawnSheet}
+use Rattle.sheet.specs.Trusted.Trees.{treeAt, nodeOf, edgesOf, treesOf, treeOf}
+use Rattle.sheet.specs.Trusted.Values.{valueAt, sourceValue, faninsValue, gateValues, rootValue, sheetValue}
 
 module _ (σ : ℕ → Bool) where
   abbrev of : List Node → List Bool

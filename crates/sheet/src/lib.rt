@@ -1,6 +1,6 @@
 // Sheets as they are read: one fanout-free tree of gates, with an output net, and why a text is none. The reader is the crate `reader`.
 ghost use mathlib.Core.Path.{_≡_};
-ghost use Rattle.sheet.specs.Answers.{numberOf};
+ghost use Rattle.sheet.specs.Trusted.Answers.{numberOf};
 use tree::Kind;
 
 // The most gates of a sheet, and the fewest and the most fanins of a gate.

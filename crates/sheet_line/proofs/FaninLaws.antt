@@ -12,13 +12,13 @@ use lib.ListN.{length, getD, set, replicate, length-replicate, getD-replicate, l
 use lib.Seq.{getD-set-same, getD-set-other}
 use Rattle.lists.specs.Cases.{by-eqb}
 use Rattle.lists.specs.ListLaws.{every-head}
-use Rattle.lists.specs.Tests.{elem}
+use Rattle.lists.specs.Trusted.Tests.{elem}
 use Rattle.sheet.specs.declared.Source.{Source}
 use Rattle.sheet.specs.declared.Source.the-variants.{Net as net, Gate as gate}
-use Rattle.sheet.specs.Limits.{gateBase, mostGates, mostLeaves}
-use Rattle.sheet.specs.Sheet.{netOf}
-use Rattle.sheet.specs.Step.{good, bad, _>>=_, require, given}
-use Rattle.sheet.specs.Read.{Seen, nothing, sourceOf, readFanin}
+use Rattle.sheet.specs.Trusted.Limits.{gateBase, mostGates, mostLeaves}
+use Rattle.sheet.specs.Trusted.Sheet.{netOf}
+use Rattle.sheet.specs.Trusted.Step.{good, bad, _>>=_, require, given}
+use Rattle.sheet.specs.Trusted.Read.{Seen, nothing, sourceOf, readFanin}
 use Rattle.sheet.specs.ReadLaws.{source-named}
 use Rattle.sheet_line.specs.Inside.{Flagged, codes, Marked, saw}
 

@@ -9,11 +9,11 @@ use mathlib.Core.List.{List, [], _∷_, _++_, map, map-append, append-assoc, app
 use lib.ListN.{length, take, drop, set, replicate, length-drop, length-set, drop-of-length-le}
 use lib.Seq.{take-all, drop-drop, take-suc-set}
 use borrow.Author.Tests.{ne-eqb}
-use Rattle.decimal.specs.Number.{Number, columns, number, fieldNumber}
+use Rattle.decimal.specs.Trusted.Number.{Number, columns, number, fieldNumber}
 use Rattle.sheet_line.specs.declared.FieldValue.{FieldValue}
 use Rattle.sheet_line.specs.declared.Fields.{Fields}
-use Rattle.sheet.specs.Limits.{mostFields}
-use Rattle.sheet.specs.Line.{with, cells, fields}
+use Rattle.sheet.specs.Trusted.Limits.{mostFields}
+use Rattle.sheet.specs.Trusted.Line.{with, cells, fields}
 use Rattle.sheet_line.specs.Inside.{valueOf, Room, FieldsRead}
 use Rattle.sheet_line.proofs.HeadLaws.{zeroValue, fields-none}
 

@@ -7,14 +7,14 @@ use mathlib.Core.Option.{none, some}
 use mathlib.Core.List.{List, [], _∷_, map}
 use lib.ListN.{length, getD, take, drop, length-drop, length-map}
 use lib.Seq.{length-take-le}
-use Rattle.lists.specs.Tests.{within}
-use Rattle.tree.specs.Limits.{greatestNet}
-use Rattle.decimal.specs.Number.{Number}
+use Rattle.lists.specs.Trusted.Tests.{within}
+use Rattle.tree.specs.Trusted.Limits.{greatestNet}
+use Rattle.decimal.specs.Trusted.Number.{Number}
 use Rattle.sheet_line.specs.declared.FieldValue.{FieldValue}
 use Rattle.sheet_line.specs.declared.Fields.{Fields}
-use Rattle.sheet.specs.Limits.{mostGates}
-use Rattle.sheet.specs.Step.{good, bad, _>>=_, require, given}
-use Rattle.sheet.specs.Read.{counts, headOf}
+use Rattle.sheet.specs.Trusted.Limits.{mostGates}
+use Rattle.sheet.specs.Trusted.Step.{good, bad, _>>=_, require, given}
+use Rattle.sheet.specs.Trusted.Read.{counts, headOf}
 use Rattle.sheet_line.specs.Inside.{valueOf, valuesOf, fieldsOf, Room}
 
 -- ---- the fields as a list

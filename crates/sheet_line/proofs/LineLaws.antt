@@ -10,7 +10,7 @@ use mathlib.Core.List.{List, [], _∷_, _++_, append-assoc, append-nil}
 use lib.ListN.{length, take, drop, getD, length-drop, drop-of-length-le}
 use lib.Seq.{take-suc, drop-cons, getD-drop}
 use Rattle.lists.specs.Cases.{by-eqb}
-use Rattle.sheet.specs.Line.{after, line}
+use Rattle.sheet.specs.Trusted.Line.{after, line}
 
 -- bytes before the first of two texts
 abbrev pub before : List ℕ → Option (List ℕ × List ℕ) → Option (List ℕ × List ℕ)

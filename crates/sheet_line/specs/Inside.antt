@@ -6,9 +6,9 @@ use mathlib.Core.Option.{Option, none, some}
 use mathlib.Core.List.{List, [], _∷_, _++_, map}
 use lib.Dec.{eqb}
 use lib.ListN.{length, getD, take, drop}
-use Rattle.lists.specs.Tests.{elem}
+use Rattle.lists.specs.Trusted.Tests.{elem}
 use Rattle.tree.specs.declared.Kind.{Kind}
-use Rattle.decimal.specs.Number.{Number}
+use Rattle.decimal.specs.Trusted.Number.{Number}
 use Rattle.sheet.specs.declared.Source.{Source}
 use Rattle.sheet_line.specs.declared.Ending.{Ending}
 use Rattle.sheet_line.specs.declared.Ending.the-variants.{At, Missing}
@@ -27,12 +27,12 @@ use Rattle.sheet.specs.declared.Refusal.{Refusal}
 use Rattle.sheet_line.specs.declared.Fault.{Fault}
 use Rattle.sheet_line.specs.declared.Fault.the-variants.{Nothing, Is as IsFault}
 use Rattle.sheet_line.specs.declared.GateLine.{GateLine}
-use Rattle.sheet.specs.Sheet.{netOf}
-use Rattle.sheet.specs.Limits.{gateBase, mostFields, mostGates, mostFanins, mostLeaves}
-use Rattle.sheet.specs.Line.{line, fields}
-use Rattle.sheet.specs.Step.{Step, good, bad, _>>=_, given}
-use Rattle.sheet.specs.Read.{Head as LineOne, gateHeadOf, Seen, sourceOf, readFanin}
-use Rattle.sheet.specs.Answers.{numberOf}
+use Rattle.sheet.specs.Trusted.Sheet.{netOf}
+use Rattle.sheet.specs.Trusted.Limits.{gateBase, mostFields, mostGates, mostFanins, mostLeaves}
+use Rattle.sheet.specs.Trusted.Line.{line, fields}
+use Rattle.sheet.specs.Trusted.Step.{Step, good, bad, _>>=_, given}
+use Rattle.sheet.specs.Trusted.Read.{Head as LineOne, gateHeadOf, Seen, sourceOf, readFanin}
+use Rattle.sheet.specs.Trusted.Answers.{numberOf}
 
 -- ---- where a line ends
 

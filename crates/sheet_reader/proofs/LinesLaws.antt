@@ -11,7 +11,7 @@ use lib.ListN.{length, getD, take, drop, set, replicate, length-set, length-take
 use lib.Seq.{drop-cons, getD-drop, getD-take, length-take-le}
 use Rattle.lists.specs.ListLaws.{every-none}
 use Rattle.tree.specs.declared.Kind.{Kind}
-use Rattle.decimal.specs.Number.{Number}
+use Rattle.decimal.specs.Trusted.Number.{Number}
 use Rattle.sheet.specs.declared.Source.{Source}
 use Rattle.sheet.specs.declared.Edge.{Edge}
 use Rattle.sheet.specs.declared.Gate.{Gate}
@@ -23,12 +23,12 @@ use Rattle.sheet_line.specs.declared.Fanin.{Fanin}
 use Rattle.sheet_line.specs.declared.Fanin.the-variants.{Reads, Bad}
 use Rattle.sheet_line.specs.declared.FieldValue.{FieldValue}
 use Rattle.sheet_line.specs.declared.GateLine.{GateLine}
-use Rattle.sheet.specs.Limits.{mostFields, mostGates, mostFanins, mostLeaves, faninRoom}
-use Rattle.sheet.specs.Line.{line, fields}
-use Rattle.sheet.specs.Sheet.{DrawnGate, netOf}
-use Rattle.sheet.specs.Step.{Step, good, bad, _>>=_, given}
-use Rattle.sheet.specs.Read.{Seen, nothing, readFanin, readFanins, gateHeadOf, readLeft}
-use Rattle.sheet.specs.Answers.{numberOf, drawnGate, drawnGates}
+use Rattle.sheet.specs.Trusted.Limits.{mostFields, mostGates, mostFanins, mostLeaves, faninRoom}
+use Rattle.sheet.specs.Trusted.Line.{line, fields}
+use Rattle.sheet.specs.Trusted.Sheet.{DrawnGate, netOf}
+use Rattle.sheet.specs.Trusted.Step.{Step, good, bad, _>>=_, given}
+use Rattle.sheet.specs.Trusted.Read.{Seen, nothing, readFanin, readFanins, gateHeadOf, readLeft}
+use Rattle.sheet.specs.Trusted.Answers.{numberOf, drawnGate, drawnGates}
 use Rattle.sheet_line.specs.Inside.{valueOf, gateLine, faninNumbers, faultStep, GateLineRead, codes, Marked, saw, faninStep, FaninRead}
 use Rattle.sheet_line.proofs.HeadLaws.{zeroValue}
 use Rattle.sheet_line.proofs.FaninLaws.{marked-start, marked-more}

@@ -14,12 +14,12 @@ use Rattle.sheet.specs.declared.Answer.{Answer}
 use Rattle.sheet.specs.declared.Answer.the-variants.{Accepted, Refused}
 use Rattle.sheet_reader.specs.declared.Lines.{Lines}
 use Rattle.sheet.specs.declared.Next.{Next}
-use Rattle.sheet.specs.Line.{line}
-use Rattle.sheet.specs.Sheet.{DrawnGate, DrawnSheet, from}
-use Rattle.sheet.specs.Step.{Step, good, bad, _>>=_, require, given}
-use Rattle.sheet.specs.Read.{empty, Head, Seen, nothing, readHead, readLeft, readUnread, readAll, reading}
-use Rattle.sheet.specs.Cut.{readNext}
-use Rattle.sheet.specs.Answers.{numberOf, answered, noSheet}
+use Rattle.sheet.specs.Trusted.Line.{line}
+use Rattle.sheet.specs.Trusted.Sheet.{DrawnGate, DrawnSheet, from}
+use Rattle.sheet.specs.Trusted.Step.{Step, good, bad, _>>=_, require, given}
+use Rattle.sheet.specs.Trusted.Read.{empty, Head, Seen, nothing, readHead, readLeft, readUnread, readAll, reading}
+use Rattle.sheet.specs.Trusted.Cut.{readNext}
+use Rattle.sheet.specs.Trusted.Answers.{numberOf, answered, noSheet}
 use Rattle.sheet.specs.Promise.{answerStep, nextStep, NextRead}
 use Rattle.sheet_reader.specs.Inside.{Comes, GatesHeld, more, readEnd, readFront}
 

@@ -8,17 +8,17 @@ use mathlib.Core.Option.{some}
 use mathlib.Core.List.{List, [], _∷_, _++_, map, map-append}
 use lib.ListN.{length, getD, take, drop, set, length-drop}
 use lib.Seq.{take-suc-set, take-set-le, drop-set-lt, drop-set-add, getD-drop}
-use Rattle.lists.specs.Lists.{Every}
+use Rattle.lists.specs.Trusted.Lists.{Every}
 use Rattle.lists.specs.ListLaws.{every-none, every-cons, every-head, every-tail, every-append}
 use Rattle.sheet.specs.declared.Source.{Source}
 use Rattle.sheet.specs.declared.Source.the-variants.{Net as net, Gate as gate}
 use Rattle.sheet.specs.declared.Edge.{Edge}
 use Rattle.sheet.specs.declared.Gate.{Gate}
-use Rattle.sheet.specs.Limits.{gateBase, mostGates, mostLeaves, faninRoom}
-use Rattle.sheet.specs.Sheet.{netOf}
-use Rattle.sheet.specs.Read.{sourceOf}
+use Rattle.sheet.specs.Trusted.Limits.{gateBase, mostGates, mostLeaves, faninRoom}
+use Rattle.sheet.specs.Trusted.Sheet.{netOf}
+use Rattle.sheet.specs.Trusted.Read.{sourceOf}
 use Rattle.sheet.specs.ReadLaws.{source-named}
-use Rattle.sheet.specs.Answers.{drawnGate, drawnGates}
+use Rattle.sheet.specs.Trusted.Answers.{drawnGate, drawnGates}
 use Rattle.sheet_line.specs.Inside.{codes}
 
 -- ---- flags

@@ -6,11 +6,11 @@ use mathlib.Core.Path.{_≡_, refl, sym, ap, _∙_}
 use mathlib.Core.Bool.{Bool, true, false}
 use mathlib.Core.List.{List, _∷_}
 use lib.ListN.{getD}
-use Rattle.lists.specs.Tests.{elem}
-use Rattle.sheet.specs.Limits.{gateBase, mostGates}
-use Rattle.sheet.specs.Sheet.{from}
-use Rattle.sheet.specs.Step.{good, bad, _>>=_, require}
-use Rattle.sheet.specs.Read.{readUnread}
+use Rattle.lists.specs.Trusted.Tests.{elem}
+use Rattle.sheet.specs.Trusted.Limits.{gateBase, mostGates}
+use Rattle.sheet.specs.Trusted.Sheet.{from}
+use Rattle.sheet.specs.Trusted.Step.{good, bad, _>>=_, require}
+use Rattle.sheet.specs.Trusted.Read.{readUnread}
 use Rattle.sheet_line.specs.Inside.{Flagged}
 
 -- what is left to look at is the gates from g on

@@ -12,12 +12,12 @@ use Rattle.sheet_reader.specs.declared.Unread.{Unread}
 use Rattle.sheet.specs.declared.Next.{Next}
 use Rattle.sheet_reader.specs.declared.Unread.the-variants.{First, Nowhere}
 use Rattle.sheet_line.specs.Inside.{Flagged}
-use Rattle.sheet.specs.Sheet.{DrawnGate, DrawnSheet, from}
-use Rattle.sheet.specs.Limits.{gateBase, mostGates}
-use Rattle.sheet.specs.Line.{line}
-use Rattle.sheet.specs.Step.{Step, good, bad, _>>=_, require, given}
-use Rattle.sheet.specs.Read.{empty, Head as LineOne, readHead, Seen, nothing, readLeft, readUnread}
-use Rattle.sheet.specs.Answers.{numberOf, drawnGates}
+use Rattle.sheet.specs.Trusted.Sheet.{DrawnGate, DrawnSheet, from}
+use Rattle.sheet.specs.Trusted.Limits.{gateBase, mostGates}
+use Rattle.sheet.specs.Trusted.Line.{line}
+use Rattle.sheet.specs.Trusted.Step.{Step, good, bad, _>>=_, require, given}
+use Rattle.sheet.specs.Trusted.Read.{empty, Head as LineOne, readHead, Seen, nothing, readLeft, readUnread}
+use Rattle.sheet.specs.Trusted.Answers.{numberOf, drawnGates}
 use Rattle.sheet.specs.Promise.{NextRead}
 
 -- ---- the lines of the gates

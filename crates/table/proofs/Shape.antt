@@ -7,8 +7,8 @@ use mathlib.Core.List.{List, map}
 use lib.ListN.{length, take, drop, length-take, length-map, drop-of-length-le}
 use lib.Seq.{take-all}
 use Rattle.lists.specs.Cases.{by-leb}
-use Rattle.table.specs.Limits.{inputRoom}
-use Rattle.table.specs.Records.{reads}
+use Rattle.table.specs.Trusted.Limits.{inputRoom}
+use Rattle.table.specs.Trusted.Records.{reads}
 use Rattle.table.specs.declared.Table.{Table}
 
 pub room : (r : Table) → length (map (λ n. n) (r .inputs)) ≡ inputRoom → length (r .inputs) ≡ inputRoom

@@ -1,9 +1,6 @@
-pub mod Limits
-pub mod Records
-pub mod Rules
+pub mod Trusted
 pub mod ResultLaws
 pub mod LoopLaws
-pub mod RecordTest
 pub mod SeenTest
 pub mod RecordLaws
 pub mod RuleLaws

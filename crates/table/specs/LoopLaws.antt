@@ -10,7 +10,7 @@ use lib.Dec.{ltb}
 use lib.ListN.{length, getD, take, drop, length-drop, drop-of-length-le}
 use lib.Seq.{drop-cons, getD-take, length-take-le}
 use Rattle.lists.specs.ListLaws.{every-cons, every-head}
-use Rattle.lists.specs.Tests.{all, any, pairwise}
+use Rattle.lists.specs.Trusted.Tests.{all, any, pairwise}
 use Rattle.lists.specs.TestLaws.{reflects-lt, reflects-and, reflects-pairwise, reflects-same}
 
 pub drop-next : {A : Type 0} (xs : List A) (i : ℕ) (z : A) → i < length xs → drop i xs ≡ getD xs i z ∷ drop (i + 1) xs

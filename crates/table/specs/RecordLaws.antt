@@ -4,9 +4,9 @@ use mathlib.Core.Path.{_≡_, refl, ap, ap₂}
 use mathlib.Core.List.{List, [], _∷_, map}
 use lib.ListN.{length, replicate}
 use lib.Seq.{take-append-seam}
-use Rattle.cover.specs.Tables.{Table as LookupTable}
-use Rattle.table.specs.Limits.{inputRoom}
-use Rattle.table.specs.Records.{tableOf, recordOf}
+use Rattle.cover.specs.Trusted.Tables.{Table as LookupTable}
+use Rattle.table.specs.Trusted.Limits.{inputRoom}
+use Rattle.table.specs.Trusted.Records.{tableOf, recordOf}
 
 pub read-back : (t : LookupTable) → tableOf (recordOf t) ≡ t
 read-back t = ap (λ xs. record { drives = t .drives; inputs = xs; truth = t .truth }) (take-append-seam (t .inputs) (replicate (inputRoom - length (t .inputs)) 0))

@@ -7,13 +7,13 @@ use mathlib.Core.Logic.{_⊎_, inl, inr, _≢_, ⊎-elim}
 use mathlib.Core.List.{List, [], _∷_, _++_, map, Memᴰ·cast, Memᴰ·of-map, Memᴰ·append-left, List·Memᴰ·append-cases}
 use lib.ListN.{length, getD, length-map}
 use Rattle.lists.specs.Cases.{by-leb}
-use Rattle.lists.specs.Lists.{_∈_, first, later, Every}
+use Rattle.lists.specs.Trusted.Lists.{_∈_, first, later, Every}
 use Rattle.lists.specs.ListLaws.{every-none, every-cons, every-head, every-append, every-left, every-right}
-use Rattle.cover.specs.Tables.{Placed, numbered}
+use Rattle.cover.specs.Trusted.Tables.{Placed, numbered}
 use Rattle.cover.specs.Eval.{numbered-append, numbered-is, numbered-one}
-use Rattle.table.specs.Limits.{tableBase}
-use Rattle.table.specs.Records.{reads, tableOf, blank}
-use Rattle.table.specs.Rules.{NamesTable, Padded, Coded, Sized, Sourced, DrivenOnce, ReadAfter, EveryTwo, places, Rules}
+use Rattle.table.specs.Trusted.Limits.{tableBase}
+use Rattle.table.specs.Trusted.Records.{reads, tableOf, blank}
+use Rattle.table.specs.Trusted.Rules.{NamesTable, Padded, Coded, Sized, Sourced, DrivenOnce, ReadAfter, EveryTwo, places, Rules}
 use Rattle.table.specs.declared.Table.{Table}
 
 pub map-append : {A B : Type 0} (f : A → B) (xs ys : List A) → map f (xs ++ ys) ≡ map f xs ++ map f ys

@@ -9,12 +9,12 @@ use lib.Dec.{leb, eqb}
 use lib.ListN.{length, getD, set, length-append, length-set, length-replicate, getD-replicate, List·getD-append, List·getD-eq-default}
 use lib.Seq.{getD-append-seam, getD-set-same, getD-set-other}
 use Rattle.lists.specs.Cases.{by-eqb, by-leb}
-use Rattle.lists.specs.Tests.{all, elem}
+use Rattle.lists.specs.Trusted.Tests.{all, elem}
 use Rattle.lists.specs.TestLaws.{reflects-lt, reflects-eq, reflects-same, reflects-true}
-use Rattle.tree.specs.Limits.{greatestNet}
-use Rattle.table.specs.Limits.{tableBase, tableRoom}
-use Rattle.table.specs.Records.{reads, blank}
-use Rattle.table.specs.RecordTest.{isCode, padded, sized, sourced, clear, unclaimed, keeps}
+use Rattle.tree.specs.Trusted.Limits.{greatestNet}
+use Rattle.table.specs.Trusted.Limits.{tableBase, tableRoom}
+use Rattle.table.specs.Trusted.Records.{reads, blank}
+use Rattle.table.specs.Trusted.RecordTest.{isCode, padded, sized, sourced, clear, unclaimed, keeps}
 use Rattle.table.specs.SeenTest.{Stands, noneSeen, claimAll, seenAfter, sourcedIn, unclaimedIn, keepsIn}
 use Rattle.table.specs.declared.Table.{Table}
 use Rattle.table.specs.declared.Seen.{Seen}

@@ -6,11 +6,11 @@ use mathlib.Core.Bool.{Bool, true, false, cond, not, _&&_, _||_}
 use mathlib.Core.List.{List, [], _∷_}
 use lib.Dec.{leb, ltb, eqb}
 use lib.ListN.{length, getD, set, replicate}
-use Rattle.lists.specs.Tests.{all, elem}
-use Rattle.tree.specs.Limits.{greatestNet}
-use Rattle.table.specs.Limits.{tableBase, tableRoom}
-use Rattle.table.specs.Records.{reads, blank}
-use Rattle.table.specs.RecordTest.{padded, coded, sized, clear}
+use Rattle.lists.specs.Trusted.Tests.{all, elem}
+use Rattle.tree.specs.Trusted.Limits.{greatestNet}
+use Rattle.table.specs.Trusted.Limits.{tableBase, tableRoom}
+use Rattle.table.specs.Trusted.Records.{reads, blank}
+use Rattle.table.specs.Trusted.RecordTest.{padded, coded, sized, clear}
 use Rattle.table.specs.declared.Table.{Table}
 use Rattle.table.specs.declared.Seen.{Seen}
 

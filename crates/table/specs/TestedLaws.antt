@@ -9,14 +9,14 @@ use lib.Dec.{ltb, eqb}
 use lib.ListN.{length, take, drop, length-append, take-append-drop}
 use lib.Seq.{take-append-le, take-append-add}
 use Rattle.lists.specs.ListLaws.{every-none}
-use Rattle.lists.specs.Tests.{within}
+use Rattle.lists.specs.Trusted.Tests.{within}
 use Rattle.lists.specs.TestLaws.{Reflects, reflects-le, reflects-lt, reflects-eq, reflects-map, reflects-not, reflects-and, reflects-or, reflects-all, reflects-elem, reflects-pairwise, reflects-within, by-reflects}
-use Rattle.tree.specs.Limits.{greatestNet}
-use Rattle.table.specs.Limits.{tableBase, inputRoom, tableRoom, KRange, CapacityRange}
-use Rattle.table.specs.Records.{reads}
-use Rattle.table.specs.Rules.{AllZero, Blank, Coded, Sized, Fine, FirstBad}
+use Rattle.tree.specs.Trusted.Limits.{greatestNet}
+use Rattle.table.specs.Trusted.Limits.{tableBase, inputRoom, tableRoom, KRange, CapacityRange}
+use Rattle.table.specs.Trusted.Records.{reads}
+use Rattle.table.specs.Trusted.Rules.{AllZero, Blank, Coded, Sized, Fine, FirstBad}
 use Rattle.table.specs.RuleLaws.{Known, Clear, Unclaimed, Keeps, rules-snoc, rules-keeps, rules-prefix}
-use Rattle.table.specs.RecordTest.{allZero, isBlank, padded, coded, sized, sourced, clear, unclaimed, keeps, Verdict, none, bad, refused, walk, tested, Says, isNone}
+use Rattle.table.specs.Trusted.RecordTest.{allZero, isBlank, padded, coded, sized, sourced, clear, unclaimed, keeps, Verdict, none, bad, refused, walk, tested, Says, isNone}
 use Rattle.table.specs.declared.Table.{Table}
 
 -- ---- one record

@@ -9,7 +9,7 @@ use lib.Dec.{ltb}
 use lib.ListN.{length, getD, take, drop}
 use lib.Seq.{take-suc, length-take-le}
 use Rattle.table.specs.LoopLaws.{take-next, take-none}
-use Rattle.table.specs.RecordTest.{keeps, Verdict, none, bad, walk}
+use Rattle.table.specs.Trusted.RecordTest.{keeps, Verdict, none, bad, walk}
 use Rattle.table.specs.declared.Table.{Table}
 
 module _ (k capacity : ℕ) (rs : List Table) (n i : ℕ) (room : n ≤ length rs) where

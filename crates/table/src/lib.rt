@@ -1,8 +1,8 @@
 // Lookup tables as records of a part.
 ghost use mathlib.Core.Path.{_≡_};
 ghost use Prim.Native.Nat.{min};
-ghost use Rattle.lists.specs.Tests.{within as inRange};
-ghost use Rattle.table.specs.Records.{blank as blankRecord};
+ghost use Rattle.lists.specs.Trusted.Tests.{within as inRange};
+ghost use Rattle.table.specs.Trusted.Records.{blank as blankRecord};
 
 // The inputs that a record has room for, and the records that a part has room for.
 pub const INPUT_ROOM: u32 = 6;

@@ -3,8 +3,8 @@ ghost use mathlib.Core.Path.{_≡_};
 ghost use Prim.Native.Nat.{_≤_};
 ghost use lib.Dec.{ltb};
 ghost use lib.ListN.{take, drop};
-ghost use Rattle.lists.specs.Tests.{all, elem, pairwise};
-ghost use Rattle.table.specs.RecordTest.{allZero, isCode};
+ghost use Rattle.lists.specs.Trusted.Tests.{all, elem, pairwise};
+ghost use Rattle.table.specs.Trusted.RecordTest.{allZero, isCode};
 use table::within;
 
 // The greatest net, and the base of the tables' codes.

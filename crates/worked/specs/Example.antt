@@ -6,22 +6,22 @@ use mathlib.Core.Path.{_≡_, refl}
 use mathlib.Core.Bool.{Bool, true, false, not}
 use mathlib.Core.List.{List, [], _∷_}
 use lib.Dec.{eqb}
-use Rattle.lists.specs.Lists.{Every, upto, here, there, empty, more}
+use Rattle.lists.specs.Trusted.Lists.{Every, upto, here, there, empty, more}
 use Rattle.lists.specs.ListLaws.{every-none, every-cons, permuted-refl}
 use Rattle.tree.specs.declared.Kind.the-variants.{And as and, Or as or}
-use Rattle.tree.specs.Tree.{leaf, gate, Edges, none, edge, turned, value}
-use Rattle.cover.specs.Cover.{Cover, net, top, Fanins, end, old, new, same, split, done, match, rooted}
+use Rattle.tree.specs.Trusted.Tree.{leaf, gate, Edges, none, edge, turned, value}
+use Rattle.cover.specs.Trusted.Cover.{Cover, net, top, Fanins, end, old, new, same, split, done, match, rooted}
 use Rattle.plan.specs.Key.{key, Way, leaf-key, held, cut, pack, better}
 use Rattle.plan.specs.Subsets.{least-of}
 use Rattle.plan.specs.Least.{least-is}
 use Rattle.plan.specs.declared.Token.{Token}
 use Rattle.plan.specs.declared.Token.the-variants.{Push as push, Join as join}
 use Rattle.plan.specs.Plans.{fanin, binary, Planned, made, Runs, stop, pushed, joined}
-use Rattle.cover.specs.Tables.{Table, numbered, settled}
-use Rattle.cover.specs.Placed.{records, records*}
+use Rattle.cover.specs.Trusted.Tables.{Table, numbered, settled}
+use Rattle.cover.specs.Trusted.Placed.{records, records*}
 use Rattle.plan.specs.Placings.{placings}
-use Rattle.cover.specs.Added.{Sheet, AddedLeast}
-use Rattle.cover.specs.AddedLaws.{added-met}
+use Rattle.cover.specs.Trusted.CoverTables.{Sheet, AddedLeast}
+use Rattle.cover.specs.AddLaws.{added-met}
 
 abbrev edges : Edges
 edges = edge false (leaf 1) (edge false (leaf 4) (edge false (gate or (edge false (leaf 2) (edge true (leaf 3) none))) none))

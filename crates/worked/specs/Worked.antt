@@ -6,12 +6,12 @@ use mathlib.Core.Path.{_≡_}
 use mathlib.Core.Bool.{Bool, true, false}
 use mathlib.Core.List.{List, [], _∷_}
 use mathlib.Core.Option.{Option, some, none}
-use Rattle.lists.specs.Lists.{Every}
+use Rattle.lists.specs.Trusted.Lists.{Every}
 use Rattle.tree.specs.declared.Kind.{Kind}
 use Rattle.tree.specs.declared.Kind.the-variants.{And as and, Or as or}
-use Rattle.tree.specs.Tree.{Node, leaf, gate, Edges, edge}
-use Rattle.cover.specs.Cover.{Cover, tables, CoverOf, Least}
-use Rattle.cover.specs.Placed.{records}
+use Rattle.tree.specs.Trusted.Tree.{Node, leaf, gate, Edges, edge}
+use Rattle.cover.specs.Trusted.Cover.{Cover, tables, CoverOf, Least}
+use Rattle.cover.specs.Trusted.Placed.{records}
 
 -- the most inputs of a table, a tree, whether its output is inverted, the tables of its least cover, and their truth table
 pub record Row : Type 0 where

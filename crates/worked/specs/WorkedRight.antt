@@ -7,10 +7,10 @@ use mathlib.Core.List.{List, [], _∷_}
 use mathlib.Core.Option.{Option, some, none}
 use lib.Dec.{T, leb, eqb, leb→le, eqb→eq}
 use Rattle.lists.specs.Cases.{and-split}
-use Rattle.lists.specs.Lists.{Every}
+use Rattle.lists.specs.Trusted.Lists.{Every}
 use Rattle.lists.specs.ListLaws.{every-none, every-cons}
-use Rattle.tree.specs.Tree.{Node, leaf, gate, proper}
-use Rattle.cover.specs.Cover.{Least}
+use Rattle.tree.specs.Trusted.Tree.{Node, leaf, gate, proper}
+use Rattle.cover.specs.Trusted.Cover.{Least}
 use Rattle.plan.specs.Key.{pack, better}
 use Rattle.plan.specs.Subsets.{least-of}
 use Rattle.plan.specs.Least.{least-tables, least-is}

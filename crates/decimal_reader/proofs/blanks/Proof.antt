@@ -4,7 +4,7 @@ use Prim.Native.Nat.{_-_, _≤_}
 use native.Mathlib.Omega.{arith}
 use mathlib.Core.Path.{_≡_, refl, _∙_}
 use lib.ListN.{length, drop, drop-of-length-le}
-use Rattle.decimal.specs.Number.{number}
+use Rattle.decimal.specs.Trusted.Number.{number}
 use Rattle.decimal_reader.proofs.NumberLaws.{number-blank, number-other}
 use Rattle.decimal_reader.proofs.blanks.Statement.{statement}
 use Rattle.decimal_reader.proofs.blanks.Tie as tie

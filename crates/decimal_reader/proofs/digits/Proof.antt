@@ -5,7 +5,7 @@ use native.Mathlib.Nat.{one-le-pow}
 use native.Mathlib.Omega.{arith}
 use mathlib.Core.Path.{_≡_, refl, sym, ap, _∙_}
 use lib.ListN.{length, getD, drop, drop-of-length-le}
-use Rattle.decimal.specs.Number.{digits}
+use Rattle.decimal.specs.Trusted.Number.{digits}
 use Rattle.decimal.specs.NumberLaws.{below-more}
 use Rattle.decimal.specs.Reading.{parsed}
 use Rattle.decimal_reader.proofs.NumberLaws.{digits-more, digits-low, digits-high, below-five}

@@ -9,7 +9,7 @@ use lib.ListN.{drop}
 use mir.Syntax.{w32}
 use mir.Val.{SFits, toZ, ofZ}
 use mir.Facts.{toZ-ofZ}
-use Rattle.decimal.specs.Number.{natural, negated, unsigned, signed}
+use Rattle.decimal.specs.Trusted.Number.{natural, negated, unsigned, signed}
 use Rattle.decimal.specs.NumberLaws.{negated-more}
 use Rattle.decimal.specs.Reading.{answerOf}
 use Rattle.decimal.specs.declared.Field.the-variants.{Value}

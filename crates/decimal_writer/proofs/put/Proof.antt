@@ -6,7 +6,7 @@ use native.Mathlib.Omega.{arith}
 use mathlib.Core.Path.{_≡_, refl, sym, ap, _∙_}
 use lib.ListN.{length, drop, length-set}
 use lib.Seq.{drop-length}
-use Rattle.decimal.specs.Columns.{fieldOf}
+use Rattle.decimal.specs.Trusted.Columns.{fieldOf}
 use Rattle.decimal.specs.ColumnLaws.{div-more}
 use Rattle.decimal_writer.proofs.WriteLaws.{column-more}
 use Rattle.decimal_writer.proofs.put.Statement.{statement}

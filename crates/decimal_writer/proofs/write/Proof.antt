@@ -1,7 +1,7 @@
 -- `decimal_writer::write` meets its contract: a number has room where the columns are as many as its digits. Assumes nothing.
 use mathlib.Core.Path.{sym, ap, _∙_}
 use lib.ListN.{length}
-use Rattle.decimal.specs.Columns.{fieldOf}
+use Rattle.decimal.specs.Trusted.Columns.{fieldOf}
 use Rattle.decimal.specs.Writing.{outcome}
 use Rattle.decimal.specs.declared.Written.the-variants.{Done}
 use Rattle.decimal_writer.proofs.WriteLaws.{has-room, no-room}

@@ -1,6 +1,6 @@
 -- `decimal_writer::write_at` meets its contract. Assumes nothing.
 use native.Mathlib.Omega.{arith}
-use Rattle.decimal.specs.Columns.{room, fieldOf}
+use Rattle.decimal.specs.Trusted.Columns.{room, fieldOf}
 use Rattle.decimal_writer.proofs.PlaceLaws.{place-within, place-past}
 use borrow.Author.Needs.{needs}
 use Rattle.decimal_writer.proofs.write_at.Statement.{statement}

@@ -4,7 +4,7 @@ use mathlib.Core.Path.{_≡_, sym, ap, ap₂, _∙_}
 use lib.ListN.{length, set}
 use mir.Facts.{toZ-ofZ}
 use borrow.Author.Tests.{not-true, not-false}
-use Rattle.decimal.specs.Columns.{fieldOf}
+use Rattle.decimal.specs.Trusted.Columns.{fieldOf}
 use Rattle.decimal.specs.ColumnLaws.{field-length}
 use Rattle.decimal.specs.Reading.{numberOf}
 use Rattle.decimal.specs.Writing.{signedWritten}

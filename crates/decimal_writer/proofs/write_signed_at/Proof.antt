@@ -4,7 +4,7 @@ use native.Mathlib.Omega.{arith}
 use mathlib.Core.Path.{ap, _∙_}
 use borrow.Rule.Slice.PartMut.{midOf}
 use mir.Facts.{toZ-ofZ}
-use Rattle.decimal.specs.Columns.{signedRoom, signedFieldOf}
+use Rattle.decimal.specs.Trusted.Columns.{signedRoom, signedFieldOf}
 use Rattle.decimal.specs.Reading.{numberOf}
 use Rattle.decimal.specs.Writing.{signedWritten}
 use Rattle.decimal_writer.proofs.PlaceLaws.{place-within, place-past}

@@ -4,8 +4,8 @@ use mathlib.Core.Path.{_≡_, refl, sym, ap, _∙_}
 use denote.Ref.{now}
 use lib.ListN.{length, getD, take}
 use lib.Seq.{length-take-le}
-use Rattle.decimal.specs.Columns.{fieldOf, fieldsOf}
-use Rattle.list_line.specs.Writes.{pasted}
+use Rattle.decimal.specs.Trusted.Columns.{fieldOf, fieldsOf}
+use Rattle.list_line.specs.Trusted.Writes.{pasted}
 use Rattle.list_line.specs.PasteLaws.{paste-none, paste-next}
 use Rattle.list_line.specs.FieldLaws.{fields-length, fields-next}
 use Rattle.list_line.proofs.put_inputs.Statement.{statement}

@@ -3,10 +3,10 @@ use mathlib.Core.Path.{_≡_, refl, sym, ap, _∙_}
 use mathlib.Core.List.{[], _∷_, _++_, append-assoc}
 use denote.Ref.{now}
 use lib.ListN.{length, take, length-append}
-use Rattle.table.specs.Records.{reads}
+use Rattle.table.specs.Trusted.Records.{reads}
 use Rattle.table.proofs.Shape.{take-room}
-use Rattle.decimal.specs.Columns.{fieldOf, fieldsOf}
-use Rattle.list_line.specs.Writes.{pasted}
+use Rattle.decimal.specs.Trusted.Columns.{fieldOf, fieldsOf}
+use Rattle.list_line.specs.Trusted.Writes.{pasted}
 use Rattle.list_line.specs.PasteLaws.{paste-next}
 use Rattle.list_line.specs.FieldLaws.{fields-length}
 use native.Mathlib.Omega.{arith}

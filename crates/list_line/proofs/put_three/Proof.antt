@@ -3,7 +3,7 @@ use native.Mathlib.Omega.{arith}
 use mathlib.Core.Path.{refl}
 use mathlib.Core.List.{_++_}
 use denote.Ref.{now}
-use Rattle.decimal.specs.Columns.{fieldOf}
+use Rattle.decimal.specs.Trusted.Columns.{fieldOf}
 use Rattle.list_line.specs.PasteLaws.{paste-next}
 use borrow.Author.Needs.{needs}
 use Rattle.list_line.proofs.put_three.Statement.{statement}

@@ -5,10 +5,10 @@ use borrow.Author.Needs.{needs}
 use denote.Ref.{now}
 use lib.ListN.{length, getD}
 use Rattle.table.specs.LoopLaws.{getD-any}
-use Rattle.table.specs.Records.{blank}
+use Rattle.table.specs.Trusted.Records.{blank}
 use Rattle.part.proofs.Shape.{shaped, past}
-use Rattle.part.specs.Listing.{tableLine}
-use Rattle.list_line.specs.Writes.{pasted}
+use Rattle.part.specs.Trusted.Listing.{tableLine}
+use Rattle.list_line.specs.Trusted.Writes.{pasted}
 use Rattle.list_line.specs.Line.{tableWidth}
 use Rattle.listing.specs.Lines.{tableLines}
 use Rattle.list_line.specs.PasteLaws.{paste-none, paste-next}

@@ -4,7 +4,7 @@ use mathlib.Core.Path.{_≡_, refl, sym, ap, _∙_}
 use borrow.Author.Needs.{needs}
 use lib.ListN.{length, getD}
 use Rattle.table.specs.LoopLaws.{getD-any}
-use Rattle.table.specs.Records.{blank}
+use Rattle.table.specs.Trusted.Records.{blank}
 use Rattle.part.proofs.Shape.{shaped, past}
 use Rattle.list_line.specs.Line.{tableWidth}
 use Rattle.listing.specs.Lines.{tableLines}

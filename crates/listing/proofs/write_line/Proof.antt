@@ -6,12 +6,12 @@ use denote.Ref.{now}
 use lib.Dec.{leb}
 use lib.ListN.{length, getD}
 use Rattle.table.specs.LoopLaws.{getD-any}
-use Rattle.table.specs.Records.{blank}
+use Rattle.table.specs.Trusted.Records.{blank}
 use mathlib.Core.Bool.{true}
-use Rattle.part.specs.SoundTest.{sound}
-use Rattle.part.specs.Listing.{tableLine, lineOf}
+use Rattle.part.specs.Trusted.SoundTest.{sound}
+use Rattle.part.specs.Trusted.Listing.{tableLine, lineOf}
 use Rattle.part.proofs.Shape.{shaped, past}
-use Rattle.list_line.specs.Writes.{wrote, pasted}
+use Rattle.list_line.specs.Trusted.Writes.{wrote, pasted}
 use Rattle.list_line.specs.Line.{tableWidth}
 use Rattle.list_line.specs.FieldLaws.{table-length}
 use Rattle.listing.specs.LineLaws.{fitted-out, fitted-in, line-unsound, line-absent, line-there, line-table, used-room}

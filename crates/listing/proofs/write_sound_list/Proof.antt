@@ -6,7 +6,7 @@ use borrow.Author.Tests.{not-true, not-false, leb-true}
 use denote.Ref.{now}
 use lib.Dec.{leb}
 use lib.ListN.{length, length-append}
-use Rattle.list_line.specs.Writes.{wrote}
+use Rattle.list_line.specs.Trusted.Writes.{wrote}
 use Rattle.list_line.specs.Line.{topLine}
 use Rattle.listing.specs.Lines.{tableLines}
 use Rattle.list_line.specs.PasteLaws.{paste-next}

@@ -8,9 +8,9 @@ use Rattle.tree.specs.declared.Kind.{Kind}
 use Rattle.sheet.proofs.Gate.{the-field}
 use Rattle.sheet.proofs.Edge.{the-field as edge-field}
 use Rattle.sheet.specs.declared.Edge.{Edge}
-use Rattle.sheet.specs.Limits.{mostGates, faninRoom}
+use Rattle.sheet.specs.Trusted.Limits.{mostGates, faninRoom}
 use Rattle.sheet.specs.declared.Gate.{Gate}
-use Rattle.sheet.specs.Answers.{drawnGate, drawnSheet}
+use Rattle.sheet.specs.Trusted.Answers.{drawnGate, drawnSheet}
 use Rattle.mapper_laws.specs.CodeMap.{noHeld, Reaches, Gathers, Mappable, GateMapped, Staging, Staged, Going}
 use Rattle.mapper_laws.specs.declared.Operands.{Operands}
 use Rattle.mapper_laws.specs.declared.Held.{Held}

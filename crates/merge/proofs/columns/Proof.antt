@@ -4,7 +4,7 @@ use native.Mathlib.Omega.{arith}
 use mathlib.Core.Path.{_≡_, ap, _∙_}
 use lib.ListN.{take}
 use denote.Ref.{now}
-use Rattle.table.specs.Limits.{inputRoom}
+use Rattle.table.specs.Trusted.Limits.{inputRoom}
 use Rattle.pending.specs.Merging.{padded, columnOf, columnsOf}
 use Rattle.pending.specs.MergeLaws.{place-low, column-is, columns-none, columns-next}
 use Rattle.merge.proofs.columns.Statement.{statement}

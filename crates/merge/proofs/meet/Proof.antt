@@ -1,6 +1,6 @@
 -- `merge::meet` meets its contract. Assumes nothing.
-use Rattle.tree.specs.Tree.{meet}
-use Rattle.cover.specs.Bits.{bit}
+use Rattle.tree.specs.Trusted.Tree.{meet}
+use Rattle.cover.specs.Trusted.Bits.{bit}
 use mathlib.Core.Path.{sym, ap, _∙_}
 use Rattle.pending.specs.MergeLaws.{bit-and, bit-or}
 use borrow.Author.Needs.{needs}

@@ -2,7 +2,7 @@
 use mathlib.Core.Path.{_≡_}
 use lib.ListN.{length}
 use native.Mathlib.Omega.{arith}
-use Rattle.table.specs.Limits.{inputRoom}
+use Rattle.table.specs.Trusted.Limits.{inputRoom}
 use Rattle.pending.specs.MergeLaws.{ordered-right, ordered-shape, inputs-room, merged-is}
 use borrow.Author.Needs.{needs}
 use Rattle.merge.proofs.merge.Statement.{statement}

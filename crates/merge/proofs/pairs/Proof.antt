@@ -2,7 +2,7 @@
 use Prim.Native.Nat.{_-_, _≤_}
 use native.Mathlib.Omega.{arith}
 use mathlib.Core.Path.{_≡_}
-use Rattle.cover.specs.Bits.{bit, digit}
+use Rattle.cover.specs.Trusted.Bits.{bit, digit}
 use Rattle.pending.specs.Merging.{Words}
 use Rattle.pending.specs.MergeLaws.{words-none, words-next, pair-bit}
 use Rattle.merge.proofs.pairs.Statement.{statement}

@@ -7,7 +7,7 @@ use denote.Ref.{now}
 use native.Mathlib.Numerals.{add-one}
 use lib.ListN.{take}
 use lib.Seq.{slice}
-use Rattle.cover.specs.Bits.{place}
+use Rattle.cover.specs.Trusted.Bits.{place}
 use Rattle.pending.specs.MergeLaws.{slice-none, place-here, place-later}
 use Rattle.merge.proofs.place.Statement.{statement}
 use Rattle.merge.proofs.place.Tie as tie

@@ -1,6 +1,6 @@
 -- `merge::turn` meets its contract. Assumes nothing.
-use Rattle.tree.specs.Tree.{turned}
-use Rattle.cover.specs.Bits.{bit}
+use Rattle.tree.specs.Trusted.Tree.{turned}
+use Rattle.cover.specs.Trusted.Bits.{bit}
 use native.Mathlib.Omega.{arith}
 use mathlib.Core.Path.{sym, ap, _∙_}
 use Rattle.pending.specs.MergeLaws.{bit-turned}

@@ -1,5 +1,5 @@
 use mathlib.Core.Path.{ap}
-use Rattle.part.specs.Answers.{refused}
+use Rattle.part.specs.Trusted.Answers.{refused}
 use borrow.Author.Needs.{needs}
 use Rattle.opening.proofs.no_opening.Statement.{statement}
 use Rattle.opening.proofs.no_opening.Tie as tie

@@ -1,10 +1,10 @@
 use native.Mathlib.Omega.{arith}
 use mathlib.Core.Path.{sym, ap, ap₂, _∙_}
 use lib.ListN.{take, drop, List·getD-eq-default}
-use Rattle.decimal.specs.Number.{columns}
+use Rattle.decimal.specs.Trusted.Number.{columns}
 use Rattle.decimal.specs.ReadingLaws.{read-none, read-number}
-use Rattle.part.specs.Adds.{opened}
-use Rattle.opening.specs.Opening.{openedBy}
+use Rattle.part.specs.Trusted.Add.{opened}
+use Rattle.opening.specs.Trusted.Opening.{openedBy}
 use Rattle.opening.specs.OpeningLaws.{no-line-feed, no-first, no-second, two-numbers}
 use borrow.Author.Needs.{needs}
 use Rattle.opening.proofs.read_opening.Statement.{statement}

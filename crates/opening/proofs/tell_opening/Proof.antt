@@ -1,5 +1,5 @@
 use mathlib.Core.Path.{sym, ap}
-use Rattle.part.specs.Openings.{openingAnswer}
+use Rattle.part.specs.Trusted.OpenAnswers.{openingAnswer}
 use borrow.Author.Needs.{needs}
 use Rattle.opening.proofs.tell_opening.Statement.{statement}
 use Rattle.opening.proofs.tell_opening.Tie as tie

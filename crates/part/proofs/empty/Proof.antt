@@ -1,8 +1,8 @@
 use mathlib.Core.Path.{ap}
 use lib.ListN.{replicate}
 use borrow.Author.Needs.{needs}
-use Rattle.table.specs.Limits.{tableRoom}
-use Rattle.part.specs.Parts.{blanks}
+use Rattle.table.specs.Trusted.Limits.{tableRoom}
+use Rattle.part.specs.Trusted.Parts.{blanks}
 use Rattle.part.proofs.empty.Statement.{statement}
 use Rattle.part.proofs.empty.Tie as tie
 

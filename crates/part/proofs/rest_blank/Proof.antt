@@ -4,10 +4,10 @@ use mathlib.Core.Path.{_≡_, refl, sym, _∙_}
 use borrow.Author.Needs.{needs}
 use borrow.Author.Tests.{not-true, not-false}
 use lib.ListN.{length, drop}
-use Rattle.lists.specs.Tests.{all}
-use Rattle.table.specs.Limits.{tableRoom}
+use Rattle.lists.specs.Trusted.Tests.{all}
+use Rattle.table.specs.Trusted.Limits.{tableRoom}
 use Rattle.table.specs.LoopLaws.{all-stops, all-goes, all-ends}
-use Rattle.table.specs.RecordTest.{isBlank}
+use Rattle.table.specs.Trusted.RecordTest.{isBlank}
 use Rattle.part.proofs.Shape.{shaped, past}
 use Rattle.part.proofs.rest_blank.Statement.{statement}
 use Rattle.part.proofs.rest_blank.Tie as tie

@@ -7,12 +7,12 @@ use borrow.Author.Needs.{needs}
 use borrow.Author.Tests.{not-true, not-false, lt-ltb}
 use lib.ListN.{length, getD, take, drop}
 use lib.Seq.{length-take-le}
-use Rattle.table.specs.Limits.{tableRoom}
-use Rattle.table.specs.RecordTest.{keeps, walk, isNone}
+use Rattle.table.specs.Trusted.Limits.{tableRoom}
+use Rattle.table.specs.Trusted.RecordTest.{keeps, walk, isNone}
 use Rattle.table.specs.SeenTest.{Stands}
 use Rattle.table.specs.SeenLaws.{stands-none, stands-after, keeps-stands}
 use Rattle.table.specs.WalkLaws.{walk-ends, walk-stops, walk-goes, before-next}
-use Rattle.part.specs.Parts.{inUse}
+use Rattle.part.specs.Trusted.Parts.{inUse}
 use Rattle.part.proofs.Shape.{shaped, past}
 use Rattle.part.proofs.rules_kept.Statement.{statement}
 use Rattle.part.proofs.rules_kept.Tie as tie

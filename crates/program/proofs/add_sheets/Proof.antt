@@ -2,8 +2,8 @@ use Prim.Native.Nat.{_-_}
 use native.Mathlib.Omega.{arith}
 use borrow.Author.Needs.{needs}
 use lib.ListN.{length}
-use Rattle.sheet.specs.Answers.{drawnSheet}
-use Rattle.sheet.specs.Formed.{WellFormed}
+use Rattle.sheet.specs.Trusted.Answers.{drawnSheet}
+use Rattle.sheet.specs.Trusted.Formed.{WellFormed}
 use Rattle.part.proofs.Shape.{shaped}
 use Rattle.program.specs.ProgramLaws.{number-some, SoFar, so-far-start, so-far-more, few-sheets, on-the-way, ended-stop, ended-all, Stepped, next-formed, stepped-refused, stepped-offered}
 use Rattle.program.proofs.add_sheets.Statement.{statement}

@@ -2,7 +2,7 @@ use mathlib.Core.Path.{_≡_, subst}
 use denote.Ref.{now}
 use Rattle.lists.specs.TestLaws.{reflects-true}
 use Rattle.part.specs.SoundLaws.{sound-reflects}
-use Rattle.part.specs.Listing.{listOf}
+use Rattle.part.specs.Trusted.Listing.{listOf}
 use Rattle.listing.specs.declared.Answer.{Answer}
 use Rattle.program.specs.Contracts.{WrittenAs}
 use Rattle.program.proofs.Printing.{printedOf, list-printed}

@@ -2,7 +2,7 @@ use Prim.Native.Nat.{ℕ}
 use native.Mathlib.Nat.{pos-of-ne-zero}
 use mathlib.Core.List.{List}
 use lib.ListN.{drop}
-use Rattle.program.specs.Program.{Mapped, Prints}
+use Rattle.program.specs.Trusted.Program.{Mapped, Prints}
 use Rattle.program.specs.ProgramLaws.{opening-refused, opening-accepted, opening-sound, refused-line, accepted-list}
 use borrow.Author.Needs.{needs}
 use Rattle.program.proofs.run.Statement.{statement}

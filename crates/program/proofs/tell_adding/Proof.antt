@@ -1,5 +1,5 @@
 use mathlib.Core.Path.{sym, ap, _∙_}
-use Rattle.part.specs.Adding.{addingAnswer}
+use Rattle.part.specs.Trusted.AddAnswers.{addingAnswer}
 use Rattle.program.specs.ProgramLaws.{told-misread}
 use borrow.Author.Needs.{needs}
 use Rattle.program.proofs.tell_adding.Statement.{statement}

@@ -46,7 +46,7 @@ use denote.Exit.{yes}
 use Rattle.table.specs.declared.Table.{Table}
 use Rattle.records.specs.declared.Walk.{Walk}
 use Rattle.records.specs.declared.Found.{Found}
-use Rattle.table.specs.RecordTest.{tested}
+use Rattle.table.specs.Trusted.RecordTest.{tested}
 use Rattle.records.specs.RunTest.{verdictOf, beginOf, stepOf, finishOf}
 use Rattle.table.proofs.Table as T
 use Rattle.table.proofs.Table.Laws as T′

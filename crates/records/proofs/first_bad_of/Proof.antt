@@ -6,7 +6,7 @@ use mathlib.Core.List.{List}
 use lib.ListN.{length, take}
 use lib.Seq.{take-all}
 use borrow.Author.Needs.{needs}
-use Rattle.table.specs.RecordTest.{tested}
+use Rattle.table.specs.Trusted.RecordTest.{tested}
 use Rattle.table.specs.declared.Table.{Table}
 use Rattle.records.proofs.first_bad_of.Statement.{statement}
 use Rattle.records.proofs.first_bad_of.Tie as tie

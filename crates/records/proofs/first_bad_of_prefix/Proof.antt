@@ -48,7 +48,7 @@ use borrow.Table.Elements.{length-take-le}
 use borrow.Rule.Array.Share.{room-take}
 use Rattle.table.specs.declared.Table.{Table}
 use Rattle.records.specs.declared.Found.{Found}
-use Rattle.table.specs.RecordTest.{tested}
+use Rattle.table.specs.Trusted.RecordTest.{tested}
 use Rattle.records.specs.RunTest.{verdictOf}
 use Rattle.table.proofs.Table as T
 use Rattle.table.proofs.Table.Laws as T′

@@ -1,7 +1,7 @@
 -- `refusals::put_line` meets its contract: the bytes from the line's start to the next line feed are the line. Assumes nothing.
 use mathlib.Core.Path.{ap, _∙_}
 use borrow.Author.Needs.{needs}
-use Rattle.refusals.specs.Sentences.{fitted}
+use Rattle.refusals.specs.Trusted.Sentences.{fitted}
 use Rattle.refusals.specs.LineLaws.{line-part}
 use Rattle.refusals.proofs.put_line.Statement.{statement}
 use Rattle.refusals.proofs.put_line.Tie as tie

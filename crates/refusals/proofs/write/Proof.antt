@@ -3,7 +3,7 @@
 use mathlib.Core.Path.{refl, ap, _∙_}
 use borrow.Author.Needs.{needs}
 use Rattle.bytes.specs.Bytes.{indexOf, indexAfter}
-use Rattle.refusals.specs.Sentences.{refusals, fitted}
+use Rattle.refusals.specs.Trusted.Sentences.{refusals, fitted}
 use Rattle.refusals.specs.Lines.{textFrom}
 use Rattle.refusals.specs.LineLaws.{line-is}
 use Rattle.refusals.proofs.write.Statement.{statement}

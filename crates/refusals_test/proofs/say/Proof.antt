@@ -7,7 +7,7 @@ use lib.ListN.{length}
 use lib.Seq.{length-take-le}
 use borrow.Author.Needs.{needs}
 use Rattle.lists.specs.Cases.{if-leb}
-use Rattle.refusals.specs.Sentences.{Outcome, refusalText, fitted}
+use Rattle.refusals.specs.Trusted.Sentences.{Outcome, refusalText, fitted}
 use Rattle.refusals_test.proofs.say.Statement.{statement}
 use Rattle.refusals_test.proofs.say.Tie as tie
 

@@ -4,7 +4,7 @@ use Prim.Native.Nat.{ℕ, _-_, _≤_, _<_}
 use native.Mathlib.Omega.{arith}
 use mathlib.Core.Path.{_≡_, _∙_}
 use lib.ListN.{length, take, drop}
-use Rattle.sheet.specs.Line.{line}
+use Rattle.sheet.specs.Trusted.Line.{line}
 use Rattle.sheet_line.proofs.LineLaws.{before, line-start, line-more, line-here, line-past}
 use Rattle.sheet_line.proofs.line_end.Statement.{statement}
 use Rattle.sheet_line.proofs.line_end.Tie as tie

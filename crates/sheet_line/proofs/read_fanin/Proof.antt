@@ -9,10 +9,10 @@ use Rattle.sheet.specs.declared.Source.{Source}
 use Rattle.sheet.specs.declared.Source.the-variants.{Net as net, Gate as gate}
 use Rattle.sheet.specs.declared.Refusal.{Refusal}
 use Rattle.sheet_line.specs.declared.Fanin.the-variants.{Reads, Bad}
-use Rattle.sheet.specs.Limits.{mostLeaves}
-use Rattle.sheet.specs.Sheet.{netOf}
-use Rattle.sheet.specs.Step.{good}
-use Rattle.sheet.specs.Read.{sourceOf}
+use Rattle.sheet.specs.Trusted.Limits.{mostLeaves}
+use Rattle.sheet.specs.Trusted.Sheet.{netOf}
+use Rattle.sheet.specs.Trusted.Step.{good}
+use Rattle.sheet.specs.Trusted.Read.{sourceOf}
 use Rattle.sheet_line.specs.Inside.{saw, sourceStep}
 use Rattle.sheet_line.proofs.FaninLaws.{fanin-none, gate-twice, gate-once, net-twice, net-out, net-many, net-once, code-below, net-flag, gate-flag}
 use borrow.Author.Needs.{needs}

@@ -6,10 +6,10 @@ use borrow.Author.Needs.{needs}
 use mathlib.Core.Path.{_≡_, sym, ap, _∙_}
 use mathlib.Core.List.{List}
 use lib.ListN.{length, take, drop, length-drop}
-use Rattle.decimal.specs.Number.{columns}
+use Rattle.decimal.specs.Trusted.Number.{columns}
 use Rattle.decimal.specs.Reading.{fieldRead}
 use Rattle.decimal.specs.ReadingLaws.{read-number, read-none}
-use Rattle.sheet.specs.Line.{fields}
+use Rattle.sheet.specs.Trusted.Line.{fields}
 use Rattle.sheet_line.proofs.HeadLaws.{fields-none}
 use Rattle.sheet_line.proofs.FieldLaws.{SoFar, short-none, empty-list, nonempty, so-far-start, so-far-none, so-far-full, so-far-bad, so-far-more, so-far-all}
 use Rattle.sheet_line.proofs.read_fields.Statement.{statement}

@@ -11,8 +11,8 @@ use borrow.Author.Tests.{not-true, not-false, eq-eqb, ne-eqb}
 use Rattle.tree.specs.declared.Kind.{Kind}
 use Rattle.sheet.specs.declared.Refusal.{Refusal}
 use Rattle.sheet_line.specs.declared.GateHead.the-variants.{Good, Bad}
-use Rattle.sheet.specs.Limits.{fewestFanins, mostFanins}
-use Rattle.sheet.specs.Read.{counts, kindOf, gateHeadOf}
+use Rattle.sheet.specs.Trusted.Limits.{fewestFanins, mostFanins}
+use Rattle.sheet.specs.Trusted.Read.{counts, kindOf, gateHeadOf}
 use Rattle.sheet_line.specs.Inside.{valuesOf, fieldsOf, kindStep}
 use Rattle.sheet.specs.NumberLaws.{counts-holds}
 use Rattle.sheet_line.proofs.HeadLaws.{fieldAt, fields-none, fields-some, values-count, more-count, values-two}

@@ -7,10 +7,10 @@ use mathlib.Core.List.{List}
 use lib.ListN.{length, take, drop}
 use Rattle.sheet.specs.declared.Refusal.{Refusal}
 use Rattle.sheet_line.specs.declared.GateLine.{GateLine}
-use Rattle.sheet.specs.Answers.{numberOf}
-use Rattle.sheet.specs.Line.{line, fields}
-use Rattle.sheet.specs.Step.{good, bad}
-use Rattle.sheet.specs.Read.{gateHeadOf}
+use Rattle.sheet.specs.Trusted.Answers.{numberOf}
+use Rattle.sheet.specs.Trusted.Line.{line, fields}
+use Rattle.sheet.specs.Trusted.Step.{good, bad}
+use Rattle.sheet.specs.Trusted.Read.{gateHeadOf}
 use Rattle.sheet_line.specs.Inside.{cutAt, gateHeadStep, gateLine, faninNumbers, faultStep, LineRefused, GateLineRead}
 use Rattle.sheet_line.proofs.GateLaws.{fanins-are, line-missing, line-bad, line-good}
 use borrow.Author.Needs.{needs}

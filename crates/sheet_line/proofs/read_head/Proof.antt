@@ -6,11 +6,11 @@ use mathlib.Core.Option.{some}
 use mathlib.Core.List.{[], _∷_}
 use lib.Dec.{T}
 use borrow.Author.Tests.{not-true, not-false}
-use Rattle.lists.specs.Tests.{within}
+use Rattle.lists.specs.Trusted.Tests.{within}
 use Rattle.lists.specs.TestLaws.{reflects-within}
-use Rattle.tree.specs.Limits.{greatestNet}
-use Rattle.sheet.specs.Limits.{mostGates}
-use Rattle.sheet.specs.Read.{counts, headOf}
+use Rattle.tree.specs.Trusted.Limits.{greatestNet}
+use Rattle.sheet.specs.Trusted.Limits.{mostGates}
+use Rattle.sheet.specs.Trusted.Read.{counts, headOf}
 use Rattle.sheet_line.specs.Inside.{valuesOf, fieldsOf}
 use Rattle.sheet.specs.NumberLaws.{counts-holds}
 use Rattle.sheet_line.proofs.HeadLaws.{fieldAt, fields-none, fields-some, values-count, values-pair, head-none, head-other, head-net, head-count, head-good}

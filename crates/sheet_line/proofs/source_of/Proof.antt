@@ -4,9 +4,9 @@ use mathlib.Core.Path.{_≡_, sym, _∙_, subst}
 use mathlib.Core.Bool.{Bool}
 use lib.Dec.{T}
 use borrow.Author.Tests.{lt-ltb, le-ltb}
-use Rattle.lists.specs.Tests.{within}
+use Rattle.lists.specs.Trusted.Tests.{within}
 use Rattle.lists.specs.TestLaws.{reflects-within}
-use Rattle.tree.specs.Limits.{greatestNet}
+use Rattle.tree.specs.Trusted.Limits.{greatestNet}
 use borrow.Author.Needs.{needs}
 use Rattle.sheet_line.proofs.source_of.Statement.{statement}
 use Rattle.sheet_line.proofs.source_of.Tie as tie

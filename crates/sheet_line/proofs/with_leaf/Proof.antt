@@ -3,7 +3,7 @@ use Prim.Native.Nat.{_+_}
 use native.Mathlib.Omega.{arith}
 use mathlib.Core.Path.{sym, ap}
 use lib.ListN.{length}
-use Rattle.sheet.specs.Sheet.{netOf}
+use Rattle.sheet.specs.Trusted.Sheet.{netOf}
 use borrow.Author.Needs.{needs}
 use Rattle.sheet_line.proofs.with_leaf.Statement.{statement}
 use Rattle.sheet_line.proofs.with_leaf.Tie as tie

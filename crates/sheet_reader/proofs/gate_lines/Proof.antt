@@ -7,9 +7,9 @@ use mathlib.Core.Path.{_≡_, refl, sym, ap, subst}
 use lib.ListN.{length, getD, drop, replicate}
 use Rattle.sheet_line.specs.declared.GateLine.{GateLine}
 use Rattle.sheet_reader.specs.declared.Lines.{Lines}
-use Rattle.sheet.specs.Limits.{mostGates, faninRoom}
-use Rattle.sheet.specs.Read.{nothing, readLeft}
-use Rattle.sheet.specs.Answers.{drawnGates, noFanins}
+use Rattle.sheet.specs.Trusted.Limits.{mostGates, faninRoom}
+use Rattle.sheet.specs.Trusted.Read.{nothing, readLeft}
+use Rattle.sheet.specs.Trusted.Answers.{drawnGates, noFanins}
 use Rattle.sheet_line.specs.Inside.{codes}
 use Rattle.sheet_reader.specs.Inside.{Comes, GatesHeld}
 use Rattle.sheet_line.proofs.HeadLaws.{zeroValue}

@@ -1,6 +1,6 @@
 -- `sheet::no_fanins` meets its contract. Assumes nothing.
 use mathlib.Core.Path.{refl}
-use Rattle.sheet.specs.Answers.{noFanins}
+use Rattle.sheet.specs.Trusted.Answers.{noFanins}
 use Rattle.sheet_reader.proofs.no_fanins.Statement.{statement}
 use Rattle.sheet_reader.proofs.no_fanins.Tie as tie
 

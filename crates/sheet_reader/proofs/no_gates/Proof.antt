@@ -1,8 +1,8 @@
 -- `sheet::no_gates` meets its contract. Assumes nothing.
 use mathlib.Core.Path.{ap}
 use lib.ListN.{replicate}
-use Rattle.sheet.specs.Limits.{mostGates}
-use Rattle.sheet.specs.Answers.{noGates}
+use Rattle.sheet.specs.Trusted.Limits.{mostGates}
+use Rattle.sheet.specs.Trusted.Answers.{noGates}
 use borrow.Author.Needs.{needs}
 use Rattle.sheet_reader.proofs.no_gates.Statement.{statement}
 use Rattle.sheet_reader.proofs.no_gates.Tie as tie

@@ -1,9 +1,9 @@
 -- `sheet::read` meets its contract. Assumes nothing.
 use mathlib.Core.Path.{sym, ap, _∙_}
 use lib.ListN.{drop}
-use Rattle.sheet.specs.Step.{_>>=_}
-use Rattle.sheet.specs.Read.{reading}
-use Rattle.sheet.specs.Answers.{drawnSheet}
+use Rattle.sheet.specs.Trusted.Step.{_>>=_}
+use Rattle.sheet.specs.Trusted.Read.{reading}
+use Rattle.sheet.specs.Trusted.Answers.{drawnSheet}
 use Rattle.sheet_reader.proofs.SheetLaws.{alone, front-all, reading-alone}
 use borrow.Author.Needs.{needs}
 use Rattle.sheet_reader.proofs.read.Statement.{statement}

@@ -3,8 +3,8 @@ use Prim.Native.Nat.{ℕ, _+_}
 use native.Mathlib.Omega.{arith}
 use mathlib.Core.Path.{_≡_, sym, ap, ap₂, _∙_}
 use Rattle.sheet.specs.declared.Refusal.the-variants.{Layout, GateUnread}
-use Rattle.sheet.specs.Step.{good}
-use Rattle.sheet.specs.Read.{Head}
+use Rattle.sheet.specs.Trusted.Step.{good}
+use Rattle.sheet.specs.Trusted.Read.{Head}
 use Rattle.sheet_reader.specs.Inside.{unreadStep}
 use Rattle.sheet_reader.proofs.SheetLaws.{next-refused, end-refused, went, end-more, end-unread, end-good}
 use borrow.Author.Needs.{needs}

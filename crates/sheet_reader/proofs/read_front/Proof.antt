@@ -5,8 +5,8 @@ use mathlib.Core.Path.{_≡_, sym, ap, _∙_, subst}
 use mathlib.Core.Option.{some}
 use lib.ListN.{length, take, drop}
 use Rattle.sheet.specs.declared.Refusal.the-variants.{Layout}
-use Rattle.sheet.specs.Line.{line}
-use Rattle.sheet.specs.Read.{headOf, readHead}
+use Rattle.sheet.specs.Trusted.Line.{line}
+use Rattle.sheet.specs.Trusted.Read.{headOf, readHead}
 use Rattle.sheet.specs.Promise.{NextRead}
 use Rattle.sheet_line.specs.Inside.{cutAt, headStep}
 use Rattle.sheet_reader.proofs.SheetLaws.{next-refused, front-none, front-bad, front-good}

@@ -4,8 +4,8 @@ use mathlib.Core.Path.{_≡_, refl, sym, _∙_}
 use borrow.Author.Needs.{needs}
 use borrow.Author.Tests.{not-true, not-false}
 use lib.ListN.{length, take, drop}
-use Rattle.lists.specs.Tests.{all}
-use Rattle.table.specs.RecordTest.{isCode}
+use Rattle.lists.specs.Trusted.Tests.{all}
+use Rattle.table.specs.Trusted.RecordTest.{isCode}
 use Rattle.table.specs.LoopLaws.{all-take-stops, all-take-goes, all-take-ends}
 use Rattle.table_inputs.proofs.all_codes.Statement.{statement}
 use Rattle.table_inputs.proofs.all_codes.Tie as tie

@@ -5,7 +5,7 @@ use borrow.Author.Needs.{needs}
 use borrow.Author.Tests.{eq-eqb, ne-eqb}
 use lib.Dec.{eqb}
 use lib.ListN.{length, take, drop}
-use Rattle.lists.specs.Tests.{elem}
+use Rattle.lists.specs.Trusted.Tests.{elem}
 use Rattle.table.specs.LoopLaws.{any-take-stops, any-take-goes, any-take-ends}
 use Rattle.table_inputs.proofs.reads_net.Statement.{statement}
 use Rattle.table_inputs.proofs.reads_net.Tie as tie

@@ -5,7 +5,7 @@ use borrow.Author.Needs.{needs}
 use borrow.Author.Tests.{lt-ltb, le-ltb}
 use lib.Dec.{ltb}
 use lib.ListN.{length, take, drop}
-use Rattle.lists.specs.Tests.{pairwise}
+use Rattle.lists.specs.Trusted.Tests.{pairwise}
 use Rattle.table.specs.LoopLaws.{rising-stops, rising-goes, rising-ends}
 use Rattle.table_inputs.proofs.rising.Statement.{statement}
 use Rattle.table_inputs.proofs.rising.Tie as tie

@@ -5,7 +5,7 @@ use borrow.Author.Needs.{needs}
 use borrow.Author.Tests.{eq-eqb, ne-eqb}
 use lib.Dec.{eqb}
 use lib.ListN.{length, drop}
-use Rattle.table.specs.RecordTest.{allZero}
+use Rattle.table.specs.Trusted.RecordTest.{allZero}
 use Rattle.table.specs.LoopLaws.{all-stops, all-goes, all-ends}
 use Rattle.table_inputs.proofs.zero_from.Statement.{statement}
 use Rattle.table_inputs.proofs.zero_from.Tie as tie

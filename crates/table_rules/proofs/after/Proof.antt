@@ -5,7 +5,7 @@ use borrow.Author.Needs.{needs}
 use borrow.Author.Tests.{lt-ltb, le-ltb}
 use lib.Dec.{eqb}
 use lib.ListN.{set, take}
-use Rattle.table.specs.Records.{reads}
+use Rattle.table.specs.Trusted.Records.{reads}
 use Rattle.table.specs.SeenTest.{claimAll}
 use Rattle.table.proofs.Shape.{room, take-room}
 use Rattle.table_rules.proofs.after.Statement.{statement}

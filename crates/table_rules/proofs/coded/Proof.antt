@@ -2,8 +2,8 @@ use mathlib.Core.Path.{ap, _∙_}
 use borrow.Author.Needs.{needs}
 use borrow.Author.Tests.{le-leb, lt-leb}
 use lib.ListN.{take}
-use Rattle.lists.specs.Tests.{all}
-use Rattle.table.specs.RecordTest.{isCode}
+use Rattle.lists.specs.Trusted.Tests.{all}
+use Rattle.table.specs.Trusted.RecordTest.{isCode}
 use Rattle.table.proofs.Shape.{room, take-room}
 use Rattle.table_rules.proofs.coded.Statement.{statement}
 use Rattle.table_rules.proofs.coded.Tie as tie

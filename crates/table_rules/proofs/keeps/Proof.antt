@@ -2,7 +2,7 @@ use mathlib.Core.Path.{sym, ap, _∙_}
 use borrow.Author.Needs.{needs}
 use borrow.Author.Tests.{not-true, not-false}
 use lib.ListN.{take}
-use Rattle.lists.specs.Tests.{all}
+use Rattle.lists.specs.Trusted.Tests.{all}
 use Rattle.table.specs.SeenTest.{sourcedIn}
 use Rattle.table.proofs.Shape.{room, take-room}
 use Rattle.table_rules.proofs.keeps.Statement.{statement}

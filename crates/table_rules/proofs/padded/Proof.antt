@@ -1,7 +1,7 @@
 use mathlib.Core.Path.{ap, _∙_}
 use borrow.Author.Needs.{needs}
 use lib.ListN.{drop}
-use Rattle.table.specs.RecordTest.{allZero}
+use Rattle.table.specs.Trusted.RecordTest.{allZero}
 use Rattle.table.proofs.Shape.{room, drop-room}
 use Rattle.table_rules.proofs.padded.Statement.{statement}
 use Rattle.table_rules.proofs.padded.Tie as tie

@@ -3,7 +3,7 @@ use borrow.Author.Needs.{needs}
 use borrow.Author.Tests.{le-leb, lt-leb}
 use lib.Dec.{ltb}
 use lib.ListN.{take}
-use Rattle.lists.specs.Tests.{pairwise}
+use Rattle.lists.specs.Trusted.Tests.{pairwise}
 use Rattle.table.proofs.Shape.{room, take-room}
 use Rattle.table_rules.proofs.sized.Statement.{statement}
 use Rattle.table_rules.proofs.sized.Tie as tie

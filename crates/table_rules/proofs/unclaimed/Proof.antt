@@ -3,7 +3,7 @@ use mathlib.Core.Bool.{not}
 use borrow.Author.Needs.{needs}
 use borrow.Author.Tests.{eq-eqb, ne-eqb}
 use lib.ListN.{take}
-use Rattle.lists.specs.Tests.{elem}
+use Rattle.lists.specs.Trusted.Tests.{elem}
 use Rattle.table.proofs.Shape.{room, take-room}
 use Rattle.table_rules.proofs.unclaimed.Statement.{statement}
 use Rattle.table_rules.proofs.unclaimed.Tie as tie

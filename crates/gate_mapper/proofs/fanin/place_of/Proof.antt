@@ -1,9 +1,9 @@
 use native.Mathlib.Omega.{arith}
 use Prim.Native.Nat.{_≤_}
 use mathlib.Core.Path.{sym, ap, subst}
-use Rattle.lists.specs.Lists.{Every}
-use Rattle.sheet.specs.Limits.{mostGates}
-use Rattle.sheet.specs.Sheet.{gateOf}
+use Rattle.lists.specs.Trusted.Lists.{Every}
+use Rattle.sheet.specs.Trusted.Limits.{mostGates}
+use Rattle.sheet.specs.Trusted.Sheet.{gateOf}
 use Rattle.mapper_laws.specs.CodePair.{placeIn}
 use Rattle.lists.specs.ListLaws.{every-head}
 use borrow.Author.Needs.{needs}

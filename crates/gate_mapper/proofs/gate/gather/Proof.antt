@@ -6,8 +6,8 @@ use lib.ListN.{length, getD, drop, length-take, length-drop}
 use borrow.Author.Needs.{needs}
 use Rattle.sheet.specs.declared.Source.the-variants.{Gate}
 use Rattle.sheet.specs.declared.Edge.{Edge}
-use Rattle.sheet.specs.Limits.{mostGates, faninRoom}
-use Rattle.sheet.specs.Answers.{drawnGate}
+use Rattle.sheet.specs.Trusted.Limits.{mostGates, faninRoom}
+use Rattle.sheet.specs.Trusted.Answers.{drawnGate}
 use Rattle.mapper_laws.specs.CodeMap.{withFanin, Gathering}
 use Rattle.mapper_laws.specs.CodeMapLaws.{noEdge, gathering-start, gather-net, gather-gate, gate-reached}
 use Rattle.gate_mapper.proofs.gate.gather.Statement.{statement}

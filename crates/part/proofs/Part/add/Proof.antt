@@ -1,14 +1,14 @@
 use mathlib.Core.Path.{_≡_, sym, _∙_}
 use borrow.Author.Needs.{needs}
 use borrow.Author.Tests.{not-true, not-false}
-use Rattle.sheet.specs.Sheet.{sheet as read}
-use Rattle.sheet.specs.Read.{readSheet}
-use Rattle.sheet.specs.Answers.{numberOf, drawnSheet}
+use Rattle.sheet.specs.Trusted.Sheet.{sheet as read}
+use Rattle.sheet.specs.Trusted.Read.{readSheet}
+use Rattle.sheet.specs.Trusted.Answers.{numberOf, drawnSheet}
 use Rattle.sheet.specs.ReadLaws.{read-formed}
 use Rattle.table.specs.ResultLaws.{says-true}
-use Rattle.part.specs.Sound.{Sound}
+use Rattle.part.specs.Trusted.Sound.{Sound}
 use Rattle.part.specs.SoundLaws.{sound-reflects}
-use Rattle.part.specs.AddingLaws.{add-same, add-unsound, add-misread, add-offered, reading-is}
+use Rattle.part.specs.StoringLaws.{add-same, add-unsound, add-misread, add-offered, reading-is}
 use Rattle.part.specs.declared.Adding.the-variants.{Unsound, Misread}
 use Rattle.part.proofs.Part.add.Statement.{statement}
 use Rattle.part.proofs.Part.add.Tie as tie

@@ -8,13 +8,13 @@ use borrow.Author.Needs.{needs}
 use lib.ListN.{length, getD, set}
 use lib.Seq.{paste, paste-zero, paste-suc}
 use Rattle.table.specs.declared.Table.{Table}
-use Rattle.table.specs.Limits.{tableRoom}
+use Rattle.table.specs.Trusted.Limits.{tableRoom}
 use Rattle.mapper_laws.specs.declared.Mapping.{Mapping}
-use Rattle.part.specs.Parts.{tablesOf, Shaped}
-use Rattle.part.specs.Answers.{accepted}
-use Rattle.part.specs.Adds.{isDriven, isRead, Offer}
-use Rattle.part.specs.Adding.{sheetOf}
-use Rattle.part.specs.AddingLaws.{used-padded, Looked, looked-none, looked-more, looked-all, offer-driven, offer-read, offer-full, offer-stored, offer-same}
+use Rattle.part.specs.Trusted.Parts.{tablesOf, Shaped}
+use Rattle.part.specs.Trusted.Answers.{accepted}
+use Rattle.part.specs.Trusted.Add.{isDriven, isRead, Offer}
+use Rattle.part.specs.Storing.{sheetOf}
+use Rattle.part.specs.StoringLaws.{used-padded, Looked, looked-none, looked-more, looked-all, offer-driven, offer-read, offer-full, offer-stored, offer-same}
 use Rattle.part.specs.declared.Part.{Part}
 use Rattle.part.specs.declared.Adding.the-variants.{OutputDriven, OutputRead, Full}
 use Rattle.part.proofs.Shape.{shaped, past}

@@ -3,7 +3,7 @@ use mathlib.Core.Path.{sym, ap, _∙_}
 use borrow.Author.Needs.{needs}
 use Rattle.lists.specs.TestLaws.{reflects-within}
 use Rattle.table.specs.ResultLaws.{says-true}
-use Rattle.part.specs.Answers.{accepted, refused}
+use Rattle.part.specs.Trusted.Answers.{accepted, refused}
 use Rattle.part.proofs.Part.open.Statement.{statement}
 use Rattle.part.proofs.Part.open.Tie as tie
 

@@ -5,9 +5,9 @@ use borrow.Author.Needs.{needs}
 use borrow.Author.Tests.{not-true, not-false, le-leb, lt-leb}
 use Rattle.lists.specs.TestLaws.{reflects-within}
 use Rattle.table.specs.ResultLaws.{says-true}
-use Rattle.table.specs.RecordTest.{tested, isNone}
-use Rattle.part.specs.Parts.{inUse}
-use Rattle.part.specs.SoundTest.{sound}
+use Rattle.table.specs.Trusted.RecordTest.{tested, isNone}
+use Rattle.part.specs.Trusted.Parts.{inUse}
+use Rattle.part.specs.Trusted.SoundTest.{sound}
 use Rattle.part.proofs.Part.sound.Statement.{statement}
 use Rattle.part.proofs.Part.sound.Tie as tie
 

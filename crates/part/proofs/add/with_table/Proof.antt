@@ -4,9 +4,9 @@ use borrow.Author.Needs.{needs}
 use lib.Dec.{eqb}
 use lib.ListN.{length, take}
 use lib.Seq.{take-length}
-use Rattle.lists.specs.Tests.{elem}
-use Rattle.table.specs.Records.{reads}
-use Rattle.part.specs.AddingLaws.{elem-padded}
+use Rattle.lists.specs.Trusted.Tests.{elem}
+use Rattle.table.specs.Trusted.Records.{reads}
+use Rattle.part.specs.StoringLaws.{elem-padded}
 use Rattle.part.proofs.add.with_table.Statement.{statement}
 use Rattle.part.proofs.add.with_table.Tie as tie
 

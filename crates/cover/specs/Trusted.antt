@@ -1,0 +1,5 @@
+pub mod Bits
+pub mod Tables
+pub mod Cover
+pub mod Placed
+pub mod CoverTables

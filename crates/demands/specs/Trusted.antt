@@ -1,0 +1,3 @@
+pub mod Nets
+pub mod Calls
+pub mod Demands

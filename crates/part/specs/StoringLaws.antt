@@ -1,0 +1,173 @@
+-- The tests of an output net over the records in use; and the mapping's records as a sheet's tables.
+use Prim.Native.Nat.{ℕ, zero, suc, _+_, _-_, _≤_, _<_}
+use native.Mathlib.Omega.{arith}
+use mathlib.Core.Path.{_≡_, refl, sym, ap, ap₂, _∙_, subst}
+use mathlib.Core.Bool.{Bool, true, false, _||_, or-assoc, or-false}
+use mathlib.Core.List.{List, [], _∷_, _++_, map}
+use borrow.Author.Tests.{le-leb, lt-leb, ne-eqb}
+use lib.Dec.{eqb}
+use lib.ListN.{length, getD, take, drop, length-map}
+use lib.Seq.{length-take-le, getD-take}
+use Rattle.lists.specs.ListLaws.{every-head, every-tail, every-at}
+use Rattle.lists.specs.Trusted.Tests.{any, elem}
+use Rattle.lists.specs.TestLaws.{reflects-true}
+use Rattle.cover.specs.Trusted.Tables.{Table as LookupTable}
+use Rattle.cover.specs.Trusted.CoverTables.{Sheet, AddedLeast}
+use Rattle.sheet.specs.Trusted.Sheet.{DrawnSheet, sheet as read, refused as unread}
+use Rattle.sheet.specs.declared.Sheet.{Sheet as CodeSheet}
+use Rattle.sheet.specs.declared.Answer.{Answer as CodeAnswer}
+use Rattle.sheet.specs.declared.Reading.{Reading as CodeReading}
+use Rattle.sheet.specs.Trusted.Read.{readSheet}
+use Rattle.sheet.specs.Trusted.Answers.{drawnSheet, answered}
+use Rattle.sheet.specs.Promise.{SheetRead}
+use Rattle.sheet.specs.Trusted.Trees.{drawn}
+use Rattle.table.specs.declared.Table.{Table}
+use Rattle.table.specs.Trusted.Limits.{tableBase}
+use Rattle.table.specs.Trusted.Records.{reads, tableOf, recordOf}
+use Rattle.table.specs.Trusted.Rules.{AllZero, Padded}
+use Rattle.table.specs.LoopLaws.{take-next, take-none}
+use Rattle.mapper_laws.specs.declared.Mapping.{Mapping}
+use Rattle.mapper_laws.specs.CodeRun.{noTable}
+use Rattle.mapper_laws.specs.CodeMap.{tablesIn, SheetMapped}
+use Rattle.part.specs.Trusted.Parts.{inUse, tablesOf, Shaped}
+use Rattle.part.specs.Trusted.Sound.{Sound}
+use Rattle.part.specs.Trusted.SoundTest.{sound}
+use Rattle.part.specs.SoundLaws.{sound-reflects, used-count}
+use Rattle.part.specs.Trusted.Reading.{readOf}
+use Rattle.part.specs.Trusted.Answers.{Answer, accepted, refused}
+use Rattle.part.specs.Trusted.Add.{extended, isDriven, isRead, Offer, Add}
+use Rattle.part.specs.Trusted.AddAnswers.{addingAnswer}
+use Rattle.part.specs.Storing.{sheetOf, withTable, stored}
+use Rattle.part.specs.declared.Part.{Part}
+use Rattle.part.specs.declared.Adding.{Adding}
+use Rattle.part.specs.declared.Added.{Added}
+use Rattle.part.specs.declared.add.Uses.{Uses}
+
+-- ---- the output net among the records in use
+
+any-map : {A B : Type 0} (f : B → Bool) (g : A → B) (xs : List A) → any f (map g xs) ≡ any (λ x. f (g x)) xs
+any-map f g [] = refl
+any-map f g (x ∷ xs) = ap (λ b. f (g x) || b) (any-map f g xs)
+
+-- of a record whose unused inputs are zero, those in use are looked for among all
+elem-zeros : (n : ℕ) → 0 < n → (xs : List ℕ) → AllZero xs → elem n xs ≡ false
+elem-zeros n l [] h = refl
+elem-zeros n l (x ∷ xs) h = ap₂ (λ a b. a || b) (ne-eqb n x (λ e. omega (arith, every-head h))) (elem-zeros n l xs (every-tail h))
+
+pub elem-padded : (n : ℕ) → 0 < n → (k : ℕ) (xs : List ℕ) → AllZero (drop k xs) → elem n xs ≡ elem n (take k xs)
+elem-padded n l zero xs h = elem-zeros n l xs h
+elem-padded n l (suc k) [] h = refl
+elem-padded n l (suc k) (x ∷ xs) h = ap (λ b. eqb n x || b) (elem-padded n l k xs h)
+
+pub used-padded : (p : Part) → Sound p → p .used ≤ length (p .tables) → (i : ℕ) (z : Table) → i < p .used → Padded (getD (p .tables) i z)
+used-padded p s room i z l =
+    subst Padded (getD-take (p .used) (p .tables) i z l)
+    (every-at {P = Padded} (inUse p) i z (s .rules .padded) (omega (arith, length-take-le (p .used) (p .tables) room)))
+
+-- the records before i were looked at: the net is used as they say, or by a record from i on
+pub record Looked (p : Part) (n i : ℕ) (u : Uses) : Type 0 where
+  pub driven : isDriven n (tablesOf p) ≡ (u .driven || any (λ r. eqb (r .net) n) (drop i (inUse p)))
+  pub read : isRead n (tablesOf p) ≡ (u .read || any (λ r. elem n (reads r)) (drop i (inUse p)))
+
+pub looked-none : (p : Part) (n : ℕ) → Looked p n 0 (record { driven = false; read = false })
+looked-none p n = record {
+  driven = any-map (λ t. eqb (t .drives) n) tableOf (inUse p);
+  read = any-map (λ t. elem n (t .inputs)) tableOf (inUse p);
+}
+
+module _ {p : Part} {n i : ℕ} {u : Uses} (h : Looked p n i u) (room : p .used ≤ length (p .tables)) where
+  pub looked-more : (z : Table) → i < p .used → Looked p n (i + 1) (withTable u (getD (p .tables) i z) n)
+  looked-more z l = record { driven = h .driven ∙ one (u .driven) (λ r. eqb (r .net) n); read = h .read ∙ one (u .read) (λ r. elem n (reads r)) }
+    where
+      one : (b : Bool) (f : Table → Bool) → (b || any f (drop i (inUse p))) ≡ (b || f (getD (p .tables) i z) || any f (drop (i + 1) (inUse p)))
+      one b f = ap (λ rs. b || any f rs) (take-next (p .tables) (p .used) i z room l) ∙ sym (or-assoc b (f (getD (p .tables) i z)) (any f (drop (i + 1) (inUse p))))
+
+  pub looked-all : p .used ≤ i → (isDriven n (tablesOf p) ≡ u .driven) × (isRead n (tablesOf p) ≡ u .read)
+  looked-all l = (h .driven ∙ none (u .driven) (λ r. eqb (r .net) n), h .read ∙ none (u .read) (λ r. elem n (reads r)))
+    where
+      none : (b : Bool) (f : Table → Bool) → (b || any f (drop i (inUse p))) ≡ b
+      none b f = ap (λ rs. b || any f rs) (take-none (p .tables) (p .used) i room l) ∙ or-false b
+
+-- ---- 21 and 22
+
+module _ (p : Part) (s : Sheet) where
+  pub offer-driven : isDriven (s .out) (tablesOf p) ≡ true → Offer p s p (refused 21 0)
+  offer-driven d = rw d (refl, refl)
+
+  pub offer-read : isDriven (s .out) (tablesOf p) ≡ false → isRead (s .out) (tablesOf p) ≡ true → Offer p s p (refused 22 0)
+  offer-read d r = rw d (rw r (refl, refl))
+
+-- ---- 23, and the mapping's records stored
+
+-- records that are those of their tables
+records-back : (rs : List Table) → ((i : ℕ) → i < length rs → getD rs i noTable ≡ recordOf (tableOf (getD rs i noTable))) → map recordOf (map tableOf rs) ≡ rs
+records-back [] h = refl
+records-back (r ∷ rs) h = ap₂ _∷_ (sym (h 0 (omega arith))) (records-back rs (λ i l. h (suc i) (omega arith)))
+
+module _ (p : Part) (shape : Shaped p) (h : Sound p) (s : CodeSheet) (m : Mapping) (g : SheetMapped (p .k) (p .used) s m) where
+  new : List LookupTable
+  new = tablesIn (m .count) (m .tables)
+
+  taken-count : length (take (m .count) (m .tables)) ≡ m .count
+  taken-count = length-take-le (m .count) (m .tables) (omega (arith, g .room, g .few))
+
+  new-count : length new ≡ m .count
+  unfolding new
+  new-count = length-map (take (m .count) (m .tables)) tableOf ∙ taken-count
+
+  new-least : AddedLeast tableBase (p .k) (tablesOf p) new (sheetOf s)
+  unfolding new
+  new-least = g .least (tablesOf p) (length-map (inUse p) tableOf ∙ used-count p shape h)
+
+  new-records : map recordOf new ≡ take (m .count) (m .tables)
+  unfolding new
+  new-records = records-back (take (m .count) (m .tables)) (λ i l.
+      let n : i < m .count = omega (arith, l, taken-count) in
+      rw (getD-take (m .count) (m .tables) i noTable n) (g .kept i n .padded))
+
+  stored-extended : stored p m ≡ extended p new
+  stored-extended =
+      ap₂ (λ n rs. record { k = p .k; capacity = p .capacity; used = p .used + n; tables = inUse p ++ rs ++ drop (p .used + n) (p .tables) }) (sym new-count) (sym new-records)
+
+  module _ (d : isDriven (s .out) (tablesOf p) ≡ false) (r : isRead (s .out) (tablesOf p) ≡ false) where
+    pub offer-full : p .capacity - p .used < m .count → Offer p (sheetOf s) p (refused 23 0)
+    offer-full l =
+        rw d (rw r (length new, new-least .fewest, rw (lt-leb (length new) (p .capacity - p .used) (omega (arith, l, new-count))) (refl, refl)))
+
+    pub offer-stored : m .count ≤ p .capacity - p .used → Offer p (sheetOf s) (stored p m) accepted
+    offer-stored l =
+        rw d (rw r (
+          length new,
+          new-least .fewest,
+          rw (le-leb (length new) (p .capacity - p .used) (omega (arith, l, new-count)))
+              (record { new = new; least = new-least; part = stored-extended; answer = refl }),
+        ))
+
+-- ---- a result as the part and the answer that it holds
+
+module _ (r : Added) (q : Part) (a : Adding) (e : r ≡ record { part = q; answer = a }) where
+  pub offer-same : (p : Part) (s : Sheet) → Offer p s q (addingAnswer a) → Offer p s (r .part) (addingAnswer (r .answer))
+  offer-same p s = subst (λ x. Offer p s (x .part) (addingAnswer (x .answer))) (sym e)
+
+  pub add-same : (p : Part) (text : List ℕ) → Add p text q (addingAnswer a) → Add p text (r .part) (addingAnswer (r .answer))
+  add-same p text = subst (λ x. Add p text (x .part) (addingAnswer (x .answer))) (sym e)
+
+-- ---- 20, the sheet's refusals, and a sheet that was read
+
+module _ (p : Part) (text : List ℕ) where
+  pub add-unsound : sound p ≡ false → Add p text p (refused 20 0)
+  unfolding Add
+  add-unsound e = rw e (refl, refl)
+
+  module _ (h : Sound p) where
+    pub add-misread : (number line : ℕ) → readSheet text ≡ unread number line → Add p text p (refused number line)
+    unfolding Add readOf
+    add-misread number line e = rw (reflects-true (sound-reflects p) h) (rw e (refl, refl))
+
+    pub add-offered : (s : DrawnSheet) → readSheet text ≡ read s → (q : Part) (a : Answer) → Offer p (drawn s) q a → Add p text q a
+    unfolding Add readOf
+    add-offered s e q a o = rw (reflects-true (sound-reflects p) h) (rw e o)
+
+-- what the code read
+pub reading-is : (text : List ℕ) (r : CodeReading) → SheetRead text r → {a : CodeAnswer} → r .answer ≡ a → readSheet text ≡ answered a (drawnSheet (r .sheet))
+reading-is text r h i = sym (h .same) ∙ ap (λ a. answered a (drawnSheet (r .sheet))) i

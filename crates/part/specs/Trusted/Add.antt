@@ -1,0 +1,79 @@
+-- Opening a part, and what an add promises: 01, "Turned down because of the part", in its order.
+-- Definitions only.
+use Prim.Native.Nat.{ℕ, _+_, _-_}
+use mathlib.Core.Path.{_≡_}
+use mathlib.Core.Bool.{Bool, cond}
+use mathlib.Core.List.{List, _++_, map}
+use lib.Dec.{leb, eqb}
+use lib.ListN.{length, drop}
+use Rattle.lists.specs.Trusted.Tests.{any, elem, within, either}
+use Rattle.cover.specs.Trusted.Cover.{Least}
+use Rattle.cover.specs.Trusted.Tables.{Table as LookupTable}
+use Rattle.cover.specs.Trusted.CoverTables.{Sheet, AddedLeast}
+use Rattle.table.specs.Trusted.Limits.{tableBase, inputRoom, tableRoom}
+use Rattle.table.specs.Trusted.Records.{recordOf}
+use Rattle.part.specs.Trusted.Parts.{inUse, tablesOf}
+use Rattle.part.specs.Trusted.SoundTest.{sound}
+use Rattle.part.specs.Trusted.Reading.{Reading, sheet, refused as unread, readOf}
+use Rattle.part.specs.Trusted.Answers.{Answer, accepted, refused, Result, empty}
+use Rattle.part.specs.declared.Part.{Part}
+
+-- ---- opening
+
+-- the answer of an opening, and its part: all zeros where it is turned down
+abbrev pub opened : ℕ → ℕ → Result
+opened k capacity =
+    cond (within 2 inputRoom k)
+    (cond (within 1 tableRoom capacity)
+    (record { part = empty k capacity; answer = accepted })
+    (record { part = empty 0 0; answer = refused 3 0 }))
+    (record { part = empty 0 0; answer = refused 2 0 })
+
+-- ---- adding
+
+-- the part with the tables added after the old ones, and everything else as it was
+abbrev pub extended : Part → List LookupTable → Part
+extended p new = record {
+  k = p .k;
+  capacity = p .capacity;
+  used = p .used + length new;
+  tables = inUse p ++ map recordOf new ++ drop (p .used + length new) (p .tables);
+}
+
+-- some table drives the net; some table reads it
+abbrev pub isDriven : ℕ → List LookupTable → Bool
+isDriven n = any (λ t. eqb (t .drives) n)
+
+abbrev pub isRead : ℕ → List LookupTable → Bool
+isRead n = any (λ t. elem n (t .inputs))
+
+-- turned down: the part is handed back as it was, with the number and the place
+abbrev pub Refused : Part → ℕ → ℕ → Part → Answer → Type 0
+Refused p number place q a = (q ≡ p) × (a ≡ refused number place)
+
+-- taken: some least cover of the sheet, in some order of its tables, inputs before readers and the root's last, after the old ones
+pub record Accepted (p : Part) (s : Sheet) (q : Part) (a : Answer) : Type 0 where
+  pub new : List LookupTable
+  pub least : AddedLeast tableBase (p .k) (tablesOf p) new s
+  pub part : q ≡ extended p new
+  pub answer : a ≡ accepted
+
+-- 23, of a sheet whose least number is n
+abbrev pub Fill : Part → Sheet → ℕ → Part → Answer → Type 0
+Fill p s n q a = either (leb n (p .capacity - p .used)) (Accepted p s q a) (Refused p 23 0 q a)
+
+-- 21 and 22
+abbrev pub Offer : Part → Sheet → Part → Answer → Type 0
+Offer p s q a =
+    either (isDriven (s .out) (tablesOf p)) (Refused p 21 0 q a)
+    (either (isRead (s .out) (tablesOf p)) (Refused p 22 0 q a)
+    ((n : ℕ) × Least (p .k) (s .tree) n × Fill p s n q a))
+
+-- the sheet's own refusals
+abbrev pub Take : Part → Reading → Part → Answer → Type 0
+Take p (sheet s) q a = Offer p s q a
+Take p (unread number place) q a = Refused p number place q a
+
+-- THE PROMISE OF AN ADD to the part p, of the sheet that is read from the text: q is handed back, with the answer a
+unfoldable pub Add : Part → List ℕ → Part → Answer → Type 0
+Add p text q a = either (sound p) (Take p (readOf text) q a) (Refused p 20 0 q a)

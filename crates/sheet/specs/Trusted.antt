@@ -1,0 +1,10 @@
+pub mod Limits
+pub mod Line
+pub mod Sheet
+pub mod Step
+pub mod Read
+pub mod Trees
+pub mod Values
+pub mod Cut
+pub mod Formed
+pub mod Answers

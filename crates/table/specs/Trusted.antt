@@ -1,0 +1,4 @@
+pub mod Limits
+pub mod Records
+pub mod Rules
+pub mod RecordTest
