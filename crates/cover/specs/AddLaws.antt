@@ -11,13 +11,13 @@ use Rattle.lists.specs.Trusted.Lists.{Every}
 use Rattle.lists.specs.ListLaws.{every-cons, every-head, every-append, every-left, every-right, permuted-to}
 use Rattle.tree.specs.declared.Kind.{Kind}
 use Rattle.tree.specs.Trusted.Tree.{Node, leaf, gate, Edges, none, edge, leaves, leaves*, turned, meet, value, values}
-use Rattle.cover.specs.Trusted.Tables.{Table, Placed, numbered, writes, run, settled}
-use Rattle.cover.specs.Eval.{Agree, driven-in, numbered-is, settled-append, Holds, uses, Clear, holds-on, run-holds}
+use Rattle.cover.specs.Trusted.Tables.{LookupTable, Placed, numbered, writes, run, settled}
+use Rattle.cover.specs.Eval.{Agree, driven-in, numbered-is, settled-append, ValuesHold, uses, Untouched, holds-on, run-holds}
 use Rattle.cover.specs.Trusted.Placed.{number}
 use Rattle.cover.specs.Value.{root-value}
 use Rattle.cover.specs.Inputs.{Tidy}
 use Rattle.cover.specs.CoverTableLaws.{added-tidy}
-use Rattle.cover.specs.Trusted.CoverTables.{Sheet, Added, Fresh}
+use Rattle.cover.specs.Trusted.CoverTables.{Circuit, CoverTables, Fresh}
 use Rattle.cover.specs.History.{Met}
 
 -- a tree looks at nothing but its leaves
@@ -32,7 +32,7 @@ mutual
       ap₂ (λ a b. meet k (turned i a) b) (value-same t d e (every-left (leaves t) (leaves* es) h))
       (values-same es k d e (every-right (leaves t) (leaves* es) h))
 
-module _ (base K : ℕ) (old new : List Table) (s : Sheet) (a : Added base K old new s) where
+module _ (base K : ℕ) (old new : List LookupTable) (s : Circuit) (a : CoverTables base K old new s) where
   -- the new tables do not read the output net, and only the root's drives it
   new-tidy : Every (Tidy (s .out) (number (a .cover)) (λ x. x ≢ s .out)) (numbered (length old) new)
   new-tidy p m =
@@ -46,10 +46,10 @@ module _ (base K : ℕ) (old new : List Table) (s : Sheet) (a : Added base K old
       (λ c i. let d = driven-in (p .1 .drives) c i in ⊎-elim (λ z. absurd (omega arith)) (λ f. inr (d .0 ∙ f .0, f .1)) (new-tidy p m .0))
 
   -- nothing that is used is above the table's own code; and the output net is used from the root on
-  abbrev pub Low : Placed → Type 0
-  Low p = Every (λ c. (c ≤ base + p .0) × (c ≡ s .out → number (a .cover) ≤ p .0)) (uses base p)
+  abbrev pub LowCodes : Placed → Type 0
+  LowCodes p = Every (λ c. (c ≤ base + p .0) × (c ≡ s .out → number (a .cover) ≤ p .0)) (uses base p)
 
-  pub new-low : Every Low (numbered (length old) new)
+  pub new-low : Every LowCodes (numbered (length old) new)
   new-low p m =
       let o = a .legal .out-net in
       every-append (writes base p) (p .1 .inputs)
@@ -57,22 +57,22 @@ module _ (base K : ℕ) (old new : List Table) (s : Sheet) (a : Added base K old
       (λ c i. (let l = a .earlier p m c i in omega arith, λ q. absurd (new-tidy p m .1 c i q)))
 
   -- so a new table is clear of those before it
-  new-clear : (p : Placed) → Low p → Every (λ q. p .0 < q .0 → Clear base p q) (numbered (length old) new)
+  new-clear : (p : Placed) → LowCodes p → Every (λ q. p .0 < q .0 → Untouched base p q) (numbered (length old) new)
   new-clear p u q m l c i j = ⊎-elim (λ e. let h = u c i .0 in omega arith) (λ f. let h = u c i .1 (f .0) in omega arith) (new-writes q m c j)
 
-  pub new-holds : (e : ℕ → Bool) → Every (Holds base (run base (numbered (length old) new) e)) (numbered (length old) new)
+  pub new-holds : (e : ℕ → Bool) → Every (ValuesHold base (run base (numbered (length old) new) e)) (numbered (length old) new)
   new-holds e =
       run-holds base (length old) new e
       (λ p m c i j. ⊎-elim (λ e. let h = a .earlier p m c i in omega arith) (λ f. new-tidy p m .1 c i (f .0)) (new-writes p m c j))
       (λ p m. new-clear p (new-low p m))
 
   -- wherever its tables hold, the sheet is met
-  pub holds-met : (e : ℕ → Bool) → Every (Holds base e) (numbered (length old) new) → Met e s
+  pub holds-met : (e : ℕ → Bool) → Every (ValuesHold base e) (numbered (length old) new) → Met e s
   holds-met e h = root-value base e (s .out) (s .inverted) (a .covers .split) (a .covers .root) (a .legal .out-net .0) (permuted-to (a .taken) h)
 
   -- a table of the part goes on holding, where it uses no later one, and not the output net
   pub old-holds : Fresh s old → Every (λ p. Every (λ c. c ≤ base + p .0) (uses base p)) (numbered 0 old) → (e : ℕ → Bool) →
-      Every (Holds base e) (numbered 0 old) → Every (Holds base (run base (numbered (length old) new) e)) (numbered 0 old)
+      Every (ValuesHold base e) (numbered 0 old) → Every (ValuesHold base (run base (numbered (length old) new) e)) (numbered 0 old)
   old-holds f l e h p m =
       let r = numbered-is 0 old p m in
       let g = f (p .1) (r .2) in

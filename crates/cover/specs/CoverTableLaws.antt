@@ -9,16 +9,16 @@ use lib.ListN.{length}
 use Rattle.lists.specs.Trusted.Lists.{_∈_, Every, Rising}
 use Rattle.lists.specs.ListLaws.{permuted-to, permuted-from}
 use Rattle.tree.specs.Trusted.Tree.{leaves}
-use Rattle.cover.specs.Trusted.Tables.{Table, numbered}
+use Rattle.cover.specs.Trusted.Tables.{LookupTable, numbered}
 use Rattle.cover.specs.Eval.{numbered-is, numbered-one}
 use Rattle.cover.specs.Trusted.Placed.{number}
-use Rattle.cover.specs.Size.{Sized, fits-sized}
+use Rattle.cover.specs.Size.{SizedTable, fits-sized}
 use Rattle.cover.specs.Rising.{records-rising}
 use Rattle.cover.specs.Inputs.{Tidy, root-reads, root-in}
-use Rattle.cover.specs.Trusted.CoverTables.{Sheet, Added}
+use Rattle.cover.specs.Trusted.CoverTables.{Circuit, CoverTables}
 
-module _ (base K : ℕ) (old new : List Table) (s : Sheet) (a : Added base K old new s) where
-  pub added-sized : Every (Sized K) (numbered (length old) new)
+module _ (base K : ℕ) (old new : List LookupTable) (s : Circuit) (a : CoverTables base K old new s) where
+  pub added-sized : Every (SizedTable K) (numbered (length old) new)
   added-sized = permuted-from (a .taken) (fits-sized base K (a .cover) (s .out) (s .inverted) (a .covers .fits) .1)
 
   pub added-rising : Every (λ p. Rising (p .1 .inputs)) (numbered (length old) new)
@@ -27,13 +27,13 @@ module _ (base K : ℕ) (old new : List Table) (s : Sheet) (a : Added base K old
       (records-rising base (s .out) (length old) (s .inverted) new (a .covers .split) (λ x m. a .legal .leaf-nets x m .1) (a .legal .leaf-once) (a .taken))
 
   -- a leaf of the sheet, or a new table
-  abbrev pub Source : ℕ → Type 0
-  Source x = (x ∈ leaves (s .tree)) ⊎ ((t : ℕ) × (x ≡ base + t) × (length old < t))
+  abbrev pub CodeSource : ℕ → Type 0
+  CodeSource x = (x ∈ leaves (s .tree)) ⊎ ((t : ℕ) × (x ≡ base + t) × (length old < t))
 
-  pub added-tidy : Every (Tidy (s .out) (number (a .cover)) Source) (numbered (length old) new)
+  pub added-tidy : Every (Tidy (s .out) (number (a .cover)) CodeSource) (numbered (length old) new)
   added-tidy =
       permuted-from (a .taken)
-      (root-reads base Source (s .out) (s .inverted) (a .covers .split) (a .covers .root) (λ x m. inl m)
+      (root-reads base CodeSource (s .out) (s .inverted) (a .covers .split) (a .covers .root) (λ x m. inl m)
       (permuted-to (a .taken) (λ p m. inr (p .0, refl, numbered-is (length old) new p m .0))))
 
   -- each input is a leaf of the sheet, or an earlier table of the sheet

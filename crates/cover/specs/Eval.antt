@@ -11,7 +11,7 @@ use Rattle.lists.specs.Trusted.Lists.{_∈_, first, later, Every}
 use Rattle.lists.specs.ListLaws.{not-first, every-none, every-cons, every-head, every-tail, every-left, every-right}
 use Rattle.cover.specs.Trusted.Bits.{bit, index, place}
 use Rattle.cover.specs.BitLaws.{bit-truthOf, index-lt, bit-index}
-use Rattle.cover.specs.Trusted.Tables.{Table, output, tabled, Placed, numbered, driven, put, writes, step, run, settled}
+use Rattle.cover.specs.Trusted.Tables.{LookupTable, output, tabled, Placed, numbered, driven, put, writes, step, run, settled}
 
 -- `d` and `e` have the same values at the codes
 abbrev pub Agree : (ℕ → Bool) → (ℕ → Bool) → List ℕ → Type 0
@@ -22,7 +22,7 @@ map-same d e [] h = refl
 map-same d e (x ∷ xs) h = ap₂ _∷_ (every-head h) (map-same d e xs (every-tail h))
 
 -- a table's value is made of its inputs' values
-output-same : (r : Table) (d e : ℕ → Bool) → Agree d e (r .inputs) → output r d ≡ output r e
+output-same : (r : LookupTable) (d e : ℕ → Bool) → Agree d e (r .inputs) → output r d ≡ output r e
 output-same r d e h = ap (λ bs. bit (r .truth) (index bs)) (map-same d e (r .inputs) h)
 
 -- a table made for `f` has the value `f`, where `f` looks at nothing but the inputs
@@ -48,22 +48,22 @@ pub driven-in : (n : ℕ) → Every (λ c. (c ≡ n) × (0 < n)) (driven n)
 driven-in zero = every-none _
 driven-in (suc n) = every-cons (refl, omega arith) (every-none _)
 
-pub numbered-append : (n m : ℕ) (xs ys : List Table) → n + length xs ≡ m → numbered n (xs ++ ys) ≡ numbered n xs ++ numbered m ys
+pub numbered-append : (n m : ℕ) (xs ys : List LookupTable) → n + length xs ≡ m → numbered n (xs ++ ys) ≡ numbered n xs ++ numbered m ys
 numbered-append n m [] ys e = ap (λ i. numbered i ys) (omega arith)
 numbered-append n m (x ∷ xs) ys e = ap (_∷_ (suc n, x)) (numbered-append (suc n) m xs ys (omega arith))
 
-pub numbered-length : (n : ℕ) (rs : List Table) → length (numbered n rs) ≡ length rs
+pub numbered-length : (n : ℕ) (rs : List LookupTable) → length (numbered n rs) ≡ length rs
 numbered-length n [] = refl
 numbered-length n (r ∷ rs) = ap suc (numbered-length (suc n) rs)
 
 -- each is a table of the list, and its number is above n, and not past the list's end
-pub numbered-is : (n : ℕ) (rs : List Table) → Every (λ p. (n < p .0) × (p .0 ≤ n + length rs) × (p .1 ∈ rs)) (numbered n rs)
+pub numbered-is : (n : ℕ) (rs : List LookupTable) → Every (λ p. (n < p .0) × (p .0 ≤ n + length rs) × (p .1 ∈ rs)) (numbered n rs)
 numbered-is n [] = every-none _
 numbered-is n (r ∷ rs) = every-cons (omega arith, omega arith, first refl)
     (λ p m. let h = numbered-is (suc n) rs p m in (omega arith, omega arith, later (h .2)))
 
 -- a number is that of one table
-pub numbered-one : (n : ℕ) (rs : List Table) (p q : Placed) → p ∈ numbered n rs → q ∈ numbered n rs → p .0 ≡ q .0 → p ≡ q
+pub numbered-one : (n : ℕ) (rs : List LookupTable) (p q : Placed) → p ∈ numbered n rs → q ∈ numbered n rs → p .0 ≡ q .0 → p ≡ q
 numbered-one n (r ∷ rs) p q (first e) (first f) h = e ∙ sym f
 numbered-one n (r ∷ rs) p q (first e) (later j) h = absurd (omega (arith, ap (λ x. x .0) e, numbered-is (suc n) rs q j .0))
 numbered-one n (r ∷ rs) p q (later i) (first f) h = absurd (omega (arith, ap (λ x. x .0) f, numbered-is (suc n) rs p i .0))
@@ -75,7 +75,7 @@ module _ (base : ℕ) where
   run-append [] qs e = refl
   run-append (p ∷ ps) qs e = run-append ps qs (step base p e)
 
-  pub settled-append : (xs ys : List Table) (σ : ℕ → Bool) →
+  pub settled-append : (xs ys : List LookupTable) (σ : ℕ → Bool) →
       settled base (xs ++ ys) σ ≡ run base (numbered (length xs) ys) (settled base xs σ)
   settled-append xs ys σ = ap (λ ps. run base ps σ) (numbered-append 0 (length xs) xs ys (omega arith)) ∙ run-append (numbered 0 xs) (numbered (length xs) ys) σ
 
@@ -85,19 +85,19 @@ module _ (base : ℕ) where
   run-keeps (p ∷ ps) e c h = run-keeps ps (step base p e) c (every-tail h) ∙ put-out (writes base p) (output (p .1) e) e c (every-head h)
 
   -- in the values `e`, the codes that the table writes have the table's value
-  abbrev pub Holds : (ℕ → Bool) → Placed → Type 0
-  Holds e p = Every (λ c. e c ≡ output (p .1) e) (writes base p)
+  abbrev pub ValuesHold : (ℕ → Bool) → Placed → Type 0
+  ValuesHold e p = Every (λ c. e c ≡ output (p .1) e) (writes base p)
 
   -- the codes that it writes or reads
   abbrev pub uses : Placed → List ℕ
   uses p = writes base p ++ p .1 .inputs
 
   -- `q` writes no code that `p` writes or reads
-  abbrev pub Clear : Placed → Placed → Type 0
-  Clear p q = Every (λ c. ¬ (c ∈ writes base q)) (uses p)
+  abbrev pub Untouched : Placed → Placed → Type 0
+  Untouched p q = Every (λ c. ¬ (c ∈ writes base q)) (uses p)
 
   -- what holds goes on holding
-  pub holds-on : (p : Placed) (ps : List Placed) (e : ℕ → Bool) → Every (Clear p) ps → Holds e p → Holds (run base ps e) p
+  pub holds-on : (p : Placed) (ps : List Placed) (e : ℕ → Bool) → Every (Untouched p) ps → ValuesHold e p → ValuesHold (run base ps e) p
   holds-on p ps e clear h c m =
       every-left (writes base p) (p .1 .inputs) keep c m ∙ h c m
       ∙ sym (output-same (p .1) (run base ps e) e (every-right (writes base p) (p .1 .inputs) keep))
@@ -106,10 +106,10 @@ module _ (base : ℕ) where
       keep x i = run-keeps ps e x (λ q j. clear q j x i)
 
   -- where no table writes what it or an earlier one reads, or what an earlier one writes, in the end every table holds
-  pub run-holds : (n : ℕ) (rs : List Table) (e : ℕ → Bool) →
+  pub run-holds : (n : ℕ) (rs : List LookupTable) (e : ℕ → Bool) →
       Every (λ p. Every (λ c. ¬ (c ∈ writes base p)) (p .1 .inputs)) (numbered n rs) →
-      Every (λ p. Every (λ q. p .0 < q .0 → Clear p q) (numbered n rs)) (numbered n rs) →
-      Every (Holds (run base (numbered n rs) e)) (numbered n rs)
+      Every (λ p. Every (λ q. p .0 < q .0 → Untouched p q) (numbered n rs)) (numbered n rs) →
+      Every (ValuesHold (run base (numbered n rs) e)) (numbered n rs)
   run-holds n [] e own clear = every-none _
   run-holds n (r ∷ rs) e own clear =
       every-cons (holds-on p (numbered (suc n) rs) (step base p e) (λ q m. every-tail (every-head clear) q m (numbered-is (suc n) rs q m .0)) now)
@@ -118,7 +118,7 @@ module _ (base : ℕ) where
       p : Placed
       p = (suc n, r)
 
-      now : Holds (step base p e) p
+      now : ValuesHold (step base p e) p
       now c m =
           put-in (writes base p) (output r e) e c m
           ∙ sym (output-same r (step base p e) e (λ x i. put-out (writes base p) (output r e) e x (every-head own x i)))

@@ -12,7 +12,7 @@ use Rattle.tree.specs.declared.Kind.{Kind}
 use Rattle.tree.specs.Trusted.Tree.{Node, leaves}
 use Rattle.cover.specs.Trusted.Cover.{Cover, net, top, Fanins, end, old, new, SplitOf, Rooted, rooted}
 use Rattle.cover.specs.Nets.{nets, nets*, split-nets}
-use Rattle.cover.specs.Trusted.Tables.{Table, Placed}
+use Rattle.cover.specs.Trusted.Tables.{LookupTable, Placed}
 use Rattle.cover.specs.Trusted.Placed.{number, placed, code, codes, codes*, tableOf, records, records*}
 
 -- the table drives nothing or, if it is the table m, the net n; and its inputs have the property P
@@ -76,5 +76,5 @@ module _ (base : ℕ) where
         (every-cons (inr (refl, refl), permuted-to (sorted-permuted (codes* base fs)) (r .0)) (every-none _))
 
   -- the root's table is there, and drives the net
-  pub root-in : {c : Cover} (n : ℕ) (v : Bool) → Rooted c → (r : Table) × ((number c, r) ∈ records base c n v) × (r .drives ≡ n)
+  pub root-in : {c : Cover} (n : ℕ) (v : Bool) → Rooted c → (r : LookupTable) × ((number c, r) ∈ records base c n v) × (r .drives ≡ n)
   root-in n v (rooted {n = m} {k = k} {fs = fs}) = (tableOf base n v k fs, Memᴰ·append-right (records* base fs k) (first refl), refl)

@@ -14,7 +14,7 @@ use Rattle.lists.specs.NumberLaws.{sum-append, sum-permuted, one-if, is, times,
 use Rattle.tree.specs.declared.Kind.{Kind}
 use Rattle.tree.specs.Trusted.Tree.{Node, leaves}
 use Rattle.cover.specs.Trusted.Cover.{Cover, net, top, Fanins, end, old, new, SplitOf}
-use Rattle.cover.specs.Trusted.Tables.{Table, Placed, numbered}
+use Rattle.cover.specs.Trusted.Tables.{LookupTable, Placed, numbered}
 use Rattle.cover.specs.Trusted.Placed.{code, codes, codes*, tableOf, placed, records, records*}
 use Rattle.cover.specs.Nets.{nets, nets*, split-nets}
 
@@ -23,7 +23,7 @@ module _ (base x : ℕ) where
   abbrev tally : List Placed → ℕ
   tally = sum (λ p. is x (base + p .0))
 
-  tally-numbered : (n : ℕ) (rs : List Table) → (tally (numbered n rs) ≤ 1) × (x ≤ base + n → tally (numbered n rs) ≡ 0)
+  tally-numbered : (n : ℕ) (rs : List LookupTable) → (tally (numbered n rs) ≤ 1) × (x ≤ base + n → tally (numbered n rs) ≡ 0)
   tally-numbered n [] = (omega arith, λ l. refl)
   tally-numbered n (r ∷ rs) =
       let h = tally-numbered (suc n) rs in
@@ -73,7 +73,7 @@ module _ (base x : ℕ) where
         (few-gate m 0 false k s (few* s k)) (few* fs k)
 
 -- where its tables are numbered, its leaves lie below the base, and no net stands at two leaves
-pub records-rising : (base n b : ℕ) (v : Bool) (rs : List Table) {t : Node} {c : Cover} → SplitOf t c →
+pub records-rising : (base n b : ℕ) (v : Bool) (rs : List LookupTable) {t : Node} {c : Cover} → SplitOf t c →
     Every (λ x. x < base) (leaves t) →
     Distinct (leaves t) → Permuted (numbered b rs) (records base c n v) → Every (λ p. Rising (p .1 .inputs)) (records base c n v)
 records-rising base n b v rs {t} {c} s l d q p m = sorted-rising (p .1 .inputs) (few-of 0 .1) (λ x. omega (arith, few-of x .0, once x))

@@ -14,11 +14,11 @@ use Rattle.tree.specs.Trusted.Tree.{turned}
 use Rattle.cover.specs.Trusted.Bits.{bit, place}
 use Rattle.cover.specs.BitLaws.{truthOf-lt}
 use Rattle.cover.specs.Trusted.Cover.{Cover, net, top, Fanins, end, old, new, pick, arity, tables, tables*, width, widths, Fits, Fits*}
-use Rattle.cover.specs.Trusted.Tables.{Table, Placed}
+use Rattle.cover.specs.Trusted.Tables.{LookupTable, Placed}
 use Rattle.cover.specs.Trusted.Placed.{code, codes, codes*, held*, tableOf, placed, records, records*}
 
 -- 2 to K inputs, and no bit in the truth table but at an index of theirs
-pub record Sized (K : ℕ) (p : Placed) : Type 0 where
+pub record SizedTable (K : ℕ) (p : Placed) : Type 0 where
   pub least : 2 ≤ length (p .1 .inputs)
   pub most : length (p .1 .inputs) ≤ K
   pub bits : p .1 .truth < 2 ^ (2 ^ length (p .1 .inputs))
@@ -39,7 +39,7 @@ module _ (base : ℕ) where
     codes-length* (old i c fs) = simp length-append (omega (arith, codes-length c, codes-length* fs))
     codes-length* (new m s fs) = simp length-append (omega (arith, code-length m (codes* base s) (widths s) (codes-length* s), codes-length* fs))
 
-  placed-length : (m : ℕ) (r : Table) → length (placed m r) ≡ pick m 0 1
+  placed-length : (m : ℕ) (r : LookupTable) → length (placed m r) ≡ pick m 0 1
   placed-length zero r = refl
   placed-length (suc m) r = refl
 
@@ -56,8 +56,8 @@ module _ (base : ℕ) where
 
   module _ (K : ℕ) where
     gate-sized : (m n : ℕ) (v : Bool) (k : Kind) (fs : Fanins) → 2 ≤ arity fs → pick m (Unit {0}) (widths fs ≤ K) →
-        (arity fs ≤ widths fs) × Every (Sized K) (records* base fs k) →
-        (1 ≤ pick m (widths fs) 1) × Every (Sized K) (records* base fs k ++ placed m (tableOf base n v k fs))
+        (arity fs ≤ widths fs) × Every (SizedTable K) (records* base fs k) →
+        (1 ≤ pick m (widths fs) 1) × Every (SizedTable K) (records* base fs k ++ placed m (tableOf base n v k fs))
     gate-sized zero n v k fs h f g = (omega arith, every-append (records* base fs k) [] (g .1) (every-none _))
     gate-sized (suc m) n v k fs h f g =
         (omega arith, every-append (records* base fs k) (placed (suc m) (tableOf base n v k fs)) (g .1) (every-cons own (every-none _)))
@@ -65,7 +65,7 @@ module _ (base : ℕ) where
         u : length (sorted (codes* base fs)) ≡ widths fs
         u = sym (permuted-length (sorted-permuted (codes* base fs))) ∙ codes-length* fs
 
-        own : Sized K (suc m, tableOf base n v k fs)
+        own : SizedTable K (suc m, tableOf base n v k fs)
         own = record {
           least = omega (arith, u);
           most = omega (arith, u);
@@ -73,11 +73,11 @@ module _ (base : ℕ) where
         }
 
     mutual
-      pub fits-sized : (c : Cover) (n : ℕ) (v : Bool) → Fits c K → (1 ≤ width c) × Every (Sized K) (records base c n v)
+      pub fits-sized : (c : Cover) (n : ℕ) (v : Bool) → Fits c K → (1 ≤ width c) × Every (SizedTable K) (records base c n v)
       fits-sized (net c) n v f = (omega arith, every-none _)
       fits-sized (top m k fs) n v f = gate-sized m n v k fs (f .0) (f .1) (fits-sized* fs k (f .2))
 
-      fits-sized* : (fs : Fanins) (k : Kind) → Fits* fs K → (arity fs ≤ widths fs) × Every (Sized K) (records* base fs k)
+      fits-sized* : (fs : Fanins) (k : Kind) → Fits* fs K → (arity fs ≤ widths fs) × Every (SizedTable K) (records* base fs k)
       fits-sized* end k f = (omega arith, every-none _)
       fits-sized* (old i c fs) k f =
           let g = fits-sized c 0 false (f .0) in

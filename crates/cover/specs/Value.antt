@@ -12,7 +12,7 @@ use Rattle.tree.specs.declared.Kind.the-variants.{And as and, Or as or}
 use Rattle.tree.specs.Trusted.Tree.{Node, Edges, turned, meet, unit, value, values}
 use Rattle.cover.specs.Trusted.Cover.{Cover, net, top, Fanins, end, old, new, pick, frontier, SplitOf, same, split, Matched, done, match, Rooted, rooted}
 use Rattle.cover.specs.Trusted.Tables.{output}
-use Rattle.cover.specs.Eval.{Agree, tabled-output, in-driven, Holds}
+use Rattle.cover.specs.Eval.{Agree, tabled-output, in-driven, ValuesHold}
 use Rattle.cover.specs.Trusted.Placed.{placed, code, codes, codes*, held, held*, tableOf, records, records*}
 
 module _ (base : ℕ) where
@@ -83,13 +83,13 @@ module _ (base : ℕ) (e : ℕ → Bool) where
   joined-inserted k {x} (there {y = y} {ys = ys} i) = ap (meet k (fanin y)) (joined-inserted k i) ∙ meet-swap k (fanin y) (fanin x) (joined k ys)
 
   -- a gate has one value, be it read through its table or held
-  gate-value : (m : ℕ) (k : Kind) (fs : Fanins) → Every (Holds base e) (placed m (tableOf base 0 false k fs)) →
+  gate-value : (m : ℕ) (k : Kind) (fs : Fanins) → Every (ValuesHold base e) (placed m (tableOf base 0 false k fs)) →
       pick m (held* base fs k e) (e (base + m)) ≡ held* base fs k e
   gate-value zero k fs h = refl
   gate-value (suc m) k fs h = every-head (every-head h) ∙ tableOf-output base 0 false k fs e
 
   -- the split gates give the drawn one's value
-  frontier-value : (fs : Fanins) (k : Kind) → Every (Holds base e) (records* base fs k) → held* base fs k e ≡ joined k (frontier fs)
+  frontier-value : (fs : Fanins) (k : Kind) → Every (ValuesHold base e) (records* base fs k) → held* base fs k e ≡ joined k (frontier fs)
   frontier-value end k h = refl
   frontier-value (old i c fs) k h = ap (meet k (fanin (i, c))) (frontier-value fs k (every-right (records base c 0 false) (records* base fs k) h))
   frontier-value (new m s fs) k h =
@@ -99,8 +99,8 @@ module _ (base : ℕ) (e : ℕ → Bool) where
       (frontier-value fs k (every-right (records* base s k ++ own) (records* base fs k) h))
       ∙ sym (joined-append k (frontier s) (frontier fs))
 
-  frontier-holds : (fs : Fanins) (k : Kind) → Every (Holds base e) (records* base fs k) →
-      Every (λ q. Every (Holds base e) (records base (q .1) 0 false)) (frontier fs)
+  frontier-holds : (fs : Fanins) (k : Kind) → Every (ValuesHold base e) (records* base fs k) →
+      Every (λ q. Every (ValuesHold base e) (records base (q .1) 0 false)) (frontier fs)
   frontier-holds end k h = every-none _
   frontier-holds (old i c fs) k h =
       every-cons (every-left (records base c 0 false) (records* base fs k) h)
@@ -112,7 +112,7 @@ module _ (base : ℕ) (e : ℕ → Bool) where
       (frontier-holds fs k (every-right (records* base s k ++ own) (records* base fs k) h))
 
   mutual
-    split-value : {t : Node} {c : Cover} → SplitOf t c → Every (Holds base e) (records base c 0 false) → held base c e ≡ value t e
+    split-value : {t : Node} {c : Cover} → SplitOf t c → Every (ValuesHold base e) (records base c 0 false) → held base c e ≡ value t e
     split-value same h = refl
     split-value (split {k = k} {m = m} {fs = fs} d) h =
         let own = placed m (tableOf base 0 false k fs) in
@@ -120,18 +120,18 @@ module _ (base : ℕ) (e : ℕ → Bool) where
         gate-value m k fs (every-right (records* base fs k) own h) ∙ frontier-value fs k g ∙ matched-value d k (frontier-holds fs k g)
 
     matched-value : {es : Edges} {xs : List (Bool × Cover)} → Matched es xs → (k : Kind) →
-        Every (λ q. Every (Holds base e) (records base (q .1) 0 false)) xs → joined k xs ≡ values es k e
+        Every (λ q. Every (ValuesHold base e) (records base (q .1) 0 false)) xs → joined k xs ≡ values es k e
     matched-value done k h = refl
     matched-value (match {i = i} j s d) k h =
         let g = inserted-from j h in
         joined-inserted k j ∙ ap₂ (λ a b. meet k (turned i a) b) (split-value s (every-head g)) (matched-value d k (every-tail g))
 
-  pub gate-held : {es : Edges} (fs : Fanins) → Matched es (frontier fs) → (k : Kind) → Every (Holds base e) (records* base fs k) →
+  pub gate-held : {es : Edges} (fs : Fanins) → Matched es (frontier fs) → (k : Kind) → Every (ValuesHold base e) (records* base fs k) →
       held* base fs k e ≡ values es k e
   gate-held fs d k h = frontier-value fs k h ∙ matched-value d k (frontier-holds fs k h)
 
   pub root-value : {t : Node} {c : Cover} (n : ℕ) (v : Bool) → SplitOf t c → Rooted c → 0 < n →
-      Every (Holds base e) (records base c n v) → e n ≡ turned v (value t e)
+      Every (ValuesHold base e) (records base c n v) → e n ≡ turned v (value t e)
   root-value n v (split {k = k} {fs = fs} d) (rooted {n = m}) pos h =
       let own = placed (suc m) (tableOf base n v k fs) in
       let g = every-left (records* base fs k) own h in

@@ -12,14 +12,14 @@ use Rattle.lists.specs.NumberLaws.{sorted-permuted, sorted-sorted, sorted-only}
 use Rattle.tree.specs.declared.Kind.{Kind}
 use Rattle.tree.specs.Trusted.Tree.{Node, gate, Edges, leaves, leaves*, turned, value}
 use Rattle.cover.specs.Trusted.Cover.{Cover, net, top, Fanins, end, old, new, pick, frontier, tables, tables*, SplitOf, split, Matched, Rooted, rooted, CoverOf}
-use Rattle.cover.specs.Trusted.Tables.{Table, Placed, tabled}
+use Rattle.cover.specs.Trusted.Tables.{LookupTable, Placed, tabled}
 use Rattle.cover.specs.Trusted.Placed.{number, code, codes, codes*, tableOf, records, records*}
 use Rattle.cover.specs.Value.{gate-held}
 use Rattle.cover.specs.Nets.{nets, nets*, split-nets}
 use Rattle.cover.specs.Size.{records-length*}
 
 -- the table that drives n and has the value of the tree, inverted where v is true
-abbrev pub whole : ℕ → Bool → Node → Table
+abbrev pub whole : ℕ → Bool → Node → LookupTable
 whole n v t = tabled n (sorted (leaves t)) (λ e. turned v (value t e))
 
 length-none : {A : Type 0} (xs : List A) → length xs ≡ 0 → xs ≡ []

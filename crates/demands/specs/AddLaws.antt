@@ -11,8 +11,8 @@ use Rattle.lists.specs.Trusted.Tests.{elem, within}
 use Rattle.lists.specs.TestLaws.{Reflects, reflects-le, reflects-eq, reflects-any, reflects-elem, reflects-within, by-reflects, by-either}
 use Rattle.cover.specs.Trusted.Cover.{Least}
 use Rattle.plan.specs.Least.{least-unique}
-use Rattle.cover.specs.Trusted.Tables.{Table as LookupTable}
-use Rattle.cover.specs.Trusted.CoverTables.{Sheet, Fresh}
+use Rattle.cover.specs.Trusted.Tables.{LookupTable}
+use Rattle.cover.specs.Trusted.CoverTables.{Circuit, Fresh}
 use Rattle.cover.specs.CoverTableLaws.{added-sized}
 use Rattle.table.specs.Trusted.Limits.{tableBase, inputRoom, tableRoom, KRange, CapacityRange}
 use Rattle.table.specs.Trusted.Records.{blank}
@@ -22,7 +22,7 @@ use Rattle.part.specs.Trusted.Parts.{blanks, tablesOf, Shaped}
 use Rattle.part.specs.Trusted.Sound.{Sound}
 use Rattle.part.specs.Trusted.SoundTest.{sound}
 use Rattle.part.specs.SoundLaws.{sound-reflects}
-use Rattle.part.specs.Trusted.Reading.{Reading, sheet, refused as unread, readOf}
+use Rattle.part.specs.Trusted.Reading.{CircuitReading, sheet, refused as unread, readOf}
 use Rattle.part.specs.Trusted.Answers.{Answer, accepted, refused, Result, empty}
 use Rattle.part.specs.Trusted.Add.{opened, isDriven, isRead, Refused, Accepted, Take, Add}
 use Rattle.demands.specs.Trusted.Nets.{Driven, Read}
@@ -89,7 +89,7 @@ driven-reflects n = reflects-any (λ t. eqb (t .drives) n) (λ t. reflects-eq (t
 pub read-reflects : (n : ℕ) (ts : List LookupTable) → Reflects (isRead n ts) (Read n ts)
 read-reflects n = reflects-any (λ t. elem n (t .inputs)) (λ t. reflects-elem n (t .inputs))
 
-fresh : (s : Sheet) (ts : List LookupTable) → ¬ (Driven (s .out) ts) → ¬ (Read (s .out) ts) → Fresh s ts
+fresh : (s : Circuit) (ts : List LookupTable) → ¬ (Driven (s .out) ts) → ¬ (Read (s .out) ts) → Fresh s ts
 fresh s ts d r t m = (λ e. d (t, m, e), λ i. r (t, m, i))
 
 -- what an add leaves as it was
@@ -100,26 +100,26 @@ pub record Kept (p q : Part) : Type 0 where
   pub sound : Sound p → Sound q
 
 -- what an add found, and what it gave
-pub data Outcome (p : Part) (text : List ℕ) (q : Part) (a : Answer) : Type 0 where
-  unsound : ¬ (Sound p) → Refused p 20 0 q a → Outcome p text q a
-  misread : (number place : ℕ) → Sound p → readOf text ≡ unread number place → Refused p number place q a → Outcome p text q a
-  driven : (s : Sheet) → Sound p → readOf text ≡ sheet s → Driven (s .out) (tablesOf p) → Refused p 21 0 q a → Outcome p text q a
-  read : (s : Sheet) → Sound p → readOf text ≡ sheet s → ¬ (Driven (s .out) (tablesOf p)) → Read (s .out) (tablesOf p) → Refused p 22 0 q a → Outcome p text q a
-  full : (s : Sheet) (n : ℕ) → Sound p → readOf text ≡ sheet s → Fresh s (tablesOf p) → Least (p .k) (s .tree) n → p .capacity - p .used < n →
-      Refused p 23 0 q a → Outcome p text q a
-  taken : (s : Sheet) → Sound p → readOf text ≡ sheet s → Fresh s (tablesOf p) → (t : Accepted p s q a) → p .used + length (t .new) ≤ p .capacity →
-      Outcome p text q a
+pub data AddCase (p : Part) (text : List ℕ) (q : Part) (a : Answer) : Type 0 where
+  unsound : ¬ (Sound p) → Refused p 20 0 q a → AddCase p text q a
+  misread : (number place : ℕ) → Sound p → readOf text ≡ unread number place → Refused p number place q a → AddCase p text q a
+  driven : (s : Circuit) → Sound p → readOf text ≡ sheet s → Driven (s .out) (tablesOf p) → Refused p 21 0 q a → AddCase p text q a
+  read : (s : Circuit) → Sound p → readOf text ≡ sheet s → ¬ (Driven (s .out) (tablesOf p)) → Read (s .out) (tablesOf p) → Refused p 22 0 q a → AddCase p text q a
+  full : (s : Circuit) (n : ℕ) → Sound p → readOf text ≡ sheet s → Fresh s (tablesOf p) → Least (p .k) (s .tree) n → p .capacity - p .used < n →
+      Refused p 23 0 q a → AddCase p text q a
+  taken : (s : Circuit) → Sound p → readOf text ≡ sheet s → Fresh s (tablesOf p) → (t : Accepted p s q a) → p .used + length (t .new) ≤ p .capacity →
+      AddCase p text q a
 
 module _ (p : Part) (text : List ℕ) (q : Part) (a : Answer) where
-  pub outcome : Add p text q a → Outcome p text q a
+  pub outcome : Add p text q a → AddCase p text q a
   unfolding Add
   outcome = by-either (sound-reflects p) (λ h. reading h (readOf text) refl) unsound
     where
-      room : (h : Sound p) (s : Sheet) (n : ℕ) → Least (p .k) (s .tree) n → n ≤ p .capacity - p .used → (t : Accepted p s q a) →
+      room : (h : Sound p) (s : Circuit) (n : ℕ) → Least (p .k) (s .tree) n → n ≤ p .capacity - p .used → (t : Accepted p s q a) →
           p .used + length (t .new) ≤ p .capacity
       room h s n l le t = omega (arith, le, h .used-fits, least-unique l (t .least .fewest))
 
-      reading : Sound p → (v : Reading) → readOf text ≡ v → Take p v q a → Outcome p text q a
+      reading : Sound p → (v : CircuitReading) → readOf text ≡ v → Take p v q a → AddCase p text q a
       reading h (unread number place) e = misread number place h e
       reading h (sheet s) e =
           by-either (driven-reflects (s .out) (tablesOf p)) (driven s h e)
@@ -132,7 +132,7 @@ module _ (p : Part) (shape : Shaped p) where
   pub same-kept : (q : Part) → q ≡ p → Kept p q
   same-kept q e = subst (λ q. Kept p q) (sym e) (record { same-k = refl; same-capacity = refl; shaped = shape; sound = λ h. h })
 
-  pub kept : {text : List ℕ} {q : Part} {a : Answer} → Outcome p text q a → Kept p q
+  pub kept : {text : List ℕ} {q : Part} {a : Answer} → AddCase p text q a → Kept p q
   kept (unsound n r) = same-kept _ (r .0)
   kept (misread number place h e r) = same-kept _ (r .0)
   kept (driven s h e d r) = same-kept _ (r .0)
@@ -157,7 +157,7 @@ not-refused e f = let z : _≡_ {A = ℕ} 0 1 = cc in omega arith
 pub refused-stays : (p : Part) (text : List ℕ) (q : Part) (a : Answer) (number place : ℕ) → Add p text q a → a ≡ refused number place → q ≡ p
 refused-stays p text q a number place h e = go (outcome p text q a h)
   where
-    go : Outcome p text q a → q ≡ p
+    go : AddCase p text q a → q ≡ p
     go (unsound n r) = r .0
     go (misread n l g i r) = r .0
     go (driven s g i d r) = r .0

@@ -10,8 +10,8 @@ use Rattle.lists.specs.ListLaws.{every-none, every-cons, permuted-refl}
 use Rattle.tree.specs.declared.Kind.the-variants.{And as and, Or as or}
 use Rattle.tree.specs.Trusted.Tree.{leaf, gate, none, edge}
 use Rattle.cover.specs.Trusted.Cover.{Cover, net, top, end, old, Rooted, rooted, tables, CoverOf, Least, same, split, done, match}
-use Rattle.cover.specs.Trusted.Tables.{Table as LookupTable}
-use Rattle.cover.specs.Trusted.CoverTables.{Sheet, AddedLeast}
+use Rattle.cover.specs.Trusted.Tables.{LookupTable}
+use Rattle.cover.specs.Trusted.CoverTables.{Circuit, LeastCoverTables}
 use Rattle.sheet.specs.Trusted.Step.{_>>=_, require, given}
 use Rattle.sheet.specs.Checks.{bytes}
 use Rattle.part.specs.Trusted.Parts.{blanks}
@@ -27,14 +27,14 @@ use Rattle.demands.specs.Trusted.Demands as Demands
 use Rattle.demands.specs.Trusted.Demands.{Total, more}
 
 -- net 20 = (1 or 2) and (3 or 4), and net 21 = not (20 and not 5)
-abbrev first : Sheet
+abbrev first : Circuit
 first = record {
   tree = gate and (edge false (gate or (edge false (leaf 1) (edge false (leaf 2) none))) (edge false (gate or (edge false (leaf 3) (edge false (leaf 4) none))) none));
   out = 20;
   inverted = false;
 }
 
-abbrev second : Sheet
+abbrev second : Circuit
 second = record { tree = gate and (edge false (leaf 20) (edge true (leaf 5) none)); out = 21; inverted = true }
 
 abbrev first-text : List ℕ
@@ -90,7 +90,7 @@ least-1 = record { some = (_, cover-1, refl); none-fewer = λ c h. one-table c (
 least-2 : Least 4 (second .tree) 1
 least-2 = record { some = (_, cover-2, refl); none-fewer = λ c h. one-table c (h .root) }
 
-added-1 : AddedLeast 1000 4 [] table-1 first
+added-1 : LeastCoverTables 1000 4 [] table-1 first
 added-1 = record {
   added = record {
     legal = record {
@@ -110,7 +110,7 @@ added-1 = record {
   fewest = least-1;
 }
 
-added-2 : AddedLeast 1000 4 table-1 table-2 second
+added-2 : LeastCoverTables 1000 4 table-1 table-2 second
 added-2 = record {
   added = record {
     legal = record {

@@ -10,17 +10,17 @@ use lib.ListN.{length}
 use Rattle.lists.specs.TestLaws.{Reflects, reflects-le, reflects-true, by-reflects}
 use Rattle.cover.specs.Trusted.Cover.{Least}
 use Rattle.plan.specs.Least.{least-unique}
-use Rattle.cover.specs.Trusted.CoverTables.{Sheet, Fresh}
+use Rattle.cover.specs.Trusted.CoverTables.{Circuit, Fresh}
 use Rattle.table.specs.Trusted.Limits.{KRange, CapacityRange}
 use Rattle.part.specs.declared.Part.{Part}
 use Rattle.part.specs.Trusted.Parts.{tablesOf}
 use Rattle.part.specs.Trusted.Sound.{Sound}
 use Rattle.part.specs.Trusted.SoundTest.{sound}
 use Rattle.part.specs.SoundLaws.{sound-reflects}
-use Rattle.part.specs.Trusted.Reading.{Reading, sheet, readOf}
+use Rattle.part.specs.Trusted.Reading.{CircuitReading, sheet, readOf}
 use Rattle.part.specs.Trusted.Answers.{Answer, accepted, refused}
 use Rattle.part.specs.Trusted.Add.{opened, isDriven, isRead, Add}
-use Rattle.demands.specs.AddLaws.{driven-reflects, read-reflects, opened-cases, Outcome, unsound, misread, driven, read, full, taken, outcome, not-refused, refused-stays}
+use Rattle.demands.specs.AddLaws.{driven-reflects, read-reflects, opened-cases, AddCase, unsound, misread, driven, read, full, taken, outcome, not-refused, refused-stays}
 use Rattle.demands.specs.Settled as Settled
 use Rattle.demands.specs.Settled.{leastNumber, answerOf}
 use Rattle.demands.specs.ReadingLaws.{reads-right}
@@ -76,23 +76,23 @@ module _ (k capacity : ℕ) where
 -- ---- adding
 
 module _ (p : Part) (text : List ℕ) where
-  abbrev fits : Sheet → Bool
+  abbrev fits : Circuit → Bool
   fits s = leb (leastNumber (p .k) s) (p .capacity - p .used)
 
-  fits-reflects : (s : Sheet) (n : ℕ) → Sound p → readOf text ≡ sheet s → Least (p .k) (s .tree) n → Reflects (fits s) (n ≤ p .capacity - p .used)
+  fits-reflects : (s : Circuit) (n : ℕ) → Sound p → readOf text ≡ sheet s → Least (p .k) (s .tree) n → Reflects (fits s) (n ≤ p .capacity - p .used)
   fits-reflects s n h e l =
       subst (λ m. Reflects (fits s) (m ≤ p .capacity - p .used)) (least-unique (least-number (p .k) (h .k-range .0) s (reads-right text s e)) l)
       (reflects-le (leastNumber (p .k) s) (p .capacity - p .used))
 
   -- the answer of a sound part to what is read, and by the last three tests
-  read-answer : Sound p → {v : Reading} → readOf text ≡ v → answerOf p (readOf text) ≡ Settled.taken p v
+  read-answer : Sound p → {v : CircuitReading} → readOf text ≡ v → answerOf p (readOf text) ≡ Settled.taken p v
   read-answer h e = ap (λ b. cond b (Settled.taken p (readOf text)) (refused 20 0)) (reflects-true (sound-reflects p) h) ∙ ap (Settled.taken p) e
 
-  tests-answer : (s : Sheet) {d r f : Bool} → Sound p → readOf text ≡ sheet s → isDriven (s .out) (tablesOf p) ≡ d → isRead (s .out) (tablesOf p) ≡ r →
+  tests-answer : (s : Circuit) {d r f : Bool} → Sound p → readOf text ≡ sheet s → isDriven (s .out) (tablesOf p) ≡ d → isRead (s .out) (tablesOf p) ≡ r →
       fits s ≡ f → answerOf p (readOf text) ≡ cond d (refused 21 0) (cond r (refused 22 0) (cond f accepted (refused 23 0)))
   tests-answer s h e x y z = read-answer h e ∙ (λ i. cond (x i) (refused 21 0) (cond (y i) (refused 22 0) (cond (z i) accepted (refused 23 0))))
 
-  fresh-answer : (s : Sheet) {f : Bool} → Sound p → readOf text ≡ sheet s → Fresh s (tablesOf p) → fits s ≡ f →
+  fresh-answer : (s : Circuit) {f : Bool} → Sound p → readOf text ≡ sheet s → Fresh s (tablesOf p) → fits s ≡ f →
       answerOf p (readOf text) ≡ cond f accepted (refused 23 0)
   fresh-answer s h e g =
       tests-answer s h e (reflects-false (driven-reflects (s .out) (tablesOf p)) (λ d. g (d .0) (d .1) .0 (d .2)))
@@ -114,7 +114,7 @@ module _ (p : Part) (text : List ℕ) where
   told : {a : Answer} {m l number place : ℕ} → a ≡ refused m l → a ≡ refused number place → AddCondition p text m l → AddCondition p text number place
   told e f c = moved (AddCondition p text) c (cc) (cc)
 
-  found : {q : Part} {a : Answer} {number place : ℕ} → Outcome p text q a → a ≡ refused number place → AddCondition p text number place
+  found : {q : Part} {a : Answer} {number place : ℕ} → AddCase p text q a → a ≡ refused number place → AddCondition p text number place
   found (unsound n r) e = told (r .1) e (not-sound n)
   found (misread m l h g r) e = told (r .1) e (not-read m l h g)
   found (driven s h g d r) e = told (r .1) e (out-driven s h g d)
@@ -122,7 +122,7 @@ module _ (p : Part) (text : List ℕ) where
   found (full s n h g f l m r) e = told (r .1) e (no-room s n h g f l m)
   found (taken s h g f t room) e = absurd (not-refused e (t .answer))
 
-  passed : {q : Part} {a : Answer} → Outcome p text q a → a ≡ accepted → Addable p text
+  passed : {q : Part} {a : Answer} → AddCase p text q a → a ≡ accepted → Addable p text
   passed (unsound n r) e = absurd (not-refused (r .1) e)
   passed (misread m l h g r) e = absurd (not-refused (r .1) e)
   passed (driven s h g d r) e = absurd (not-refused (r .1) e)

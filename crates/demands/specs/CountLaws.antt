@@ -7,25 +7,25 @@ use lib.ListN.{length}
 use Rattle.lists.specs.Trusted.Lists.{_∈_}
 use Rattle.cover.specs.Trusted.Cover.{Least}
 use Rattle.plan.specs.Least.{least-unique}
-use Rattle.cover.specs.Trusted.Tables.{Table as LookupTable}
-use Rattle.cover.specs.Trusted.CoverTables.{Sheet}
+use Rattle.cover.specs.Trusted.Tables.{LookupTable}
+use Rattle.cover.specs.Trusted.CoverTables.{Circuit}
 use Rattle.part.specs.Trusted.Parts.{inUse, tablesOf, Shaped}
 use Rattle.part.specs.Trusted.Sound.{Sound}
-use Rattle.part.specs.Trusted.Reading.{Reading, sheet, refused as unread, readOf}
+use Rattle.part.specs.Trusted.Reading.{CircuitReading, sheet, refused as unread, readOf}
 use Rattle.part.specs.Trusted.Answers.{Answer, accepted, refused, Result}
 use Rattle.part.specs.Trusted.Add.{Refused, Accepted}
 use Rattle.part.specs.declared.Part.{Part}
 use Rattle.demands.specs.ReadingLaws.{refused-below}
 use Rattle.demands.specs.ExtendLaws.{extended-inUse, extended-tables}
-use Rattle.demands.specs.AddLaws.{Kept, Outcome, unsound, misread, driven, read, full, taken, outcome, kept, same-kept, not-refused}
+use Rattle.demands.specs.AddLaws.{Kept, AddCase, unsound, misread, driven, read, full, taken, outcome, kept, same-kept, not-refused}
 use Rattle.demands.specs.Trusted.Calls.{Call, add, final, sheetsRead, ifAccepted, Promise, sheetsOf, Chain, done, call, acceptedIn, Link, here, next}
-use Rattle.demands.specs.Trusted.Demands.{Total, none, more, left, Passes, Taken, Room, CallAccounted, Demand3}
+use Rattle.demands.specs.Trusted.Demands.{Total, none, more, left, Passes, Taken, RoomTold, CallAccounted, Demand3}
 
 -- two readings
-pub same-sheet : {v : Reading} {s t : Sheet} → v ≡ sheet s → v ≡ sheet t → s ≡ t
+pub same-sheet : {v : CircuitReading} {s t : Circuit} → v ≡ sheet s → v ≡ sheet t → s ≡ t
 same-sheet e f = cc
 
-not-read : {v : Reading} {number place : ℕ} {s : Sheet} → v ≡ unread number place → v ≡ sheet s → ⊥
+not-read : {v : CircuitReading} {number place : ℕ} {s : Circuit} → v ≡ unread number place → v ≡ sheet s → ⊥
 not-read e f = let z : _≡_ {A = ℕ} 0 1 = cc in omega arith
 
 -- two refusals
@@ -35,24 +35,24 @@ same-number e f = cc
 -- ---- sums of least numbers
 
 -- there is only one
-pub total-unique : {k m n : ℕ} {ss : List Sheet} → Total k ss m → Total k ss n → m ≡ n
+pub total-unique : {k m n : ℕ} {ss : List Circuit} → Total k ss m → Total k ss n → m ≡ n
 total-unique none none = refl
 total-unique (more l t) (more i u) = ap₂ _+_ (least-unique l i) (total-unique t u)
 
-total-append : {k m n : ℕ} {ss ts : List Sheet} → Total k ss m → Total k ts n → Total k (ss ++ ts) (m + n)
+total-append : {k m n : ℕ} {ss ts : List Circuit} → Total k ss m → Total k ts n → Total k (ss ++ ts) (m + n)
 total-append {k} {n = n} {ts = ts} none u = let e : n ≡ 0 + n = omega arith in subst (Total k ts) e u
 total-append {k} {n = n} {ts = ts} (more {s = s} {ss = ss} {n = a} {m = b} l t) u =
     let e : a + (b + n) ≡ a + b + n = omega arith in
     subst (Total k (s ∷ (ss ++ ts))) e (more l (total-append t u))
 
 -- the count v is u plus the sum of the sheets' least numbers
-abbrev Grown : ℕ → List Sheet → ℕ → ℕ → Type 0
+abbrev Grown : ℕ → List Circuit → ℕ → ℕ → Type 0
 Grown k ss u v = (n : ℕ) × Total k ss n × (v ≡ u + n)
 
 -- ---- one add
 
 module _ (p : Part) (shape : Shaped p) (text : List ℕ) where
-  accepted-taken : (s : Sheet) (q : Part) (a : Answer) → Sound p → readOf text ≡ sheet s → (t : Accepted p s q a) → Taken (p .k) p text q s (t .new)
+  accepted-taken : (s : Circuit) (q : Part) (a : Answer) → Sound p → readOf text ≡ sheet s → (t : Accepted p s q a) → Taken (p .k) p text q s (t .new)
   accepted-taken s q a h e t = record {
     read = e;
     records = ap inUse (t .part) ∙ extended-inUse p shape h (t .new);
@@ -63,7 +63,7 @@ module _ (p : Part) (shape : Shaped p) (text : List ℕ) where
   }
 
   -- the tables taken
-  outcome-taken : {q : Part} {a : Answer} → Outcome p text q a → a ≡ accepted → (s : Sheet) × (new : List LookupTable) × Taken (p .k) p text q s new
+  outcome-taken : {q : Part} {a : Answer} → AddCase p text q a → a ≡ accepted → (s : Circuit) × (new : List LookupTable) × Taken (p .k) p text q s new
   outcome-taken (unsound n r) f = absurd (not-refused (r .1) f)
   outcome-taken (misread number place h e r) f = absurd (not-refused (r .1) f)
   outcome-taken (driven s h e d r) f = absurd (not-refused (r .1) f)
@@ -72,8 +72,8 @@ module _ (p : Part) (shape : Shaped p) (text : List ℕ) where
   outcome-taken (taken s h e g t room) f = (s, t .new, accepted-taken s _ _ h e t)
 
   -- 23, or accepted
-  outcome-room : {q : Part} {a : Answer} → Outcome p text q a → (s : Sheet) → Passes p text s →
-      Room (p .k) (p .capacity - p .used) s (record { part = q; answer = a })
+  outcome-room : {q : Part} {a : Answer} → AddCase p text q a → (s : Circuit) → Passes p text s →
+      RoomTold (p .k) (p .capacity - p .used) s (record { part = q; answer = a })
   outcome-room (unsound n r) s g = absurd (n (g .sound))
   outcome-room (misread number place h e r) s g = absurd (not-read e (g .read))
   outcome-room (driven u h e d r) s g = let i = same-sheet e (g .read) in absurd (g .fresh (d .0) (d .1) .0 (d .2 ∙ ap (λ x. x .out) i))
@@ -96,7 +96,7 @@ module _ (p : Part) (shape : Shaped p) (text : List ℕ) where
       }
 
   -- 23 for no other
-  outcome-only : {q : Part} {a : Answer} → Outcome p text q a → a ≡ refused 23 0 → (s : Sheet) × Passes p text s
+  outcome-only : {q : Part} {a : Answer} → AddCase p text q a → a ≡ refused 23 0 → (s : Circuit) × Passes p text s
   outcome-only (unsound n r) f = absurd (omega (arith, same-number (r .1) f))
   outcome-only (misread number place h e r) f = absurd (omega (arith, same-number (r .1) f, refused-below text number place e))
   outcome-only (driven s h e d r) f = absurd (omega (arith, same-number (r .1) f))
@@ -113,7 +113,7 @@ module _ (p : Part) (shape : Shaped p) (text : List ℕ) where
     omega (arith, ap (λ q. q .used) (r .0)),
   )
 
-  outcome-grown : {q : Part} {a : Answer} → Outcome p text q a → Grown (p .k) (ifAccepted a (sheetsRead (readOf text))) (p .used) (q .used)
+  outcome-grown : {q : Part} {a : Answer} → AddCase p text q a → Grown (p .k) (ifAccepted a (sheetsRead (readOf text))) (p .used) (q .used)
   outcome-grown (unsound n r) = none-grown _ _ _ _ r
   outcome-grown (misread number place h e r) = none-grown _ _ _ _ r
   outcome-grown (driven s h e d r) = none-grown _ _ _ _ r
@@ -161,10 +161,10 @@ chain-grown {p} (call {c = c} {cs = cs} {r = r} {rs = rs} h t) shape =
     (g .0 + i .0, total-append (g .1) (i .1), omega (arith, g .2, i .2))
 
 -- a call with the number left for it
-abbrev Counts : ℕ → Part → List Sheet → Part → Call → Result → Type 0
+abbrev Counts : ℕ → Part → List Circuit → Part → Call → Result → Type 0
 Counts k p ss o c r = (n : ℕ) × Total k ss n × CallAccounted k (left p n) o c r
 
-chain-each : {p o : Part} {cs : List Call} {rs : List Result} {ss : List Sheet} {d : Call} {t : Result} → Link p cs rs ss o d t →
+chain-each : {p o : Part} {cs : List Call} {rs : List Result} {ss : List Circuit} {d : Call} {t : Result} → Link p cs rs ss o d t →
     Chain p cs rs → Shaped p → Counts (p .k) p ss o d t
 chain-each {p} {d = d} {t = t} here (call h rest) shape =
     let e : p .capacity - p .used ≡ left p 0 = omega arith in

@@ -8,10 +8,10 @@ use lib.ListN.{length, take, drop, replicate, length-append, length-map, length-
 use lib.Seq.{drop-append-seam, take-at, drop-at, drop-drop}
 use Rattle.lists.specs.Trusted.Lists.{_∈_, first, later, Every}
 use Rattle.lists.specs.ListLaws.{every-none, every-cons, every-head, every-tail, every-append}
-use Rattle.cover.specs.Trusted.Tables.{Table as LookupTable, Placed, numbered}
+use Rattle.cover.specs.Trusted.Tables.{LookupTable, Placed, numbered}
 use Rattle.cover.specs.Eval.{numbered-is}
 use Rattle.cover.specs.Trusted.Placed.{number}
-use Rattle.cover.specs.Trusted.CoverTables.{Sheet, Added, Fresh}
+use Rattle.cover.specs.Trusted.CoverTables.{Circuit, CoverTables, Fresh}
 use Rattle.cover.specs.CoverTableLaws.{added-sized, added-rising, added-tidy, added-inputs, added-drives}
 use Rattle.table.specs.Trusted.Limits.{tableBase, inputRoom}
 use Rattle.table.specs.Trusted.Records.{tableOf, recordOf}
@@ -69,7 +69,7 @@ record-room t h = simp (length-append, length-replicate) (omega arith)
 
 -- ---- the tables of a sheet, after the records of a part
 
-module _ (k : ℕ) (old : List Table) (new : List LookupTable) (s : Sheet) (a : Added tableBase k (map tableOf old) new s) where
+module _ (k : ℕ) (old : List Table) (new : List LookupTable) (s : Circuit) (a : CoverTables tableBase k (map tableOf old) new s) where
   ps : List Placed
   ps = numbered (length (map tableOf old)) new
 
@@ -173,7 +173,7 @@ module _ (p : Part) (shape : Shaped p) (h : Sound p) (new : List LookupTable) wh
         (every-drop (p .used + length new) (p .tables) (shape .inputs));
   }
 
-  pub extended-sound : (s : Sheet) → Added tableBase (p .k) (tablesOf p) new s → Fresh s (tablesOf p) → p .used + length new ≤ p .capacity →
+  pub extended-sound : (s : Circuit) → CoverTables tableBase (p .k) (tablesOf p) new s → Fresh s (tablesOf p) → p .used + length new ≤ p .capacity →
       Sound (extended p new)
   extended-sound s a f room = record {
     k-range = h .k-range;

@@ -10,7 +10,7 @@ use Rattle.lists.specs.Cases.{by-eqb}
 use Rattle.lists.specs.Trusted.Lists.{_∈_, first, later, Every}
 use Rattle.lists.specs.ListLaws.{not-first, every-head, every-tail}
 use Rattle.cover.specs.Trusted.Bits.{bit, index}
-use Rattle.cover.specs.Trusted.Tables.{Table as LookupTable, output, Placed, numbered, put, writes, step, run, settled}
+use Rattle.cover.specs.Trusted.Tables.{LookupTable, output, Placed, numbered, put, writes, step, run, settled}
 use Rattle.cover.specs.Eval.{in-driven, driven-in, numbered-is}
 use Rattle.table.specs.Trusted.Limits.{tableBase}
 use Rattle.table.specs.Trusted.Records.{tableOf}

@@ -14,11 +14,11 @@ use Rattle.tree.specs.declared.Kind.{Kind}
 use Rattle.tree.specs.Trusted.Tree.{Node, leaves}
 use Rattle.cover.specs.Trusted.Cover.{Cover, net, top, Fanins, end, old, new, SplitOf, Rooted, rooted}
 use Rattle.cover.specs.Nets.{nets, nets*, split-nets}
-use Rattle.cover.specs.Trusted.Tables.{Table as LookupTable, Placed, numbered}
+use Rattle.cover.specs.Trusted.Tables.{LookupTable, Placed, numbered}
 use Rattle.cover.specs.Eval.{numbered-is}
 use Rattle.cover.specs.Trusted.Placed.{number, placed, code, codes, codes*, tableOf, records, records*}
 use Rattle.cover.specs.Inputs.{root-in}
-use Rattle.cover.specs.Trusted.CoverTables.{Sheet, Added}
+use Rattle.cover.specs.Trusted.CoverTables.{Circuit, CoverTables}
 use Rattle.cover.specs.CoverTableLaws.{added-inputs, added-tidy}
 use Rattle.demands.specs.ExtendLaws.{every-numbered}
 use Rattle.demands.specs.Trusted.Nets.{Driven, Read}
@@ -73,7 +73,7 @@ module _ (base : ℕ) where
   leaf-found n v s (rooted {n = m} {k = k} {fs = fs}) =
       permuted-to (split-nets s) (λ x i. found-chosen m n v k fs x (found* fs k x i))
 
-  module _ (K : ℕ) (olds news : List LookupTable) (s : Sheet) (a : Added base K olds news s) where
+  module _ (K : ℕ) (olds news : List LookupTable) (s : Circuit) (a : CoverTables base K olds news s) where
     -- a leaf is read by one of the new tables
     leaf-read : Every (λ x. Read x news) (leaves (s .tree))
     leaf-read x i =

@@ -15,15 +15,15 @@ use Rattle.tree.specs.declared.Kind.{Kind}
 use Rattle.tree.specs.Trusted.Tree.{Node, Edges}
 use Rattle.cover.specs.Trusted.Cover.{Cover, net, top, Fanins, end, old, new, pick, arity, frontier, tables, tables*, width, widths, Fits, Fits*, SplitOf, split, Matched, done, match, Rooted, rooted, CoverOf, Least}
 use Rattle.cover.specs.Nets.{nets, nets*, split-nets}
-use Rattle.cover.specs.Trusted.Tables.{Table as LookupTable, Placed, numbered}
+use Rattle.cover.specs.Trusted.Tables.{LookupTable, Placed, numbered}
 use Rattle.cover.specs.Eval.{numbered-append}
 use Rattle.cover.specs.Trusted.Placed.{number, placed, code, codes, codes*, tableOf, records, records*}
-use Rattle.cover.specs.Trusted.CoverTables.{Sheet, Legal, Added}
+use Rattle.cover.specs.Trusted.CoverTables.{Circuit, Legal, CoverTables}
 use Rattle.table.specs.Trusted.Limits.{tableBase}
 use Rattle.part.specs.Trusted.Parts.{tablesOf}
 use Rattle.part.specs.Trusted.Sound.{Sound}
 use Rattle.part.specs.SoundLaws.{sound-reflects}
-use Rattle.part.specs.Trusted.Reading.{Reading, sheet, refused as unread, readOf}
+use Rattle.part.specs.Trusted.Reading.{CircuitReading, sheet, refused as unread, readOf}
 use Rattle.demands.specs.Readable.{Readable}
 use Rattle.demands.specs.ReadingLaws.{reads-right}
 use Rattle.part.specs.Trusted.Answers.{Answer, accepted, refused, Result}
@@ -220,8 +220,8 @@ module _ (base : ℕ) where
         (mark-low* fs n k (every-right (nets* s) (nets* fs) h)))
 
   -- the tables of any cover of the sheet can be added
-  pub cover-added : (K : ℕ) (olds : List LookupTable) (s : Sheet) → Legal base s → (c : Cover) → CoverOf K (s .tree) c →
-      (news : List LookupTable) × Added base K olds news s × (length news ≡ tables c)
+  pub cover-added : (K : ℕ) (olds : List LookupTable) (s : Circuit) → Legal base s → (c : Cover) → CoverOf K (s .tree) c →
+      (news : List LookupTable) × CoverTables base K olds news s × (length news ≡ tables c)
   cover-added K olds s legal c h =
       let m = length olds in
       let l = mark-lined c m (s .out) (s .inverted) in
@@ -242,7 +242,7 @@ module _ (base : ℕ) where
 -- ---- the promises can be kept
 
 module _ (p : Part) (text : List ℕ) where
-  accepted-possible : (s : Sheet) → Readable s → Least (p .k) (s .tree) (leastNumber (p .k) s) → (q : Part) × (a : Answer) × Accepted p s q a
+  accepted-possible : (s : Circuit) → Readable s → Least (p .k) (s .tree) (leastNumber (p .k) s) → (q : Part) × (a : Answer) × Accepted p s q a
   accepted-possible s r l =
       let c = l .some in
       let n = cover-added tableBase (p .k) (tablesOf p) s (r .legal) (c .0) (c .1) in (
@@ -256,7 +256,7 @@ module _ (p : Part) (text : List ℕ) where
         },
       )
 
-  offer-possible : Sound p → (s : Sheet) → Readable s → (q : Part) × (a : Answer) × Offer p s q a
+  offer-possible : Sound p → (s : Circuit) → Readable s → (q : Part) × (a : Answer) × Offer p s q a
   offer-possible h s r =
       by-reflects (λ b. (q : Part) × (a : Answer) × either b (Refused p 21 0 q a) (either (isRead (s .out) (tablesOf p)) (Refused p 22 0 q a) (Last q a)))
       (driven-reflects (s .out) (tablesOf p)) (λ d. (p, refused 21 0, (refl, refl)))
@@ -277,7 +277,7 @@ module _ (p : Part) (text : List ℕ) where
       last : (q : Part) × (a : Answer) × Last q a
       last = (filled .0, filled .1, (leastNumber (p .k) s, least, filled .2))
 
-  take-possible : Sound p → (v : Reading) → readOf text ≡ v → (q : Part) × (a : Answer) × Take p v q a
+  take-possible : Sound p → (v : CircuitReading) → readOf text ≡ v → (q : Part) × (a : Answer) × Take p v q a
   take-possible h (sheet s) e = offer-possible h s (reads-right text s e)
   take-possible h (unread number place) e = (p, refused number place, (refl, refl))
 

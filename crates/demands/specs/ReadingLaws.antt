@@ -3,8 +3,8 @@ use Prim.Native.Nat.{ℕ, _≤_}
 use native.Mathlib.Omega.{arith}
 use mathlib.Core.Path.{_≡_, refl, subst}
 use mathlib.Core.List.{List}
-use Rattle.cover.specs.Trusted.CoverTables.{Sheet}
-use Rattle.sheet.specs.Trusted.Sheet.{DrawnSheet, Outcome, sheet as drew, refused as unread}
+use Rattle.cover.specs.Trusted.CoverTables.{Circuit}
+use Rattle.sheet.specs.Trusted.Sheet.{DrawnSheet, SheetReading, sheet as drew, refused as unread}
 use Rattle.sheet.specs.Trusted.Read.{readSheet}
 use Rattle.sheet.specs.Trusted.Trees.{drawn}
 use Rattle.sheet.specs.TreeLaws.{read-drawn}
@@ -13,16 +13,16 @@ use Rattle.part.specs.Trusted.Reading.{sheet, refused, readingOf, readOf}
 use Rattle.demands.specs.Readable.{Readable}
 
 module _ (text : List ℕ) where
-  pub drawn-back : (s : Sheet) → readOf text ≡ sheet s → (d : DrawnSheet) × (readSheet text ≡ drew d) × (drawn d ≡ s)
+  pub drawn-back : (s : Circuit) → readOf text ≡ sheet s → (d : DrawnSheet) × (readSheet text ≡ drew d) × (drawn d ≡ s)
   unfolding readOf
   drawn-back s e = of (readSheet text) refl e
     where
-      of : (o : Outcome) → readSheet text ≡ o → readingOf o ≡ sheet s → (d : DrawnSheet) × (readSheet text ≡ drew d) × (drawn d ≡ s)
+      of : (o : SheetReading) → readSheet text ≡ o → readingOf o ≡ sheet s → (d : DrawnSheet) × (readSheet text ≡ drew d) × (drawn d ≡ s)
       of (drew d) i h = (d, i, cc)
       of (unread number place) i h = let z : _≡_ {A = ℕ} 0 1 = cc in absurd (omega arith)
 
   -- THE LAW OF THE READING
-  pub reads-right : (s : Sheet) → readOf text ≡ sheet s → Readable s
+  pub reads-right : (s : Circuit) → readOf text ≡ sheet s → Readable s
   reads-right s e =
       let b = drawn-back s e in
       let d = read-drawn text (b .0) (b .1) in
@@ -33,6 +33,6 @@ module _ (text : List ℕ) where
   unfolding readOf
   refused-below number place e = of (readSheet text) refl e
     where
-      of : (o : Outcome) → readSheet text ≡ o → readingOf o ≡ refused number place → number ≤ 13
+      of : (o : SheetReading) → readSheet text ≡ o → readingOf o ≡ refused number place → number ≤ 13
       of (drew d) i h = let z : _≡_ {A = ℕ} 0 1 = cc in absurd (omega arith)
       of (unread m l) i h = let e : m ≡ number = cc in omega (arith, refused-told text m l i .known)

@@ -5,17 +5,17 @@ use mathlib.Core.Path.{_≡_}
 use mathlib.Core.Bool.{cond}
 use lib.Dec.{leb}
 use Rattle.plan.specs.Least.{least-tables}
-use Rattle.cover.specs.Trusted.CoverTables.{Sheet}
+use Rattle.cover.specs.Trusted.CoverTables.{Circuit}
 use Rattle.table.specs.Trusted.Rules.{IsNet}
 use Rattle.part.specs.Trusted.Parts.{tablesOf}
 use Rattle.part.specs.Trusted.SoundTest.{sound}
-use Rattle.part.specs.Trusted.Reading.{Reading, sheet, refused as unread}
+use Rattle.part.specs.Trusted.Reading.{CircuitReading, sheet, refused as unread}
 use Rattle.part.specs.Trusted.Answers.{Answer, accepted, refused}
 use Rattle.part.specs.Trusted.Add.{isDriven, isRead}
 use Rattle.part.specs.declared.Part.{Part}
 
 -- the number that the search finds, which is the least number of a sheet that was read (`least-number` in SettledLaws)
-unfoldable pub leastNumber : ℕ → Sheet → ℕ
+unfoldable pub leastNumber : ℕ → Circuit → ℕ
 leastNumber k s = least-tables k (s .tree)
 
 -- two parts that differ in nothing that an answer depends on
@@ -27,15 +27,15 @@ pub record Alike (p q : Part) : Type 0 where
   pub driven : (n : ℕ) → IsNet n → isDriven n (tablesOf p) ≡ isDriven n (tablesOf q)
   pub read : (n : ℕ) → IsNet n → isRead n (tablesOf p) ≡ isRead n (tablesOf q)
 
-abbrev pub offered : Part → Sheet → Answer
+abbrev pub offered : Part → Circuit → Answer
 offered p s =
     cond (isDriven (s .out) (tablesOf p)) (refused 21 0)
     (cond (isRead (s .out) (tablesOf p)) (refused 22 0)
     (cond (leb (leastNumber (p .k) s) (p .capacity - p .used)) accepted (refused 23 0)))
 
-abbrev pub taken : Part → Reading → Answer
+abbrev pub taken : Part → CircuitReading → Answer
 taken p (sheet s) = offered p s
 taken p (unread number place) = refused number place
 
-abbrev pub answerOf : Part → Reading → Answer
+abbrev pub answerOf : Part → CircuitReading → Answer
 answerOf p v = cond (sound p) (taken p v) (refused 20 0)

@@ -13,19 +13,19 @@ use Rattle.lists.specs.TestLaws.{reflects-le, reflects-eq, reflects-or, reflect
 use Rattle.tree.specs.Trusted.Tree.{proper, leaves}
 use Rattle.cover.specs.Trusted.Cover.{Least}
 use Rattle.plan.specs.Least.{least-unique, least-tables, least-is}
-use Rattle.cover.specs.Trusted.CoverTables.{Sheet, Fresh}
+use Rattle.cover.specs.Trusted.CoverTables.{Circuit, Fresh}
 use Rattle.table.specs.Trusted.Limits.{tableBase}
 use Rattle.table.specs.Trusted.Rules.{IsNet}
 use Rattle.part.specs.Trusted.Parts.{tablesOf, Shaped}
 use Rattle.part.specs.Trusted.Sound.{Sound}
 use Rattle.part.specs.Trusted.SoundTest.{sound}
 use Rattle.part.specs.SoundLaws.{sound-reflects}
-use Rattle.part.specs.Trusted.Reading.{Reading, sheet, refused as unread, readOf}
+use Rattle.part.specs.Trusted.Reading.{CircuitReading, sheet, refused as unread, readOf}
 use Rattle.part.specs.Trusted.Answers.{Answer, accepted, refused, Result}
 use Rattle.part.specs.Trusted.Add.{isDriven, isRead, Refused, Accepted, Fill, Offer, Take, Add}
 use Rattle.demands.specs.ExtendLaws.{extended-tables, extended-sound}
 use Rattle.demands.specs.Trusted.Nets.{Driven, Read}
-use Rattle.demands.specs.AddLaws.{driven-reflects, read-reflects, Outcome, unsound, misread, driven, read, full, taken as took, outcome, not-refused}
+use Rattle.demands.specs.AddLaws.{driven-reflects, read-reflects, AddCase, unsound, misread, driven, read, full, taken as took, outcome, not-refused}
 use Rattle.demands.specs.LeafLaws.{reads-after, reads-still, drives-after, drives-still}
 use Rattle.demands.specs.Trusted.Calls.{Call, add, final, Promise, Chain, done, call}
 use Rattle.demands.specs.Readable.{Readable}
@@ -35,7 +35,7 @@ use Rattle.demands.specs.Settled.{leastNumber, Alike, offered, taken, an
 use Rattle.part.specs.declared.Part.{Part}
 
 -- the least number of a sheet that was read
-pub least-number : (k : ℕ) → 2 ≤ k → (s : Sheet) → Readable s → Least k (s .tree) (leastNumber k s)
+pub least-number : (k : ℕ) → 2 ≤ k → (s : Circuit) → Readable s → Least k (s .tree) (leastNumber k s)
 unfolding leastNumber
 least-number k two s r =
     let g = r .root in
@@ -45,7 +45,7 @@ pub alike-refl : (p : Part) → Alike p p
 alike-refl p = record { k = refl; capacity = refl; used = refl; sound = refl; driven = λ n h. refl; read = λ n h. refl }
 
 -- what an accepted sheet changes, of what an answer depends on
-record After (p : Part) (s : Sheet) (q : Part) : Type 0 where
+record After (p : Part) (s : Circuit) (q : Part) : Type 0 where
   k : q .k ≡ p .k
   capacity : q .capacity ≡ p .capacity
   used : q .used ≡ p .used + leastNumber (p .k) s
@@ -53,7 +53,7 @@ record After (p : Part) (s : Sheet) (q : Part) : Type 0 where
   driven : (n : ℕ) → IsNet n → isDriven n (tablesOf q) ≡ (isDriven n (tablesOf p) || eqb (s .out) n)
   read : (n : ℕ) → IsNet n → isRead n (tablesOf q) ≡ (isRead n (tablesOf p) || elem n (leaves (s .tree)))
 
-alike-after : (p p′ q q′ : Part) (s : Sheet) → Alike p p′ → After p s q → After p′ s q′ → Alike q q′
+alike-after : (p p′ q q′ : Part) (s : Circuit) → Alike p p′ → After p s q → After p′ s q′ → Alike q q′
 alike-after p p′ q q′ s g a b = record {
   k = a .k ∙ g .k ∙ sym (b .k);
   capacity = a .capacity ∙ g .capacity ∙ sym (b .capacity);
@@ -66,12 +66,12 @@ alike-after p p′ q q′ s g a b = record {
 -- ---- one add
 
 module _ (p : Part) (text : List ℕ) (q : Part) (a : Answer) where
-  fill-answer : (s : Sheet) → Fill p s (leastNumber (p .k) s) q a → a ≡ cond (leb (leastNumber (p .k) s) (p .capacity - p .used)) accepted (refused 23 0)
+  fill-answer : (s : Circuit) → Fill p s (leastNumber (p .k) s) q a → a ≡ cond (leb (leastNumber (p .k) s) (p .capacity - p .used)) accepted (refused 23 0)
   fill-answer s =
       by-reflects (λ b. either b (Accepted p s q a) (Refused p 23 0 q a) → a ≡ cond b accepted (refused 23 0))
       (reflects-le (leastNumber (p .k) s) (p .capacity - p .used)) (λ l t. t .answer) (λ l r. r .1)
 
-  offer-answer : Sound p → (s : Sheet) → readOf text ≡ sheet s → Offer p s q a → a ≡ offered p s
+  offer-answer : Sound p → (s : Circuit) → readOf text ≡ sheet s → Offer p s q a → a ≡ offered p s
   offer-answer h s e =
       by-reflects (λ b. either b (Refused p 21 0 q a) Others → a ≡ cond b (refused 21 0) others) (driven-reflects (s .out) (tablesOf p))
       (λ d r. r .1)
@@ -91,7 +91,7 @@ module _ (p : Part) (text : List ℕ) (q : Part) (a : Answer) where
       others : Answer
       others = cond (isRead (s .out) (tablesOf p)) (refused 22 0) last
 
-  take-answer : Sound p → (v : Reading) → readOf text ≡ v → Take p v q a → a ≡ taken p v
+  take-answer : Sound p → (v : CircuitReading) → readOf text ≡ v → Take p v q a → a ≡ taken p v
   take-answer h (sheet s) e o = offer-answer h s e o
   take-answer h (unread number place) e r = r .1
 
@@ -104,12 +104,12 @@ module _ (p : Part) (text : List ℕ) (q : Part) (a : Answer) where
 
 -- ---- adds on parts that are alike
 
-alike-offered : (p q : Part) (s : Sheet) → IsNet (s .out) → Alike p q → offered p s ≡ offered q s
+alike-offered : (p q : Part) (s : Circuit) → IsNet (s .out) → Alike p q → offered p s ≡ offered q s
 alike-offered p q s h g = λ i.
     cond (g .driven (s .out) h i) (refused 21 0)
     (cond (g .read (s .out) h i) (refused 22 0) (cond (leb (leastNumber (g .k i) s) (g .capacity i - g .used i)) accepted (refused 23 0)))
 
-alike-taken : (p q : Part) (text : List ℕ) (v : Reading) → readOf text ≡ v → Alike p q → taken p v ≡ taken q v
+alike-taken : (p q : Part) (text : List ℕ) (v : CircuitReading) → readOf text ≡ v → Alike p q → taken p v ≡ taken q v
 alike-taken p q text (sheet s) e g = let l = reads-right text s e .legal .out-net in alike-offered p q s (omega arith) g
 alike-taken p q text (unread number place) e g = refl
 
@@ -121,10 +121,10 @@ abbrev Stays : Part → Part → Answer → Type 0
 Stays p q a = (number : ℕ) × (place : ℕ) × Refused p number place q a
 
 abbrev Takes : Part → List ℕ → Part → Answer → Type 0
-Takes p text q a = (s : Sheet) × (readOf text ≡ sheet s) × After p s q × (a ≡ accepted)
+Takes p text q a = (s : Circuit) × (readOf text ≡ sheet s) × After p s q × (a ≡ accepted)
 
 module _ (p : Part) (shape : Shaped p) (text : List ℕ) where
-  accepted-after : (s : Sheet) (q : Part) (a : Answer) → Sound p → readOf text ≡ sheet s → Fresh s (tablesOf p) → (t : Accepted p s q a) →
+  accepted-after : (s : Circuit) (q : Part) (a : Answer) → Sound p → readOf text ≡ sheet s → Fresh s (tablesOf p) → (t : Accepted p s q a) →
       p .used + length (t .new) ≤ p .capacity → After p s q
   accepted-after s q a h e f t room = record {
     k = ap (λ q. q .k) (t .part);
@@ -142,7 +142,7 @@ module _ (p : Part) (shape : Shaped p) (text : List ℕ) where
       grown : tablesOf q ≡ tablesOf p ++ t .new
       grown = ap tablesOf (t .part) ∙ extended-tables p shape h (t .new)
 
-  stays-or-takes : {q : Part} {a : Answer} → Outcome p text q a → Stays p q a ⊎ Takes p text q a
+  stays-or-takes : {q : Part} {a : Answer} → AddCase p text q a → Stays p q a ⊎ Takes p text q a
   stays-or-takes (unsound n r) = inl (20, 0, r)
   stays-or-takes (misread number place h e r) = inl (number, place, r)
   stays-or-takes (driven s h e d r) = inl (21, 0, r)

@@ -8,8 +8,8 @@ use mathlib.Core.List.{List, [], _∷_, _++_, append-assoc, append-nil, Memᴰ·
 use lib.ListN.{length, length-take}
 use Rattle.lists.specs.Trusted.Lists.{_∈_, first, later, Every}
 use Rattle.lists.specs.ListLaws.{every-none, every-cons, every-append}
-use Rattle.cover.specs.Trusted.Tables.{Table as LookupTable}
-use Rattle.cover.specs.Trusted.CoverTables.{Sheet}
+use Rattle.cover.specs.Trusted.Tables.{LookupTable}
+use Rattle.cover.specs.Trusted.CoverTables.{Circuit}
 use Rattle.cover.specs.History.{History, start, Met}
 use Rattle.cover.specs.HistoryLaws.{history-met}
 use Rattle.sheet.specs.Trusted.Sheet.{DrawnSheet, sheet as drew}
@@ -25,7 +25,7 @@ use Rattle.part.specs.Trusted.Answers.{Answer, accepted, refused, Result}
 use Rattle.part.specs.Trusted.Add.{opened, Refused}
 use Rattle.demands.specs.ReadingLaws.{drawn-back}
 use Rattle.demands.specs.ExtendLaws.{every-map, extended-tables}
-use Rattle.demands.specs.AddLaws.{opened-shaped, opened-empty, Outcome, unsound, misread, driven, read, full, taken, outcome}
+use Rattle.demands.specs.AddLaws.{opened-shaped, opened-empty, AddCase, unsound, misread, driven, read, full, taken, outcome}
 use Rattle.demands.specs.Trusted.Calls.{Call, add, final, sheetsRead, ifAccepted, Promise, sheetsOf, Chain, done, call, acceptedIn, Link, here, next}
 use Rattle.demands.specs.Trusted.Demands.{Taken, valuesIn, lastPart, Served, CallServed}
 use Rattle.demands.specs.CountLaws.{call-kept, counted}
@@ -42,7 +42,7 @@ unsound-call : (p : Part) → ¬ (Sound p) → (c : Call) (r : Result) → Promi
     r ≡ record { part = p; answer = refused 20 0 }
 unsound-call p n (add text) r h = go (outcome p text (r .part) (r .answer) h)
   where
-    go : Outcome p text (r .part) (r .answer) → r ≡ record { part = p; answer = refused 20 0 }
+    go : AddCase p text (r .part) (r .answer) → r ≡ record { part = p; answer = refused 20 0 }
     go (unsound m x) = ap₂ (λ q a. record { part = q; answer = a }) (x .0) (x .1)
     go (misread number place h e x) = absurd (n h)
     go (driven s h e d x) = absurd (n h)
@@ -69,11 +69,11 @@ same-grows : (p q : Part) → q ≡ p → Grows p q
 same-grows p q e = ([], ap tablesOf e ∙ sym (append-nil (tablesOf p)))
 
 -- a history of the part goes on by the sheets that the call accepted
-abbrev Goes : ℕ → Part → List Sheet → List Sheet → Type 0
-Goes k q ss more = (all : List Sheet) × History tableBase k (tablesOf q) all × Every (λ s. s ∈ all) ss × Every (λ s. s ∈ all) more
+abbrev Goes : ℕ → Part → List Circuit → List Circuit → Type 0
+Goes k q ss more = (all : List Circuit) × History tableBase k (tablesOf q) all × Every (λ s. s ∈ all) ss × Every (λ s. s ∈ all) more
 
 module _ (p : Part) (shape : Shaped p) (text : List ℕ) where
-  outcome-grows : {q : Part} {a : Answer} → Outcome p text q a → Grows p q
+  outcome-grows : {q : Part} {a : Answer} → AddCase p text q a → Grows p q
   outcome-grows (unsound n r) = same-grows p _ (r .0)
   outcome-grows (misread number place h e r) = same-grows p _ (r .0)
   outcome-grows (driven s h e d r) = same-grows p _ (r .0)
@@ -81,7 +81,7 @@ module _ (p : Part) (shape : Shaped p) (text : List ℕ) where
   outcome-grows (full s n h e f l m r) = same-grows p _ (r .0)
   outcome-grows (taken s h e f t room) = (t .new, ap tablesOf (t .part) ∙ extended-tables p shape h (t .new))
 
-  module _ (ss : List Sheet) (history : History tableBase (p .k) (tablesOf p) ss) where
+  module _ (ss : List Circuit) (history : History tableBase (p .k) (tablesOf p) ss) where
     same-goes : (number place : ℕ) (q : Part) (a : Answer) → Refused p number place q a → Goes (p .k) q ss (ifAccepted a (sheetsRead (readOf text)))
     same-goes number place q a r = (
       ss,
@@ -90,7 +90,7 @@ module _ (p : Part) (shape : Shaped p) (text : List ℕ) where
       subst (λ a. Every (λ s. s ∈ ss) (ifAccepted a (sheetsRead (readOf text)))) (sym (r .1)) (every-none _),
     )
 
-    outcome-goes : {q : Part} {a : Answer} → Outcome p text q a → Goes (p .k) q ss (ifAccepted a (sheetsRead (readOf text)))
+    outcome-goes : {q : Part} {a : Answer} → AddCase p text q a → Goes (p .k) q ss (ifAccepted a (sheetsRead (readOf text)))
     outcome-goes (unsound n r) = same-goes _ _ _ _ r
     outcome-goes (misread number place h e r) = same-goes _ _ _ _ r
     outcome-goes (driven s h e d r) = same-goes _ _ _ _ r
@@ -107,7 +107,7 @@ module _ (p : Part) (shape : Shaped p) (text : List ℕ) where
 call-grows : (p : Part) → Shaped p → (c : Call) (q : Part) (a : Answer) → Promise p c q a → Grows p q
 call-grows p shape (add text) q a h = outcome-grows p shape text (outcome p text q a h)
 
-call-goes : (p : Part) → Shaped p → (ss : List Sheet) → History tableBase (p .k) (tablesOf p) ss → (c : Call) (q : Part) (a : Answer) →
+call-goes : (p : Part) → Shaped p → (ss : List Circuit) → History tableBase (p .k) (tablesOf p) ss → (c : Call) (q : Part) (a : Answer) →
     Promise p c q a → Goes (p .k) q ss (ifAccepted a (sheetsOf c))
 call-goes p shape ss g (add text) q a h = outcome-goes p shape text ss g (outcome p text q a h)
 
@@ -118,7 +118,7 @@ chain-grows {p} (call {c = c} {r = r} h t) shape =
     let i = chain-grows t ((call-kept p shape c (r .part) (r .answer) h) .shaped) in
     (g .0 ++ i .0, i .1 ∙ ap (λ ts. ts ++ i .0) (g .1) ∙ append-assoc (tablesOf p) (g .0) (i .0))
 
-chain-goes : {p : Part} {cs : List Call} {rs : List Result} → Chain p cs rs → Shaped p → (ss : List Sheet) →
+chain-goes : {p : Part} {cs : List Call} {rs : List Result} → Chain p cs rs → Shaped p → (ss : List Circuit) →
     History tableBase (p .k) (tablesOf p) ss → Goes (p .k) (final p rs) ss (acceptedIn cs rs)
 chain-goes {p} done shape ss g = (ss, g, λ s m. m, every-none _)
 chain-goes {p} (call {c = c} {cs = cs} {r = r} {rs = rs} h t) shape ss g =
@@ -133,19 +133,19 @@ chain-goes {p} (call {c = c} {cs = cs} {r = r} {rs = rs} h t) shape ss g =
 
 -- ---- one call of the chain
 
-link-grows : {p o : Part} {cs : List Call} {rs : List Result} {ss : List Sheet} {d : Call} {t : Result} → Link p cs rs ss o d t →
+link-grows : {p o : Part} {cs : List Call} {rs : List Result} {ss : List Circuit} {d : Call} {t : Result} → Link p cs rs ss o d t →
     Chain p cs rs → Shaped p → Grows (t .part) (final p rs)
 link-grows {p} {d = d} {t = t} here (call h rest) shape = chain-grows rest ((call-kept p shape d (t .part) (t .answer) h) .shaped)
 link-grows {p} (next {c = c} {r = r} l) (call h rest) shape = link-grows l rest ((call-kept p shape c (r .part) (r .answer) h) .shaped)
 
-link-accepted : {p o : Part} {cs : List Call} {rs : List Result} {ss : List Sheet} {d : Call} {t : Result} → Link p cs rs ss o d t →
+link-accepted : {p o : Part} {cs : List Call} {rs : List Result} {ss : List Circuit} {d : Call} {t : Result} → Link p cs rs ss o d t →
     Every (λ s. s ∈ acceptedIn cs rs) (ifAccepted (t .answer) (sheetsOf d))
 link-accepted (here {cs = cs} {rs = rs}) s m = Memᴰ·append-left (acceptedIn cs rs) m
 link-accepted (next {c = c} {r = r} l) s m = Memᴰ·append-right (ifAccepted (r .answer) (sheetsOf c)) (link-accepted l s m)
 
 module _ (p : Part) (shape : Shaped p) (history : History tableBase (p .k) (tablesOf p) []) (cs : List Call) (rs : List Result)
     (chain : Chain p cs rs) where
-  add-served : (ss : List Sheet) (o : Part) (text : List ℕ) (r : Result) → Link p cs rs ss o (add text) r → r .answer ≡ accepted →
+  add-served : (ss : List Circuit) (o : Part) (text : List ℕ) (r : Result) → Link p cs rs ss o (add text) r → r .answer ≡ accepted →
       (d : DrawnSheet) × (new : List LookupTable) × Served (final p rs) o text r d new
   add-served ss o text r l e = (
     d .0,
@@ -158,7 +158,7 @@ module _ (p : Part) (shape : Shaped p) (history : History tableBase (p .k) (tabl
     },
   )
     where
-      t : (s : Sheet) × (new : List LookupTable) × Taken (p .k) o text (r .part) s new
+      t : (s : Circuit) × (new : List LookupTable) × Taken (p .k) o text (r .part) s new
       t = (counted p shape cs rs chain) .each ss o (add text) r l .2 .taken e
 
       d : (d : DrawnSheet) × (readSheet text ≡ drew d) × (drawn d ≡ t .0)
@@ -173,12 +173,12 @@ module _ (p : Part) (shape : Shaped p) (history : History tableBase (p .k) (tabl
       met : (σ : ℕ → Bool) → Met (valuesIn (final p rs) σ) (t .0)
       met σ = history-met tableBase (p .k) (g .1) σ (t .0) (g .3 (t .0) (link-accepted l (t .0) mine))
 
-  served : (ss : List Sheet) (o : Part) (c : Call) (r : Result) → Link p cs rs ss o c r → CallServed (final p rs) o c r
+  served : (ss : List Circuit) (o : Part) (c : Call) (r : Result) → Link p cs rs ss o c r → CallServed (final p rs) o c r
   served ss o (add text) r l = add-served ss o text r l
 
 -- DEMAND 2: every list of calls from an opening
 pub opened-served : (k capacity : ℕ) → (opened k capacity) .answer ≡ accepted → (cs : List Call) (rs : List Result) →
-    Chain ((opened k capacity) .part) cs rs → (ss : List Sheet) (o : Part) (c : Call) (r : Result) →
+    Chain ((opened k capacity) .part) cs rs → (ss : List Circuit) (o : Part) (c : Call) (r : Result) →
     Link ((opened k capacity) .part) cs rs ss o c r → CallServed (lastPart k capacity rs) o c r
 opened-served k capacity a cs rs chain ss o c r l =
     let e = opened-empty k capacity a in

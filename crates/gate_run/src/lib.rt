@@ -3,7 +3,7 @@ ghost use mathlib.Core.Path.{_≡_};
 ghost use Prim.Native.Nat.{_+_, _<_, _≤_};
 ghost use Rattle.mapper_laws.specs.CodeRun.{pushed, placedIf, operandAt, replaced, heldIf, joined, Joins, Holds, Advances, Advanced, Runnable, Ran};
 use mapper_laws::Operands;
-use mapper_laws::Run;
+use mapper_laws::PlanRun;
 use merge::merge;
 use merge::single;
 use pending::Pending;
@@ -13,7 +13,7 @@ use table::Table;
 use tree::Kind;
 
 // One operand more.
-fn push(run: Run, x: Pending) -> Run
+fn push(run: PlanRun, x: Pending) -> PlanRun
     requires { ⌜ run .depth < 10 ⌝ }
     ensures { λ r. ⌜ r ≡ pushed run x ⌝ }
 {
@@ -26,7 +26,7 @@ fn push(run: Run, x: Pending) -> Run
 }
 
 // A table placed, where the flag says so.
-fn place(run: Run, cut: bool, t: Table) -> Run
+fn place(run: PlanRun, cut: bool, t: Table) -> PlanRun
     requires { ⌜ run .placed < 18 ⌝ }
     ensures { λ r. ⌜ r ≡ placedIf cut run t ⌝ }
 {
@@ -41,7 +41,7 @@ fn place(run: Run, cut: bool, t: Table) -> Run
 }
 
 // The operand i, counted from the bottom.
-pub fn operand(run: Run, i: usize) -> Pending
+pub fn operand(run: PlanRun, i: usize) -> Pending
     requires { ⌜ i < 10 ⌝ }
     ensures { λ r. ⌜ r ≡ operandAt run i ⌝ }
 {
@@ -49,7 +49,7 @@ pub fn operand(run: Run, i: usize) -> Pending
 }
 
 // The two operands on top replaced by one that is read upright.
-fn replace(run: Run, t: Table) -> Run
+fn replace(run: PlanRun, t: Table) -> PlanRun
     requires { ⌜ (2 ≤ run .depth) × (run .depth ≤ 10) ⌝ }
     ensures { λ r. ⌜ r ≡ replaced run t ⌝ }
 {
@@ -82,7 +82,7 @@ pub fn hold(first: u16, placed: u8, cut: bool, x: Pending) -> Pending
 }
 
 // The two operands on top joined, each placed first where its flag says so.
-fn join(run: Run, first: u16, kind: Kind, l: bool, r: bool) -> Run
+fn join(run: PlanRun, first: u16, kind: Kind, l: bool, r: bool) -> PlanRun
     requires { ⌜ Joins first l r run ⌝ }
     ensures { λ s. ⌜ s ≡ joined first kind l r run ⌝ }
 {
@@ -97,7 +97,7 @@ fn join(run: Run, first: u16, kind: Kind, l: bool, r: bool) -> Run
 }
 
 // A step of the plan of a gate with those fanins.
-fn advance(run: Run, first: u16, kind: Kind, operands: Operands, token: Token) -> Run
+fn advance(run: PlanRun, first: u16, kind: Kind, operands: Operands, token: Token) -> PlanRun
     requires { ⌜ Advances first kind operands token run ⌝ }
     ensures { λ r. ⌜ Advanced first kind operands token run r ⌝ }
 {
@@ -111,7 +111,7 @@ fn advance(run: Run, first: u16, kind: Kind, operands: Operands, token: Token) -
 }
 
 // A run that has not begun.
-fn start() -> Run
+fn start() -> PlanRun
     ensures { λ r. ⌜ Holds r × (r .depth ≡ 0) × (r .placed ≡ 0) ⌝ }
 {
     let table = Table {
@@ -124,7 +124,7 @@ fn start() -> Run
         inverted: false,
         table,
     };
-    Run {
+    PlanRun {
         depth: 0,
         stack: [none; 10],
         placed: 0,
@@ -133,7 +133,7 @@ fn start() -> Run
 }
 
 // Follows the plan of a gate with those fanins, where so many tables stand before those that it places.
-pub fn follow(first: u16, kind: Kind, operands: Operands, plan: Plan) -> Run
+pub fn follow(first: u16, kind: Kind, operands: Operands, plan: Plan) -> PlanRun
     requires { ⌜ Runnable first kind operands plan ⌝ }
     ensures { λ r. ⌜ Ran first kind operands plan r ⌝ }
 {

@@ -11,22 +11,22 @@ use Rattle.table.specs.Trusted.Records.{blank}
 use Rattle.part.specs.declared.Part.{Part}
 use Rattle.part.specs.Trusted.SoundTest.{sound}
 use Rattle.part.specs.Trusted.Listing.{tableLine, lineOf, listOf}
-pub use Rattle.list_line.specs.Trusted.Writes.{Result, wrote, refused, Outcome, pasted}
+pub use Rattle.list_line.specs.Trusted.Writes.{WriteResult, wrote, refused, WriteOutcome, pasted}
 
 -- turned down: no byte is altered
-abbrev pub turnedDown : ℕ → List ℕ → Outcome
+abbrev pub turnedDown : ℕ → List ℕ → WriteOutcome
 turnedDown number old = record { result = refused number 0; bytes = old }
 
 -- 14 where fewer bytes are left from the place on, or the place is past the end
-abbrev pub fitted : List ℕ → ℕ → List ℕ → Outcome
+abbrev pub fitted : List ℕ → ℕ → List ℕ → WriteOutcome
 fitted old at new = cond (leb (at + length new) (length old)) (record { result = wrote (length new); bytes = pasted old at new }) (turnedDown 14 old)
 
 -- WRITING A LINE: 20, then 15, then 14
-abbrev pub lineWritten : Part → ℕ → List ℕ → ℕ → Outcome
+abbrev pub lineWritten : Part → ℕ → List ℕ → ℕ → WriteOutcome
 lineWritten p line old at = cond (sound p) (cond (leb line (p .used)) (fitted old at (lineOf p line)) (turnedDown 15 old)) (turnedDown 20 old)
 
 -- WRITING THE LIST: 20, then 14
-abbrev pub listWritten : Part → List ℕ → ℕ → Outcome
+abbrev pub listWritten : Part → List ℕ → ℕ → WriteOutcome
 listWritten p old at = cond (sound p) (fitted old at (listOf p)) (turnedDown 20 old)
 
 -- the lines of the first n tables, one after another

@@ -17,7 +17,7 @@ use part::Part;
 const TOP: usize = 19;
 
 // What a write answers: how many bytes were written, or why none was. Lines in specs/ gives the refusals' numbers.
-pub enum Answer {
+pub enum WriteAnswer {
     Wrote(usize),
     NotSound,
     NoLine,
@@ -25,30 +25,30 @@ pub enum Answer {
 }
 
 // Writes a line of the part's list from the place on: line 0, or the line of a table.
-pub fn write_line(p: Part, line: u32, buf: &mut [u8], at: usize) -> Answer
+pub fn write_line(p: Part, line: u32, buf: &mut [u8], at: usize) -> WriteAnswer
     ensures { λ r. ⌜ record { result = resultOf r; bytes = now (buf .exit) } ≡ lineWritten p line (now (buf .entry)) at ⌝ }
 {
     if !p.sound() {
-        return Answer::NotSound;
+        return WriteAnswer::NotSound;
     }
     if line > p.used as u32 {
-        return Answer::NoLine;
+        return WriteAnswer::NoLine;
     }
     if line == 0 {
         if !has_room(buf.len(), at, TOP) {
-            return Answer::NoRoom;
+            return WriteAnswer::NoRoom;
         }
         put_top(buf, at, p.k, p.capacity, p.used);
-        return Answer::Wrote(TOP);
+        return WriteAnswer::Wrote(TOP);
     }
     let t = (line - 1) as usize;
     let r = p.tables[t];
     let width = table_width(r);
     if !has_room(buf.len(), at, width) {
-        return Answer::NoRoom;
+        return WriteAnswer::NoRoom;
     }
     put_table(buf, at, line as u16, r);
-    Answer::Wrote(width)
+    WriteAnswer::Wrote(width)
 }
 
 // The bytes of the lines of the part's tables.
@@ -84,25 +84,25 @@ fn put_tables(buf: &mut [u8], at: usize, p: Part)
 }
 
 // Writes the list of a sound part from the place on.
-pub fn write_sound_list(p: Part, buf: &mut [u8], at: usize) -> Answer
+pub fn write_sound_list(p: Part, buf: &mut [u8], at: usize) -> WriteAnswer
     requires { ⌜ isSound p ≡ true ⌝ }
     ensures { λ r. ⌜ record { result = resultOf r; bytes = now (buf .exit) } ≡ listWritten p (now (buf .entry)) at ⌝ }
 {
     let width = TOP + tables_width(p);
     if !has_room(buf.len(), at, width) {
-        return Answer::NoRoom;
+        return WriteAnswer::NoRoom;
     }
     put_top(buf, at, p.k, p.capacity, p.used);
     put_tables(buf, at + TOP, p);
-    Answer::Wrote(width)
+    WriteAnswer::Wrote(width)
 }
 
 // Writes the part's list from the place on: every line, after one test of soundness.
-pub fn write_list(p: Part, buf: &mut [u8], at: usize) -> Answer
+pub fn write_list(p: Part, buf: &mut [u8], at: usize) -> WriteAnswer
     ensures { λ r. ⌜ record { result = resultOf r; bytes = now (buf .exit) } ≡ listWritten p (now (buf .entry)) at ⌝ }
 {
     if !p.sound() {
-        return Answer::NotSound;
+        return WriteAnswer::NotSound;
     }
     write_sound_list(p, buf, at)
 }

@@ -11,13 +11,13 @@ use gate_mapper::gate::gather;
 use gate_mapper::gate::map_gate;
 use gate_mapper::pair::map_pair;
 use mapper_laws::Mapping;
-use mapper_laws::Run;
+use mapper_laws::PlanRun;
 use merge::inverted;
 use sheet::Sheet;
 use table::Table;
 
 // The tables that a run placed, staged after the others.
-fn stage(mapping: Mapping, run: Run) -> Mapping
+fn stage(mapping: Mapping, run: PlanRun) -> Mapping
     requires { ⌜ (mapping .count + run .placed ≤ 256) × (run .placed ≤ 18) ⌝ }
     ensures { λ r. ⌜ Staged mapping run r ⌝ }
 {

@@ -11,9 +11,9 @@ use Rattle.plan.specs.declared.Token.{Token}
 use Rattle.plan.specs.Key.{leaf-key}
 use Rattle.plan.specs.Reach.{LeastReach}
 use Rattle.plan.specs.Plans.{Planned}
-use Rattle.plan.specs.Entries.{Good as GoodKeys}
-use Rattle.cover.specs.Trusted.Tables.{Table as LookupTable}
-use Rattle.cover.specs.Trusted.CoverTables.{AddedLeast}
+use Rattle.plan.specs.Entries.{GoodKeys}
+use Rattle.cover.specs.Trusted.Tables.{LookupTable}
+use Rattle.cover.specs.Trusted.CoverTables.{LeastCoverTables}
 use Rattle.plan.specs.Limits.{mostBelow}
 use Rattle.sheet.specs.declared.Edge.{Edge}
 use Rattle.sheet.specs.declared.Gate.{Gate}
@@ -27,10 +27,10 @@ use Rattle.table.specs.declared.Table.{Table}
 use Rattle.table.specs.Trusted.Limits.{inputRoom, tableRoom}
 use Rattle.table.specs.Trusted.Records.{tableOf, recordOf}
 use Rattle.mapper_laws.specs.declared.Mapping.{Mapping}
-use Rattle.mapper_laws.specs.declared.Run.{Run}
-use Rattle.pending.specs.Pendings.{Kept, Neat}
+use Rattle.mapper_laws.specs.declared.PlanRun.{PlanRun}
+use Rattle.pending.specs.Pendings.{MergeKept, Neat}
 use Rattle.pending.specs.Merging.{invertedOf}
-use Rattle.mapper_laws.specs.Mapping.{Mapped, unmapped, keysOf, heldTable, operandsOf, Progress}
+use Rattle.mapper_laws.specs.Mapping.{GatesMapped, unmapped, keysOf, heldTable, operandsOf, Progress}
 use Rattle.mapper_laws.specs.declared.Operands.{Operands}
 use Rattle.mapper_laws.specs.declared.Held.{Held}
 use Rattle.mapper_laws.specs.declared.MappedGate.{MappedGate}
@@ -83,7 +83,7 @@ pub record GateMapped (K first : ℕ) (k : Kind) (o : Operands) (r : MappedGate)
 -- ---- the fanins of a gate
 
 -- what the code holds of a mapped gate
-pub record HeldIs (h : Held) (d : Mapped) : Type 0 where
+pub record HeldIs (h : Held) (d : GatesMapped) : Type 0 where
   pub table : h .table ≡ recordOf (heldTable codeBase d)
   pub below : h .below ≡ d .key .below
   pub width : length (heldTable codeBase d .inputs) ≡ d .key .width
@@ -93,7 +93,7 @@ pub record HeldIs (h : Held) (d : Mapped) : Type 0 where
 abbrev pub noHeld : Held
 noHeld = record { below = 0; table = noTable }
 
-abbrev pub HeldAll : List Mapped → List Held → Type 0
+abbrev pub HeldAll : List GatesMapped → List Held → Type 0
 HeldAll done hs = (j : ℕ) → j < length done → HeldIs (getD hs j noHeld) (getD done j unmapped)
 
 -- it has so many fanins among those of its sheet, whatever they are
@@ -106,7 +106,7 @@ pub record Reaches (fs : List Edge) (x : Gate) : Type 0 where
   pub gates : Every (λ j. (1 ≤ j) × (j ≤ mostGates)) (faninGates (drawnGate fs x .fanins))
 
 -- the fanins `fs`, gathered, where the gates `done` were mapped
-pub record Gathered (done : List Mapped) (fs : List Edge) (o : Operands) : Type 0 where
+pub record Gathered (done : List GatesMapped) (fs : List Edge) (o : Operands) : Type 0 where
   pub fanins : faninsOf o ≡ operandsOf codeBase done fs
   pub keys : keysIn o ≡ keysOf done fs
   pub neat : (i : ℕ) → i < o .count → Neat (getD (o .fanins) i noPending .table)
@@ -118,7 +118,7 @@ pub record Gathering (fs : List Edge) (held : List Held) (i : ℕ) (o : Operands
   pub some : (i ≤ length fs) × (i ≤ 10)
   pub room : length (o .fanins) ≡ 10
   pub key-room : length (o .keys) ≡ 10
-  pub gathered : (done : List Mapped) → HeldAll done held → Every (λ j. (1 ≤ j) × (j ≤ length done)) (faninGates fs) → Gathered done (take i fs) o
+  pub gathered : (done : List GatesMapped) → HeldAll done held → Every (λ j. (1 ≤ j) × (j ≤ length done)) (faninGates fs) → Gathered done (take i fs) o
 
 abbrev pub Gathers : List Edge → Gate → List Held → Operands → Type 0
 Gathers fs x held o = Gathering (drawnGate fs x .fanins) held (length (drawnGate fs x .fanins)) o
@@ -126,13 +126,13 @@ Gathers fs x held o = Gathering (drawnGate fs x .fanins) held (length (drawnGate
 -- ---- staging
 
 -- the records of the run after those of the mapping
-pub record Staged (m : Mapping) (s : Run) (r : Mapping) : Type 0 where
+pub record Staged (m : Mapping) (s : PlanRun) (r : Mapping) : Type 0 where
   pub count : r .count ≡ m .count + s .placed
   pub tables : take (r .count) (r .tables) ≡ take (m .count) (m .tables) ++ take (s .placed) (s .tables)
   pub room : length (r .tables) ≡ 256
 
 -- the first i of them
-pub record Staging (m : Mapping) (s : Run) (i : ℕ) (r : Mapping) : Type 0 where
+pub record Staging (m : Mapping) (s : PlanRun) (i : ℕ) (r : Mapping) : Type 0 where
   pub count : r .count ≡ m .count
   pub at : i ≤ s .placed
   pub tables : take (m .count + i) (r .tables) ≡ take (m .count) (m .tables) ++ take i (s .tables)
@@ -155,16 +155,16 @@ tablesIn n rs = map tableOf (take n rs)
 pub record SheetMapped (K used : ℕ) (s : Sheet) (r : Mapping) : Type 0 where
   pub room : length (r .tables) ≡ 256
   pub few : r .count ≤ 256
-  pub kept : (i : ℕ) → i < r .count → Kept (getD (r .tables) i noTable)
-  pub least : (old : List LookupTable) → length old ≡ used → AddedLeast codeBase K old (tablesIn (r .count) (r .tables)) (drawn (drawnSheet s))
+  pub kept : (i : ℕ) → i < r .count → MergeKept (getD (r .tables) i noTable)
+  pub least : (old : List LookupTable) → length old ≡ used → LeastCoverTables codeBase K old (tablesIn (r .count) (r .tables)) (drawn (drawnSheet s))
 
 -- the first g gates were mapped
 pub record Going (K used : ℕ) (gs : List DrawnGate) (g : ℕ) (held : List Held) (m : Mapping) : Type 0 where
-  pub done : List Mapped
+  pub done : List GatesMapped
   pub progress : Progress codeBase used K (take g gs) done (tablesIn (m .count) (m .tables))
   pub at : g ≤ length gs
   pub all : HeldAll done held
-  pub kept : Every Kept (take (m .count) (m .tables))
+  pub kept : Every MergeKept (take (m .count) (m .tables))
   pub few : m .count ≤ 256
   pub held-room : length held ≡ mostGates
   pub table-room : length (m .tables) ≡ 256

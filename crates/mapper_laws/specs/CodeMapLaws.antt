@@ -17,7 +17,7 @@ use Rattle.tree.specs.Trusted.Limits.{codeBase}
 use Rattle.plan.specs.declared.Key.{Key}
 use Rattle.plan.specs.declared.Plan.{Plan}
 use Rattle.plan.specs.Key.{leaf-key}
-use Rattle.plan.specs.PlanOf.{Answer, PlanOf}
+use Rattle.plan.specs.PlanOf.{PlanAnswer, PlanOf}
 use Rattle.plan.specs.PlanOfLaws.{plan-answer, answer-most}
 use Rattle.cover.specs.Trusted.Placed.{codes*}
 use Rattle.plan.specs.Steps.{tokens}
@@ -33,7 +33,7 @@ use Rattle.sheet.specs.declared.Gate.{Gate as SheetGate}
 use Rattle.sheet.specs.Trusted.Limits.{mostGates}
 use Rattle.sheet.specs.Trusted.Answers.{drawnGate}
 use Rattle.sheet.specs.Trusted.Sheet.{gateOf, faninGates}
-use Rattle.mapper_laws.specs.declared.Run.{Run}
+use Rattle.mapper_laws.specs.declared.PlanRun.{PlanRun}
 use Rattle.mapper_laws.specs.declared.Operands.{Operands}
 use Rattle.mapper_laws.specs.declared.Held.{Held}
 use Rattle.mapper_laws.specs.declared.Mapping.{Mapping}
@@ -43,7 +43,7 @@ use Rattle.pending.specs.Pendings.{operandOf, Neat}
 use Rattle.mapper_laws.specs.CodeRun.{noTable, noPending, operandAt, faninsOf, Runnable, Ran}
 use Rattle.mapper_laws.specs.CodeRunLaws.{map-at, kept-count, fanin-count, record-neat, stored-all}
 use Rattle.mapper_laws.specs.SafeLaws.{safe-planned}
-use Rattle.mapper_laws.specs.Mapping.{Mapped as MappedOnList, mappedAt, keyOf, heldTable, sourceTable}
+use Rattle.mapper_laws.specs.Mapping.{GatesMapped as MappedOnList, mappedAt, keyOf, heldTable, sourceTable}
 use Rattle.mapper_laws.specs.CodeMap.{leafOf, Begun, withFanin, keysIn, Mappable, GateMapped, noHeld, HeldAll, Reaches, Gathered, Gathering, Staging, Staged}
 
 -- ---- one gate
@@ -63,10 +63,10 @@ module _ {K first : ℕ} {o : Operands} (m : Mappable K first o) where
       ∙ m .widths i j
       ∙ ap (λ a. a .width) (sym (getD-take (o .count) (o .keys) i leaf-key j))
 
-  pub gate-answer : {p : Plan} → PlanOf K (o .count) (o .keys) p → Answer K (keysIn o) p
+  pub gate-answer : {p : Plan} → PlanOf K (o .count) (o .keys) p → PlanAnswer K (keysIn o) p
   gate-answer = plan-answer K (o .count) (o .keys) key-count (m .keys)
 
-  pub gate-runnable : {p : Plan} → Answer K (keysIn o) p → (k : Kind) → Runnable first k o p
+  pub gate-runnable : {p : Plan} → PlanAnswer K (keysIn o) p → (k : Kind) → Runnable first k o p
   gate-runnable a k = record {
     before = m .before;
     good = m .good;
@@ -74,7 +74,7 @@ module _ {K first : ℕ} {o : Operands} (m : Mappable K first o) where
     safe = safe-planned codeBase first k (faninsOf o) (m .keys .table .1) (fanin-count o (m .good) ∙ sym key-count) fanin-widths (m .keys .count .1) (a .planned);
   }
 
-  pub gate-mapped : {p : Plan} {s : Run} → (k : Kind) → Answer K (keysIn o) p → Ran first k o p s → {t : Table} → t ≡ operandAt s 0 .table →
+  pub gate-mapped : {p : Plan} {s : PlanRun} → (k : Kind) → PlanAnswer K (keysIn o) p → Ran first k o p s → {t : Table} → t ≡ operandAt s 0 .table →
       GateMapped K first k o (record { held = record { below = p .key .below; table = t }; run = s })
   gate-mapped {p} k a r e = record {
     tokens = tokens p;
@@ -89,7 +89,7 @@ module _ {K first : ℕ} {o : Operands} (m : Mappable K first o) where
 
 -- ---- staging
 
-module _ (m : Mapping) (s : Run) where
+module _ (m : Mapping) (s : PlanRun) where
   pub staging-start : length (m .tables) ≡ 256 → Staging m s 0 m
   staging-start l = record {
     count = refl;

@@ -12,7 +12,7 @@ use Rattle.table.specs.declared.Table.{Table}
 use Rattle.table.specs.Trusted.Records.{recordOf}
 use Rattle.pending.specs.declared.Pending.{Pending}
 use Rattle.mapper_laws.specs.declared.Operands.{Operands}
-use Rattle.mapper_laws.specs.declared.Run.{Run}
+use Rattle.mapper_laws.specs.declared.PlanRun.{PlanRun}
 use Rattle.mapper_laws.specs.declared.Held.{Held}
 use Rattle.mapper_laws.specs.declared.MappedPair.{MappedPair}
 use Rattle.pending.specs.Operands.{merged}
@@ -56,10 +56,10 @@ twoTables false s t = t ∷ t ∷ []
 twoTables true s t = s ∷ t ∷ []
 
 -- a run that has not begun, and one that has taken both fanins: the second one is the left operand
-abbrev pub noRun : Run
+abbrev pub noRun : PlanRun
 noRun = record { depth = 0; stack = replicate 10 noPending; placed = 0; tables = replicate 18 noTable }
 
-abbrev pub pairTaken : Bool → Held → Bool → Held → Run
+abbrev pub pairTaken : Bool → Held → Bool → Held → PlanRun
 pairTaken i x j y = pushed (pushed noRun (pendingOf j y)) (pendingOf i x)
 
 -- the table that holds them
@@ -79,5 +79,5 @@ module _ (K first : ℕ) (k : Kind) where
   }
 
 -- what is staged of it
-abbrev pub stagedOf : MappedPair → Run
+abbrev pub stagedOf : MappedPair → PlanRun
 stagedOf p = record { depth = 0; stack = []; placed = p .placed; tables = p .tables }

@@ -8,23 +8,23 @@ use Rattle.table.specs.declared.Table.{Table}
 use Rattle.tree.specs.declared.Kind.{Kind}
 use Rattle.tree.specs.Trusted.Limits.{codeBase}
 use Rattle.table.specs.Trusted.Records.{tableOf, recordOf}
-use Rattle.cover.specs.Trusted.Tables.{Table as LookupTable}
+use Rattle.cover.specs.Trusted.Tables.{LookupTable}
 use Rattle.pending.specs.declared.Pending.{Pending}
-use Rattle.mapper_laws.specs.declared.Run.{Run}
+use Rattle.mapper_laws.specs.declared.PlanRun.{PlanRun}
 use Rattle.mapper_laws.specs.declared.Operands.{Operands}
 use Rattle.plan.specs.declared.Token.{Token}
 use Rattle.plan.specs.declared.Plan.{Plan}
 use Rattle.plan.specs.Steps.{tokens}
 use Rattle.pending.specs.Operands.{Operand, single, merged}
 use Rattle.mapper_laws.specs.Run.{State, step, run, SafeStep, SafeRun}
-use Rattle.pending.specs.Pendings.{operandOf, Kept, Neat, Mergeable}
+use Rattle.pending.specs.Pendings.{operandOf, MergeKept, Neat, Mergeable}
 
 -- one operand more
-abbrev pub pushed : Run → Pending → Run
+abbrev pub pushed : PlanRun → Pending → PlanRun
 pushed s x = record { depth = s .depth + 1; stack = set (s .stack) (s .depth) x; placed = s .placed; tables = s .tables }
 
 -- a table placed, where the flag says so
-abbrev pub placedIf : Bool → Run → Table → Run
+abbrev pub placedIf : Bool → PlanRun → Table → PlanRun
 placedIf false s t = s
 placedIf true s t = record { depth = s .depth; stack = s .stack; placed = s .placed + 1; tables = set (s .tables) (s .placed) t }
 
@@ -36,11 +36,11 @@ abbrev pub noPending : Pending
 noPending = record { inverted = false; table = noTable }
 
 -- the operand i, counted from the bottom
-abbrev pub operandAt : Run → ℕ → Pending
+abbrev pub operandAt : PlanRun → ℕ → Pending
 operandAt s i = getD (s .stack) i noPending
 
 -- the two operands on top replaced by one that is read upright
-abbrev pub replaced : Run → Table → Run
+abbrev pub replaced : PlanRun → Table → PlanRun
 replaced s t = record {
   depth = s .depth - 1;
   stack = set (s .stack) (s .depth - 2) (record { inverted = false; table = t });
@@ -56,20 +56,20 @@ heldIf true first placed x = record { inverted = x .inverted; table = recordOf (
 -- the two operands on top joined, each placed first where its flag says so
 module _ (first : ℕ) where
   -- the left operand, the run after it, and the right operand
-  abbrev pub leftOf : Bool → Run → Pending
+  abbrev pub leftOf : Bool → PlanRun → Pending
   leftOf l s = heldIf l first (s .placed) (operandAt s (s .depth - 2))
 
-  abbrev pub leftPlaced : Bool → Run → Run
+  abbrev pub leftPlaced : Bool → PlanRun → PlanRun
   leftPlaced l s = placedIf l s (operandAt s (s .depth - 2) .table)
 
-  abbrev pub rightOf : Bool → Bool → Run → Pending
+  abbrev pub rightOf : Bool → Bool → PlanRun → Pending
   rightOf l r s = heldIf r first (leftPlaced l s .placed) (operandAt s (s .depth - 1))
 
-  abbrev pub joined : Kind → Bool → Bool → Run → Run
+  abbrev pub joined : Kind → Bool → Bool → PlanRun → PlanRun
   joined k l r s =
       replaced (placedIf r (leftPlaced l s) (operandAt s (s .depth - 1) .table)) (recordOf (merged k (operandOf (leftOf l s)) (operandOf (rightOf l r s))))
 
-  pub record Joins (l r : Bool) (s : Run) : Type 0 where
+  pub record Joins (l r : Bool) (s : PlanRun) : Type 0 where
     pub before : first < 2000
     pub depth : (2 ≤ s .depth) × (s .depth ≤ 10)
     pub placed : s .placed + 2 ≤ 18
@@ -82,20 +82,20 @@ abbrev pub stackOf : ℕ → List Pending → List Operand
 stackOf zero ps = []
 stackOf (suc d) ps = operandOf (getD ps d noPending) ∷ stackOf d ps
 
-abbrev pub placedOf : Run → List LookupTable
+abbrev pub placedOf : PlanRun → List LookupTable
 placedOf s = map tableOf (take (s .placed) (s .tables))
 
-abbrev pub stateOf : Run → State
+abbrev pub stateOf : PlanRun → State
 stateOf s = record { stack = stackOf (s .depth) (s .stack); placed = placedOf s }
 
 -- what holds of a run: its counts are within its arrays, its operands' inputs rise, and its records are those of their tables
-pub record Holds (s : Run) : Type 0 where
+pub record Holds (s : PlanRun) : Type 0 where
   pub depth : s .depth ≤ 10
   pub placed : s .placed ≤ 18
   pub stack-room : length (s .stack) ≡ 10
   pub table-room : length (s .tables) ≡ 18
   pub operands : (i : ℕ) → i < s .depth → Neat (operandAt s i .table)
-  pub kept : (i : ℕ) → i < s .placed → Kept (getD (s .tables) i noTable)
+  pub kept : (i : ℕ) → i < s .placed → MergeKept (getD (s .tables) i noTable)
 
 -- ---- a step of a plan
 
@@ -107,13 +107,13 @@ pub record Good (o : Operands) : Type 0 where
   pub room : length (o .fanins) ≡ 10
   pub neat : (i : ℕ) → i < o .count → Neat (getD (o .fanins) i noPending .table)
 
-pub record Advances (first : ℕ) (k : Kind) (o : Operands) (token : Token) (s : Run) : Type 0 where
+pub record Advances (first : ℕ) (k : Kind) (o : Operands) (token : Token) (s : PlanRun) : Type 0 where
   pub before : first < 2000
   pub good : Good o
   pub holds : Holds s
   pub safe : SafeStep codeBase first k (faninsOf o) token (stateOf s)
 
-pub record Advanced (first : ℕ) (k : Kind) (o : Operands) (token : Token) (s s′ : Run) : Type 0 where
+pub record Advanced (first : ℕ) (k : Kind) (o : Operands) (token : Token) (s s′ : PlanRun) : Type 0 where
   pub holds : Holds s′
   pub state : stateOf s′ ≡ step codeBase first k (faninsOf o) token (stateOf s)
 
@@ -128,12 +128,12 @@ pub record Runnable (first : ℕ) (k : Kind) (o : Operands) (p : Plan) : Type 0 
   pub len : p .len ≤ 19
   pub safe : SafeRun codeBase first k (faninsOf o) (tokens p) begun
 
-pub record Ran (first : ℕ) (k : Kind) (o : Operands) (p : Plan) (s : Run) : Type 0 where
+pub record Ran (first : ℕ) (k : Kind) (o : Operands) (p : Plan) (s : PlanRun) : Type 0 where
   pub holds : Holds s
   pub state : stateOf s ≡ run codeBase first k (faninsOf o) (tokens p) begun
 
 -- the first i steps were taken
-pub record Following (first : ℕ) (k : Kind) (o : Operands) (p : Plan) (i : ℕ) (s : Run) : Type 0 where
+pub record Following (first : ℕ) (k : Kind) (o : Operands) (p : Plan) (i : ℕ) (s : PlanRun) : Type 0 where
   pub at : i ≤ p .len
   pub holds : Holds s
   pub safe : SafeRun codeBase first k (faninsOf o) (drop i (tokens p)) (stateOf s)

@@ -13,7 +13,7 @@ use Rattle.lists.specs.ListLaws.{every-none, drop-past}
 use Rattle.lists.specs.NumberLaws.{sorted-sorted}
 use Rattle.tree.specs.declared.Kind.{Kind}
 use Rattle.tree.specs.Trusted.Limits.{codeBase}
-use Rattle.cover.specs.Trusted.Tables.{Table as LookupTable}
+use Rattle.cover.specs.Trusted.Tables.{LookupTable}
 use Rattle.table.specs.declared.Table.{Table}
 use Rattle.table.specs.Trusted.Limits.{inputRoom}
 use Rattle.table.specs.Trusted.Records.{tableOf, recordOf}
@@ -24,26 +24,26 @@ use Rattle.plan.specs.declared.Plan.{Plan}
 use Rattle.plan.specs.Steps.{tokens}
 use Rattle.plan.specs.declared.Token.{Token}
 use Rattle.plan.specs.declared.Token.the-variants.{Push, Join}
-use Rattle.mapper_laws.specs.declared.Run.{Run}
+use Rattle.mapper_laws.specs.declared.PlanRun.{PlanRun}
 use Rattle.mapper_laws.specs.declared.Operands.{Operands}
 use Rattle.pending.specs.Operands.{Operand, single, merged}
 use Rattle.mapper_laws.specs.Run.{operand, tables, joinTop, step, run, SafeJoin, SafeStep, SafeRun}
 use Rattle.mapper_laws.specs.SafeLaws.{merged-length}
-use Rattle.pending.specs.Pendings.{operandOf, Kept, Neat}
+use Rattle.pending.specs.Pendings.{operandOf, MergeKept, Neat}
 use Rattle.mapper_laws.specs.CodeRun.{pushed, placedIf, noTable, noPending, operandAt, replaced, heldIf, leftOf, leftPlaced, rightOf, joined, Joins, stackOf, placedOf, stateOf, Holds, faninsOf, Good, Advances, Advanced, begun, Runnable, Ran, Following}
 
 -- ---- the code's steps
 
-pub placed-depth : (l : Bool) (s : Run) (t : Table) → placedIf l s t .depth ≡ s .depth
+pub placed-depth : (l : Bool) (s : PlanRun) (t : Table) → placedIf l s t .depth ≡ s .depth
 placed-depth false s t = refl
 placed-depth true s t = refl
 
-pub placed-count : (l : Bool) (s : Run) (t : Table) → placedIf l s t .placed ≤ s .placed + 1
+pub placed-count : (l : Bool) (s : PlanRun) (t : Table) → placedIf l s t .placed ≤ s .placed + 1
 placed-count false s t = omega arith
 placed-count true s t = omega arith
 
 -- a join by its parts
-pub joined-by : (first : ℕ) (k : Kind) (l r : Bool) (s : Run) {x y a b : Pending} {left both : Run} {t : Table} {s′ : Run} →
+pub joined-by : (first : ℕ) (k : Kind) (l r : Bool) (s : PlanRun) {x y a b : Pending} {left both : PlanRun} {t : Table} {s′ : PlanRun} →
     x ≡ operandAt s (s .depth - 2) → y ≡ operandAt s (s .depth - 1) → a ≡ heldIf l first (s .placed) x → left ≡ placedIf l s (x .table) →
     b ≡ heldIf r first (left .placed) y → both ≡ placedIf r left (y .table) → t ≡ recordOf (merged k (operandOf a) (operandOf b)) →
     s′ ≡ replaced both t → s′ ≡ joined first k l r s
@@ -57,7 +57,7 @@ record-neat t l s = record {
   sorted = subst Sorted (sym (ap (λ u. u .inputs) (read-back t))) s;
 }
 
-pub kept-count : (r : Table) → Kept r → r .count ≡ length (tableOf r .inputs)
+pub kept-count : (r : Table) → MergeKept r → r .count ≡ length (tableOf r .inputs)
 kept-count r k = ap (λ q. q .count) (k .padded)
 
 -- ---- as a run on lists
@@ -78,16 +78,16 @@ stored-all P z xs d x l h p i m =
     (λ e. subst (λ j. P (getD (set xs d x) j z)) (sym e) (rw (getD-set-same xs d x z l) p))
     (λ e. rw (getD-set-other xs d i x z e) (h i (omega arith)))
 
-pub placed-length : (s : Run) → Holds s → length (placedOf s) ≡ s .placed
+pub placed-length : (s : PlanRun) → Holds s → length (placedOf s) ≡ s .placed
 placed-length s h = length-map (take (s .placed) (s .tables)) tableOf ∙ length-take-le (s .placed) (s .tables) (omega (arith, h .placed, h .table-room))
 
 -- one operand more
-pub pushed-state : (s : Run) (x : Pending) → Holds s → s .depth < 10 → stateOf (pushed s x) ≡ record { stack = operandOf x ∷ stateOf s .stack; placed = placedOf s }
+pub pushed-state : (s : PlanRun) (x : Pending) → Holds s → s .depth < 10 → stateOf (pushed s x) ≡ record { stack = operandOf x ∷ stateOf s .stack; placed = placedOf s }
 pushed-state s x h l =
     ap (λ st. record { stack = st; placed = placedOf s })
     (ap (λ d. stackOf d (set (s .stack) (s .depth) x)) (add-one (s .depth)) ∙ stack-put (s .depth) (s .stack) x (omega (arith, h .stack-room)))
 
-pub pushed-holds : (s : Run) (x : Pending) → Holds s → s .depth < 10 → Neat (x .table) → Holds (pushed s x)
+pub pushed-holds : (s : PlanRun) (x : Pending) → Holds s → s .depth < 10 → Neat (x .table) → Holds (pushed s x)
 pushed-holds s x h l n = record {
   depth = omega arith;
   placed = h .placed;
@@ -109,13 +109,13 @@ module _ (first : ℕ) where
   held-neat false placed x n = n
   held-neat true placed x n = record-neat (single (codeBase + (first + placed) + 1)) (omega arith) (every-none _, tt)
 
-  placed-tables : (l : Bool) (s : Run) (x : Pending) → Holds s → s .placed < 18 → placedOf (placedIf l s (x .table)) ≡ tables codeBase first l (placedOf s) (operandOf x)
+  placed-tables : (l : Bool) (s : PlanRun) (x : Pending) → Holds s → s .placed < 18 → placedOf (placedIf l s (x .table)) ≡ tables codeBase first l (placedOf s) (operandOf x)
   placed-tables false s x h l = refl
   placed-tables true s x h l =
       ap (map tableOf) (ap (λ n. take n (set (s .tables) (s .placed) (x .table))) (add-one (s .placed)) ∙ take-suc-set (s .tables) (s .placed) (x .table) (omega (arith, h .table-room)))
       ∙ map-append tableOf (take (s .placed) (s .tables)) (x .table ∷ [])
 
-  placed-holds : (l : Bool) (s : Run) (x : Pending) → Holds s → s .placed < 18 → Kept (x .table) → Holds (placedIf l s (x .table))
+  placed-holds : (l : Bool) (s : PlanRun) (x : Pending) → Holds s → s .placed < 18 → MergeKept (x .table) → Holds (placedIf l s (x .table))
   placed-holds false s x h m k = h
   placed-holds true s x h m k = record {
     depth = h .depth;
@@ -123,12 +123,12 @@ module _ (first : ℕ) where
     stack-room = h .stack-room;
     table-room = length-set (s .tables) (s .placed) (x .table) ∙ h .table-room;
     operands = h .operands;
-    kept = stored-all Kept noTable (s .tables) (s .placed) (x .table) (omega (arith, h .table-room)) (h .kept) k;
+    kept = stored-all MergeKept noTable (s .tables) (s .placed) (x .table) (omega (arith, h .table-room)) (h .kept) k;
   }
 
   -- ---- joining
 
-  placed-stack : (l : Bool) (s : Run) (t : Table) → placedIf l s t .stack ≡ s .stack
+  placed-stack : (l : Bool) (s : PlanRun) (t : Table) → placedIf l s t .stack ≡ s .stack
   placed-stack false s t = refl
   placed-stack true s t = refl
 
@@ -141,13 +141,13 @@ module _ (first : ℕ) where
   safe-depth k fanins l r (suc zero) ps ts h = absurd h
   safe-depth k fanins l r (suc (suc d)) ps ts h = omega arith
 
-  stack-two : (s : Run) → 2 ≤ s .depth →
+  stack-two : (s : PlanRun) → 2 ≤ s .depth →
       stackOf (s .depth) (s .stack) ≡ operandOf (operandAt s (s .depth - 1)) ∷ (operandOf (operandAt s (s .depth - 2)) ∷ stackOf (s .depth - 2) (s .stack))
   stack-two s l =
       ap (λ d. stackOf d (s .stack)) (let e : s .depth ≡ suc (suc (s .depth - 2)) = omega arith in e)
       ∙ ap (λ d. operandOf (operandAt s d) ∷ (operandOf (operandAt s (s .depth - 2)) ∷ stackOf (s .depth - 2) (s .stack))) (let e : suc (s .depth - 2) ≡ s .depth - 1 = omega arith in e)
 
-  module _ (k : Kind) (fanins : List Operand) (l r : Bool) (s : Run) (h : Holds s) (few : first < 2000)
+  module _ (k : Kind) (fanins : List Operand) (l r : Bool) (s : PlanRun) (h : Holds s) (few : first < 2000)
       (safe : SafeJoin codeBase first k fanins l r (stateOf s .stack) (placedOf s)) where
     two : 2 ≤ s .depth
     two = safe-depth k fanins l r (s .depth) (s .stack) (placedOf s) safe
@@ -158,7 +158,7 @@ module _ (first : ℕ) where
     abbrev y : Pending
     y = operandAt s (s .depth - 1)
 
-    abbrev left : Run
+    abbrev left : PlanRun
     left = leftPlaced first l s
 
     abbrev joint : LookupTable
@@ -218,7 +218,7 @@ module _ (first : ℕ) where
     right-room : left .placed < 18
     right-room = omega (arith, count, placed-count l s (x .table))
 
-    abbrev both : Run
+    abbrev both : PlanRun
     both = placedIf r left (y .table)
 
     both-holds : Holds both
@@ -286,7 +286,7 @@ map-at f [] i x y l = absurd (omega arith)
 map-at f (a ∷ xs) zero x y l = refl
 map-at f (a ∷ xs) (suc i) x y l = map-at f xs i x y (omega arith)
 
-module _ (first : ℕ) (k : Kind) (o : Operands) (s : Run) where
+module _ (first : ℕ) (k : Kind) (o : Operands) (s : PlanRun) where
   push-fits : (i : ℕ) → Advances first k o (Push i) s → (i < 10) × (s .depth < 10)
   push-fits i a = (
     omega (arith, a .safe .0, fanin-count o (a .good), a .good .count),
@@ -321,19 +321,19 @@ module _ (first : ℕ) (k : Kind) (o : Operands) (s : Run) where
     pub push-room : {i : ℕ} → token ≡ Push i → Advances first k o token s → (i < 10) × (s .depth < 10)
     push-room {i} e a = push-fits i (rw e at a)
 
-    pub push-advanced : {i : ℕ} {s′ : Run} → token ≡ Push i → Advances first k o token s → s′ ≡ pushed s (getD (o .fanins) i noPending) → Advanced first k o token s s′
+    pub push-advanced : {i : ℕ} {s′ : PlanRun} → token ≡ Push i → Advances first k o token s → s′ ≡ pushed s (getD (o .fanins) i noPending) → Advanced first k o token s s′
     push-advanced {i} e a f = rw (e, f) (push-moves i (rw e at a))
 
     pub join-fits : {l r : Bool} → token ≡ Join l r → Advances first k o token s → Joins first l r s
     join-fits {l} {r} e a = join-moves l r (rw e at a) .0
 
-    pub join-advanced : {l r : Bool} {s′ : Run} → token ≡ Join l r → Advances first k o token s → s′ ≡ joined first k l r s → Advanced first k o token s s′
+    pub join-advanced : {l r : Bool} {s′ : PlanRun} → token ≡ Join l r → Advances first k o token s → s′ ≡ joined first k l r s → Advanced first k o token s s′
     join-advanced {l} {r} e a f = rw (e, f) (join-moves l r (rw e at a) .1)
 
 -- ---- a plan
 
 module _ (first : ℕ) (k : Kind) (o : Operands) (p : Plan) where
-  pub following-start : {s : Run} → Runnable first k o p → Holds s → s .depth ≡ 0 → s .placed ≡ 0 → Following first k o p 0 s
+  pub following-start : {s : PlanRun} → Runnable first k o p → Holds s → s .depth ≡ 0 → s .placed ≡ 0 → Following first k o p 0 s
   following-start {s} r h d e = record {
     at = omega arith;
     holds = h;
@@ -344,7 +344,7 @@ module _ (first : ℕ) (k : Kind) (o : Operands) (p : Plan) where
       new : stateOf s ≡ begun
       new = ap₂ (λ n m. record { stack = stackOf n (s .stack); placed = map tableOf (take m (s .tables)) }) d e
 
-  module _ (size : length (p .steps) ≡ 19) {i : ℕ} {s : Run} (r : Runnable first k o p) (f : Following first k o p i s) (l : i < p .len) where
+  module _ (size : length (p .steps) ≡ 19) {i : ℕ} {s : PlanRun} (r : Runnable first k o p) (f : Following first k o p i s) (l : i < p .len) where
     abbrev next : Token
     next = getD (p .steps) i (record { token = Push 0 }) .token
 
@@ -362,7 +362,7 @@ module _ (first : ℕ) (k : Kind) (o : Operands) (p : Plan) where
     pub following-advances : Advances first k o next s
     following-advances = record { before = r .before; good = r .good; holds = f .holds; safe = safe-next .0 }
 
-    pub following-next : {s′ : Run} → Advanced first k o next s s′ → Following first k o p (i + 1) s′
+    pub following-next : {s′ : PlanRun} → Advanced first k o next s s′ → Following first k o p (i + 1) s′
     following-next a = record {
       at = omega arith;
       holds = a .holds;
@@ -370,7 +370,7 @@ module _ (first : ℕ) (k : Kind) (o : Operands) (p : Plan) where
       ends = ap (run codeBase first k (faninsOf o) (drop (i + 1) (tokens p))) (a .state) ∙ ap (λ ts. run codeBase first k (faninsOf o) ts (stateOf s)) (sym rest) ∙ f .ends;
     }
 
-  pub following-end : {i : ℕ} {s : Run} → p .len ≤ i → Following first k o p i s → Ran first k o p s
+  pub following-end : {i : ℕ} {s : PlanRun} → p .len ≤ i → Following first k o p i s → Ran first k o p s
   following-end {i} {s} l f = record {
     holds = f .holds;
     state =

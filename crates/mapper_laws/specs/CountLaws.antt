@@ -10,12 +10,12 @@ use Rattle.lists.specs.ListLaws.{every-none, every-cons, every-head, every-tail
 use Rattle.lists.specs.NumberLaws.{sum-inserted, sum-le}
 use Rattle.cover.specs.Nets.{tables-most*}
 use Rattle.cover.specs.Size.{records-length*}
-use Rattle.cover.specs.Trusted.Tables.{Table, numbered}
+use Rattle.cover.specs.Trusted.Tables.{LookupTable, numbered}
 use Rattle.cover.specs.Eval.{numbered-length}
 use Rattle.tree.specs.Trusted.Tree.{Node}
 use Rattle.sheet.specs.Trusted.Sheet.{DrawnGate, from, leafNets, gatesRead}
 use Rattle.sheet.specs.NumberLaws.{drawn-out, in-from}
-use Rattle.mapper_laws.specs.Mapping.{Mapped, unmapped, mappedAt, leafCount, Stood, innerOf, Progress}
+use Rattle.mapper_laws.specs.Mapping.{GatesMapped, unmapped, mappedAt, leafCount, Stood, innerOf, Progress}
 
 gather-length : {A B : Type 0} (f : A → List B) (xs : List A) → length (gather f xs) ≡ sum (λ x. length (f x)) xs
 gather-length f [] = refl
@@ -29,23 +29,23 @@ sub-sums f g (x ∷ xs) ys d m h =
     let r = sub-sums f g xs zs (d .1) (λ y n. not-first (λ q. d .0 y n (sym q)) (inserted-to {P = λ z. z ∈ x ∷ zs} i (λ a k. k) y (every-tail m y n))) (every-tail (inserted-from i h)) in
     omega (arith, sum-inserted f i, sum-inserted g i)
 
-sum-in-order : (f : Mapped → ℕ) (us ds all : List Mapped) → us ++ ds ≡ all → sum f ds ≡ sum (λ j. f (mappedAt all j)) (from (suc (length us)) (length ds))
+sum-in-order : (f : GatesMapped → ℕ) (us ds all : List GatesMapped) → us ++ ds ≡ all → sum f ds ≡ sum (λ j. f (mappedAt all j)) (from (suc (length us)) (length ds))
 sum-in-order f us [] all e = refl
 sum-in-order f us (d ∷ ds) all e =
     ap₂ _+_ (ap f (sym (getD-append-add us (d ∷ ds) 0 unmapped) ∙ ap₂ (λ l i. getD l i unmapped) e (omega arith)))
     (sum-in-order f (us ++ (d ∷ [])) ds all (append-assoc us (d ∷ []) ds ∙ e)
     ∙ ap (λ m. sum (λ j. f (mappedAt all j)) (from (suc m) (length ds))) (omega (arith, length-append us (d ∷ []))))
 
-module _ (done : List Mapped) (js : List ℕ) (once : Distinct js) (there : Every (λ j. (1 ≤ j) × (j ≤ length done)) js) where
+module _ (done : List GatesMapped) (js : List ℕ) (once : Distinct js) (there : Every (λ j. (1 ≤ j) × (j ≤ length done)) js) where
   -- of gates that were mapped, each at most once
-  pub mapped-sums : (f g : Mapped → ℕ) → Every (λ d. g d ≤ f d) done →
+  pub mapped-sums : (f g : GatesMapped → ℕ) → Every (λ d. g d ≤ f d) done →
       sum (λ j. f (mappedAt done j)) js + sum g done ≤ sum f done + sum (λ j. g (mappedAt done j)) js
   mapped-sums f g h =
       let s = sub-sums (λ j. f (mappedAt done j)) (λ j. g (mappedAt done j)) js (from 1 (length done)) once
       (λ j m. let b = there j m in in-from 1 (length done) j (b .0) (omega arith)) in-range in
       omega (arith, sum-in-order f [] done done refl, sum-in-order g [] done done refl)
     where
-      every-in : (us ds all : List Mapped) → us ++ ds ≡ all → Every (λ d. g d ≤ f d) ds → Every (λ j. g (mappedAt all j) ≤ f (mappedAt all j)) (from (suc (length us)) (length ds))
+      every-in : (us ds all : List GatesMapped) → us ++ ds ≡ all → Every (λ d. g d ≤ f d) ds → Every (λ j. g (mappedAt all j) ≤ f (mappedAt all j)) (from (suc (length us)) (length ds))
       every-in us [] all e k = every-none _
       every-in us (d ∷ ds) all e k =
           let at : mappedAt all (suc (length us)) ≡ d = ap₂ (λ l i. getD l i unmapped) (sym e) (omega arith) ∙ getD-append-add us (d ∷ ds) 0 unmapped in
@@ -58,17 +58,17 @@ module _ (done : List Mapped) (js : List ℕ) (once : Distinct js) (there : Ever
 
 module _ (base : ℕ) where
   -- a gate has two tables fewer below it than leaves
-  stood-count : {K : ℕ} {t : Node} {d : Mapped} → Stood K t d → length (innerOf base d) + 2 ≤ leafCount d
+  stood-count : {K : ℕ} {t : Node} {d : GatesMapped} → Stood K t d → length (innerOf base d) + 2 ≤ leafCount d
   stood-count {K} {d = d} s = omega (arith, records-length* base (d .body) (d .kind), tables-most* K (d .body) (s .is .fits), s .is .many)
 
-  paired-every : {K : ℕ} {ts : List Node} {ds : List Mapped} → Paired (Stood K) ts ds → Every (λ d. length (innerOf base d) + 2 ≤ leafCount d) ds
+  paired-every : {K : ℕ} {ts : List Node} {ds : List GatesMapped} → Paired (Stood K) ts ds → Every (λ d. length (innerOf base d) + 2 ≤ leafCount d) ds
   paired-every no-pair = every-none _
   paired-every (pair s p) = every-cons (stood-count s) (paired-every p)
 
-  module _ {n K : ℕ} {gs : List DrawnGate} {done : List Mapped} {staged : List Table} (p : Progress base n K gs done staged) (once : Distinct (gatesRead gs)) where
+  module _ {n K : ℕ} {gs : List DrawnGate} {done : List GatesMapped} {staged : List LookupTable} (p : Progress base n K gs done staged) (once : Distinct (gatesRead gs)) where
     pub staged-few : length staged ≤ length (leafNets gs)
     staged-few =
-        let inner : Mapped → ℕ = λ d. length (innerOf base d) in
+        let inner : GatesMapped → ℕ = λ d. length (innerOf base d) in
         let m = mapped-sums done (gatesRead gs) once (p .read) leafCount inner (λ d i. let h = paired-every (p .stood) d i in omega arith) in
         omega (
           arith,

@@ -15,7 +15,7 @@ use Rattle.plan.specs.Key.{leaf-key}
 use Rattle.cover.specs.Trusted.Cover.{Cover, net, top, Fanins, end}
 use Rattle.cover.specs.Nets.{nets*}
 use Rattle.plan.specs.Reach.{Best}
-use Rattle.cover.specs.Trusted.Tables.{Table, Placed, numbered}
+use Rattle.cover.specs.Trusted.Tables.{LookupTable, Placed, numbered}
 use Rattle.cover.specs.Trusted.Placed.{tableOf, records*}
 use Rattle.plan.specs.Plans.{Body}
 use Rattle.sheet.specs.declared.Source.{Source}
@@ -27,28 +27,28 @@ use Rattle.pending.specs.Operands.{Operand, single}
 use Rattle.mapper_laws.specs.Run.{run}
 
 -- a gate that was mapped: its fanins, split, with what is placed among them, and its best key
-pub record Mapped : Type 0 where
+pub record GatesMapped : Type 0 where
   pub kind : Kind
   pub body : Fanins
   pub key : Key
 
-abbrev pub unmapped : Mapped
+abbrev pub unmapped : GatesMapped
 unmapped = record { kind = and; body = end; key = leaf-key }
 
 -- gate g, counted from 1
-abbrev pub mappedAt : List Mapped → ℕ → Mapped
+abbrev pub mappedAt : List GatesMapped → ℕ → GatesMapped
 mappedAt done g = getD done (g - 1) unmapped
 
 -- how many leaves stand under it
-abbrev pub leafCount : Mapped → ℕ
+abbrev pub leafCount : GatesMapped → ℕ
 leafCount d = length (nets* (d .body))
 
 -- it is not placed
-abbrev pub coverOf : Mapped → Cover
+abbrev pub coverOf : GatesMapped → Cover
 coverOf d = top 0 (d .kind) (d .body)
 
 -- a mapped gate of the tree t: its body is that of a cover with the best key
-pub record Stood (K : ℕ) (t : Node) (d : Mapped) : Type 0 where
+pub record Stood (K : ℕ) (t : Node) (d : GatesMapped) : Type 0 where
   pub edges : Edges
   pub tree : t ≡ gate (d .kind) edges
   pub is : Body K edges (d .key) (d .body)
@@ -56,22 +56,22 @@ pub record Stood (K : ℕ) (t : Node) (d : Mapped) : Type 0 where
 
 -- ---- what a fanin reads: its key, its cover, and its operand
 
-abbrev pub keyOf : List Mapped → Source → Key
+abbrev pub keyOf : List GatesMapped → Source → Key
 keyOf done (Net n) = leaf-key
 keyOf done (Gate g) = mappedAt done g .key
 
-abbrev pub sourceCover : List Mapped → Source → Cover
+abbrev pub sourceCover : List GatesMapped → Source → Cover
 sourceCover done (Net n) = net n
 sourceCover done (Gate g) = coverOf (mappedAt done g)
 
-abbrev pub keysOf : List Mapped → List Edge → List Key
+abbrev pub keysOf : List GatesMapped → List Edge → List Key
 keysOf done = map (λ f. keyOf done (f .source))
 
-abbrev pub coversOf : List Mapped → List Edge → List (Bool × Cover)
+abbrev pub coversOf : List GatesMapped → List Edge → List (Bool × Cover)
 coversOf done = map (λ f. (f .inverted, sourceCover done (f .source)))
 
 -- a code stands after b tables: it is a net's, or that of one of the tables
-abbrev pub Low : (base b : ℕ) → Table → Type 0
+abbrev pub Low : (base b : ℕ) → LookupTable → Type 0
 Low base b t = Every (λ c. c ≤ base + b) (t .inputs)
 
 -- each table reads codes below its own
@@ -80,22 +80,22 @@ Early base = Every (λ p. Every (λ c. c < base + p .0) (p .1 .inputs))
 
 module _ (base : ℕ) where
   -- the table that holds the gate, and the tables within its fanins
-  abbrev pub heldTable : Mapped → Table
+  abbrev pub heldTable : GatesMapped → LookupTable
   heldTable d = tableOf base 0 false (d .kind) (d .body)
 
-  abbrev pub innerOf : Mapped → List Placed
+  abbrev pub innerOf : GatesMapped → List Placed
   innerOf d = records* base (d .body) (d .kind)
 
-  abbrev pub sourceTable : List Mapped → Source → Table
+  abbrev pub sourceTable : List GatesMapped → Source → LookupTable
   sourceTable done (Net n) = single n
   sourceTable done (Gate g) = heldTable (mappedAt done g)
 
-  abbrev pub operandsOf : List Mapped → List Edge → List Operand
+  abbrev pub operandsOf : List GatesMapped → List Edge → List Operand
   operandsOf done = map (λ f. record { inverted = f .inverted; table = sourceTable done (f .source) })
 
   -- The gates `gs` were mapped, where n tables stand before the staged ones. Together with the tables within each gate that was read,
   -- the staged tables are those within all gates: a gate that is read takes its tables along.
-  pub record Progress (n K : ℕ) (gs : List DrawnGate) (done : List Mapped) (staged : List Table) : Type 0 where
+  pub record Progress (n K : ℕ) (gs : List DrawnGate) (done : List GatesMapped) (staged : List LookupTable) : Type 0 where
     pub stood : Paired (Stood K) (treesOf [] gs) done
     pub read : Every (λ j. (1 ≤ j) × (j ≤ length done)) (gatesRead gs)
     pub low : Every (λ d. Low base (n + length staged) (heldTable d)) done
@@ -104,9 +104,9 @@ module _ (base : ℕ) where
     pub leaves : length (leafNets gs) + sum (λ j. leafCount (mappedAt done j)) (gatesRead gs) ≡ sum leafCount done
 
   -- one gate more: what the run of its plan leaves, and what is known then
-  pub record Next (n K : ℕ) (gs : List DrawnGate) (done : List Mapped) (staged : List Table) (g : DrawnGate) (plan : List Token) (a : Key) : Type 0 where
+  pub record NextGate (n K : ℕ) (gs : List DrawnGate) (done : List GatesMapped) (staged : List LookupTable) (g : DrawnGate) (plan : List Token) (a : Key) : Type 0 where
     pub body : Fanins
-    pub new : List Table
+    pub new : List LookupTable
     pub ends : run base (n + length staged) (g .kind) (operandsOf done (g .fanins)) plan (record { stack = []; placed = [] })
         ≡ record { stack = record { inverted = false; table = tableOf base 0 false (g .kind) body } ∷ []; placed = new }
     pub progress : Progress n K (gs ++ (g ∷ [])) (done ++ (record { kind = g .kind; body = body; key = a } ∷ [])) (staged ++ new)

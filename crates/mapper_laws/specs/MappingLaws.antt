@@ -16,7 +16,7 @@ use Rattle.plan.specs.declared.Key.{Key}
 use Rattle.plan.specs.declared.Token.{Token}
 use Rattle.cover.specs.Trusted.Cover.{Cover, net, top, tables, split}
 use Rattle.cover.specs.Nets.{split-nets, tables-most*}
-use Rattle.cover.specs.Trusted.Tables.{Table, Placed, numbered}
+use Rattle.cover.specs.Trusted.Tables.{LookupTable, Placed, numbered}
 use Rattle.cover.specs.Eval.{numbered-append, numbered-length}
 use Rattle.cover.specs.Size.{records-length*}
 use Rattle.plan.specs.Least.{body-least}
@@ -33,9 +33,9 @@ use Rattle.sheet.specs.Trusted.Sheet.{DrawnGate, DrawnSheet, from, netOf, gateO
 use Rattle.sheet.specs.Trusted.Trees.{nodeOf, edgesOf, treesOf, treeOf, drawn as drawnSheet}
 use Rattle.sheet.specs.Trusted.Formed.{WellFormed}
 use Rattle.sheet.specs.TreeLaws.{without, from-end}
-use Rattle.cover.specs.Trusted.CoverTables.{Legal, AddedLeast}
+use Rattle.cover.specs.Trusted.CoverTables.{Legal, LeastCoverTables}
 use Rattle.pending.specs.Operands.{single}
-use Rattle.mapper_laws.specs.Mapping.{Mapped, unmapped, mappedAt, leafCount, Stood, keyOf, sourceCover, keysOf, coversOf, Low, heldTable, innerOf, sourceTable, operandsOf, Progress, Next}
+use Rattle.mapper_laws.specs.Mapping.{GatesMapped, unmapped, mappedAt, leafCount, Stood, keyOf, sourceCover, keysOf, coversOf, Low, heldTable, innerOf, sourceTable, operandsOf, Progress, NextGate}
 use Rattle.mapper_laws.specs.CountLaws.{mapped-sums}
 use Rattle.mapper_laws.specs.RunLaws.{single-is, Shows, Gated, gated}
 
@@ -53,12 +53,12 @@ trees-end ts [] g = refl
 trees-end ts (x ∷ gs) g = trees-end _ gs g
 
 -- the gates that some fanins read were mapped
-abbrev AreMapped : List Mapped → List ℕ → Type 0
+abbrev AreMapped : List GatesMapped → List ℕ → Type 0
 AreMapped done = Every (λ j. (1 ≤ j) × (j ≤ length done))
 
 -- ---- the fanins of a gate
 
-module _ (K : ℕ) (two : 2 ≤ K) {ts : List Node} {done : List Mapped} (stood : Paired (Stood K) ts done) where
+module _ (K : ℕ) (two : 2 ≤ K) {ts : List Node} {done : List GatesMapped} (stood : Paired (Stood K) ts done) where
   stood-at : (g : ℕ) → 1 ≤ g → g ≤ length done → Stood K (getD ts (g - 1) (leaf 0)) (mappedAt done g)
   stood-at g l m = paired-at (leaf 0) unmapped stood (g - 1) (omega arith)
 
@@ -104,7 +104,7 @@ module _ (K : ℕ) (two : 2 ≤ K) {ts : List Node} {done : List Mapped} (stood 
       )
 
 module _ (base : ℕ) where
-  inner-fanins : (done : List Mapped) (fs : List Edge) → gather (λ q. inner base (q .1)) (coversOf done fs) ≡ gather (λ j. innerOf base (mappedAt done j)) (faninGates fs)
+  inner-fanins : (done : List GatesMapped) (fs : List Edge) → gather (λ q. inner base (q .1)) (coversOf done fs) ≡ gather (λ j. innerOf base (mappedAt done j)) (faninGates fs)
   inner-fanins done [] = refl
   inner-fanins done (f ∷ fs) = ap₂ _++_ (one (f .source)) (inner-fanins done fs) ∙ sym (gather-append (λ j. innerOf base (mappedAt done j)) (gateOf (f .source)) (faninGates fs))
     where
@@ -112,7 +112,7 @@ module _ (base : ℕ) where
       one (Net n) = refl
       one (Gate g) = sym (append-nil _)
 
-  module _ (k : Kind) (done : List Mapped) where
+  module _ (k : Kind) (done : List GatesMapped) where
     source-shown : (i : Bool) (s : Source) → Shows base k 0 (record { inverted = i; table = sourceTable base done s }) (drawn (i, sourceCover done s))
     source-shown i (Net n) = record { inverted = refl; table = single-is n }
     source-shown i (Gate g) = record { inverted = refl; table = refl }
@@ -135,7 +135,7 @@ module _ (base : ℕ) where
       fanins-low (f ∷ fs) h m (suc i) l =
           fanins-low fs (every-right (netOf (f .source)) (faninNets fs) h) (every-right (gateOf (f .source)) (faninGates fs) m) i (omega arith)
 
-  mapped-end : (done : List Mapped) (d : Mapped) (js : List ℕ) → AreMapped done js →
+  mapped-end : (done : List GatesMapped) (d : GatesMapped) (js : List ℕ) → AreMapped done js →
       gather (λ j. innerOf base (mappedAt (done ++ (d ∷ [])) j)) js ≡ gather (λ j. innerOf base (mappedAt done j)) js
   mapped-end done d js h =
       gather-same (λ j. innerOf base (mappedAt (done ++ (d ∷ [])) j)) (λ j. innerOf base (mappedAt done j)) js
@@ -152,7 +152,7 @@ module _ (base : ℕ) where
   pub mapping-start : (n K : ℕ) → Progress base n K [] [] []
   mapping-start n K = record { stood = no-pair; read = every-none _; low = every-none _; taken = permuted-refl _; earlier = every-none _; leaves = refl }
 
-  module _ (n K : ℕ) (two : 2 ≤ K) {gs : List DrawnGate} {done : List Mapped} {staged : List Table} (p : Progress base n K gs done staged)
+  module _ (n K : ℕ) (two : 2 ≤ K) {gs : List DrawnGate} {done : List GatesMapped} {staged : List LookupTable} (p : Progress base n K gs done staged)
       (g : DrawnGate) (many : 2 ≤ length (g .fanins)) (nets : Every (λ x. x ≤ base) (faninNets (g .fanins)))
       (gates : AreMapped done (faninGates (g .fanins))) {plan : List Token} {a : Key} (least : LeastReach K (keysOf done (g .fanins)) a)
       (planned : Planned K (keysOf done (g .fanins)) (upto (length (keysOf done (g .fanins)))) plan a) where
@@ -164,7 +164,7 @@ module _ (base : ℕ) where
     next = gated base (g .kind) (n + length staged) (fanins-ready K two (p .stood) (g .fanins) gates) (operandsOf base done (g .fanins))
         (fanins-shown (g .kind) done (g .fanins)) (fanins-low (g .kind) done (n + length staged) (p .low) (g .fanins) nets gates) count planned
 
-    abbrev mapped : Mapped
+    abbrev mapped : GatesMapped
     mapped = record { kind = g .kind; body = next .body; key = a }
 
     next-stood : Stood K (gate (g .kind) (edgesOf (treesOf [] gs) (g .fanins))) mapped
@@ -242,7 +242,7 @@ module _ (base : ℕ) where
       leaves = omega (arith, all-leaves, reads-leaves, sum-append leafCount done (mapped ∷ []));
     }
 
-    pub mapping-next : Next base n K gs done staged g plan a
+    pub mapping-next : NextGate base n K gs done staged g plan a
     mapping-next = record { body = next .body; new = next .new; ends = next .ends; progress = next-progress; is = (edgesOf (treesOf [] gs) (g .fanins), next .is); below = next-below }
 
   -- ---- the root
@@ -252,10 +252,10 @@ module _ (base : ℕ) where
   trees-length ts (g ∷ gs) =
       omega (arith, trees-length (ts ++ (gate (g .kind) (edgesOf ts (g .fanins)) ∷ [])) gs, length-append ts (gate (g .kind) (edgesOf ts (g .fanins)) ∷ []))
 
-  pub done-count : {n K : ℕ} {gs : List DrawnGate} {done : List Mapped} {staged : List Table} → Progress base n K gs done staged → length done ≡ length gs
+  pub done-count : {n K : ℕ} {gs : List DrawnGate} {done : List GatesMapped} {staged : List LookupTable} → Progress base n K gs done staged → length done ≡ length gs
   done-count {gs = gs} p = omega (arith, paired-length (p .stood), trees-length [] gs)
 
-  in-order : (us ds all : List Mapped) → us ++ ds ≡ all →
+  in-order : (us ds all : List GatesMapped) → us ++ ds ≡ all →
       gather (innerOf base) ds ≡ gather (λ j. innerOf base (mappedAt all j)) (from (suc (length us)) (length ds))
   in-order us [] all e = refl
   in-order us (d ∷ ds) all e =
@@ -263,12 +263,12 @@ module _ (base : ℕ) where
       (in-order (us ++ (d ∷ [])) ds all (append-assoc us (d ∷ []) ds ∙ e)
       ∙ ap (λ m. gather (λ j. innerOf base (mappedAt all j)) (from (suc m) (length ds))) (omega (arith, length-append us (d ∷ []))))
 
-  module _ (n K : ℕ) (two : 2 ≤ K) (s : DrawnSheet) (formed : WellFormed s) (legal : Legal base (drawnSheet s)) {done : List Mapped} {staged : List Table}
+  module _ (n K : ℕ) (two : 2 ≤ K) (s : DrawnSheet) (formed : WellFormed s) (legal : Legal base (drawnSheet s)) {done : List GatesMapped} {staged : List LookupTable}
       (p : Progress base n K (s .gates) done staged) where
-    abbrev root : Mapped
+    abbrev root : GatesMapped
     root = mappedAt done (length (s .gates))
 
-    abbrev rootTable : Table
+    abbrev rootTable : LookupTable
     rootTable = tableOf base (s .out) (s .inverted) (root .kind) (root .body)
 
     root-stood : Stood K (treeOf s) root
@@ -296,7 +296,7 @@ module _ (base : ℕ) where
             (rw append-nil (permuted-sym (gather-permuted (λ j. innerOf base (mappedAt done j)) (formed .read-once))))) (p .taken))
 
     -- A SHEET MAPPED gate by gate, with its root's table last, has the tables of a least cover
-    pub mapping-added : (old : List Table) → length old ≡ n → AddedLeast base K old (staged ++ (rootTable ∷ [])) (drawnSheet s)
+    pub mapping-added : (old : List LookupTable) → length old ≡ n → LeastCoverTables base K old (staged ++ (rootTable ∷ [])) (drawnSheet s)
     mapping-added old e = record {
       added = record {
         legal = legal;

@@ -15,11 +15,11 @@ use Rattle.plan.specs.declared.Plan.{Plan}
 use Rattle.plan.specs.declared.Token.the-variants.{Push, Join}
 use Rattle.plan.specs.Key.{_≼_, join, cuts}
 use Rattle.plan.specs.KeyLaws.{join-way, join-mono, join-comm}
-use Rattle.plan.specs.Entries.{Fanin, Small, Joinable}
+use Rattle.plan.specs.Entries.{FaninKey, Small, Joinable}
 use Rattle.plan.specs.Reach.{Reach, one, both, LeastReach}
 use Rattle.plan.specs.ReachLaws.{no-reach, least-single, reach-wide}
 use Rattle.plan.specs.Plans.{fanin, binary}
-use Rattle.plan.specs.PlanOf.{Answer}
+use Rattle.plan.specs.PlanOf.{PlanAnswer}
 use Rattle.sheet.specs.declared.Source.{Source}
 use Rattle.sheet.specs.declared.Source.the-variants.{Net, Gate}
 use Rattle.sheet.specs.declared.Edge.{Edge}
@@ -81,13 +81,13 @@ module _ {K first : ℕ} (i : Bool) (x : Held) (j : Bool) (y : Held) (m : Mappab
   two : 2 ≤ K
   two = m .keys .table .0
 
-  left-fanin : Fanin K a
+  left-fanin : FaninKey K a
   left-fanin = every-head (every-tail (m .keys .keys))
 
-  right-fanin : Fanin K b
+  right-fanin : FaninKey K b
   right-fanin = every-head (m .keys .keys)
 
-  small : {c : Key} → Fanin K c → Small K c
+  small : {c : Key} → FaninKey K c → Small K c
   small f = record { some = f .some; most = f .most; few = omega (arith, f .few) }
 
   pub pair-joinable : Joinable K a b
@@ -101,7 +101,7 @@ module _ {K first : ℕ} (i : Bool) (x : Held) (j : Bool) (y : Held) (m : Mappab
     steps = record { token = Push 1 } ∷ (record { token = Push 0 } ∷ (record { token = Join l r } ∷ replicate 16 (record { token = Push 0 })));
   }
 
-  answer : Answer K (keysIn o) plan
+  answer : PlanAnswer K (keysIn o) plan
   answer = record {
     ok = refl;
     least = pair-least K two a b (left-fanin .some) (right-fanin .some);

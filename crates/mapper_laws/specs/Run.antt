@@ -5,7 +5,7 @@ use mathlib.Core.Bool.{Bool, true, false}
 use mathlib.Core.List.{List, [], _∷_, _++_}
 use lib.ListN.{length, getD}
 use Rattle.tree.specs.declared.Kind.{Kind}
-use Rattle.cover.specs.Trusted.Tables.{Table}
+use Rattle.cover.specs.Trusted.Tables.{LookupTable}
 use Rattle.pending.specs.Operands.{Operand, single, merged}
 use Rattle.plan.specs.declared.Token.{Token}
 use Rattle.plan.specs.declared.Token.the-variants.{Push as push, Join as join}
@@ -16,26 +16,26 @@ merge k x y = record { inverted = false; table = merged k x y }
 -- the operands, the last one first, and the tables placed
 pub record State : Type 0 where
   pub stack : List Operand
-  pub placed : List Table
+  pub placed : List LookupTable
 
 -- `n` tables stand before those that are placed
 module _ (base n : ℕ) where
   -- the code of the next table to be placed
-  abbrev pub nextCode : List Table → ℕ
+  abbrev pub nextCode : List LookupTable → ℕ
   nextCode ts = base + suc (n + length ts)
 
   -- an operand held, or placed
-  abbrev pub operand : Bool → List Table → Operand → Operand
+  abbrev pub operand : Bool → List LookupTable → Operand → Operand
   operand false ts x = x
   operand true ts x = record { inverted = x .inverted; table = single (nextCode ts) }
 
-  abbrev pub tables : Bool → List Table → Operand → List Table
+  abbrev pub tables : Bool → List LookupTable → Operand → List LookupTable
   tables false ts x = ts
   tables true ts x = ts ++ (x .table ∷ [])
 
   module _ (k : Kind) where
     -- the left operand is placed before the right one; with fewer than two operands nothing is joined
-    abbrev pub joinTop : Bool → Bool → List Operand → List Table → State
+    abbrev pub joinTop : Bool → Bool → List Operand → List LookupTable → State
     joinTop l r [] ts = record { stack = []; placed = ts }
     joinTop l r (y ∷ []) ts = record { stack = y ∷ []; placed = ts }
     joinTop l r (y ∷ x ∷ st) ts = record {
@@ -54,7 +54,7 @@ module _ (base n : ℕ) where
 
       -- ---- what a run has room for: ten operands, tables of six inputs, and eighteen tables placed
 
-      abbrev pub SafeJoin : Bool → Bool → List Operand → List Table → Type 0
+      abbrev pub SafeJoin : Bool → Bool → List Operand → List LookupTable → Type 0
       SafeJoin l r [] ts = ⊥
       SafeJoin l r (y ∷ []) ts = ⊥
       SafeJoin l r (y ∷ x ∷ st) ts =

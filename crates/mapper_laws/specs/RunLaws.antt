@@ -15,15 +15,15 @@ use Rattle.tree.specs.declared.Kind.the-variants.{And as and, Or as or}
 use Rattle.tree.specs.Trusted.Tree.{Edges, turned, meet, unit}
 use Rattle.cover.specs.Trusted.Bits.{bit, digit}
 use Rattle.cover.specs.Trusted.Cover.{Cover, net, top, Fanins, end, new, pick}
-use Rattle.cover.specs.Trusted.Tables.{Table, output, tabled, numbered}
+use Rattle.cover.specs.Trusted.Tables.{LookupTable, output, tabled, numbered}
 use Rattle.cover.specs.Eval.{Agree, tabled-output, numbered-append}
 use Rattle.cover.specs.Trusted.Placed.{code, codes, codes*, held, held*, tableOf, records*}
 use Rattle.cover.specs.Value.{held-same, held-same*}
 use Rattle.plan.specs.declared.Key.{Key}
 use Rattle.plan.specs.declared.Token.{Token}
 use Rattle.plan.specs.declared.Token.the-variants.{Join as join}
-use Rattle.plan.specs.Key.{Taken, held as kept, cut, Way}
-use Rattle.plan.specs.Plans.{Denotes, fanin, binary, Planned, Fragment, drawn, made, marked, place, Says, Runs, stop, pushed, joined, Ready, ready-none, ready-edge, Body}
+use Rattle.plan.specs.Key.{KeyTaken, held as kept, cut, Way}
+use Rattle.plan.specs.Plans.{Denotes, fanin, binary, Planned, Fragment, drawn, made, marked, place, PlanSays, Runs, stop, pushed, joined, Ready, ready-none, ready-edge, Body}
 use Rattle.plan.specs.Fragments.{Stands, as-drawn, as-made, ready-names, stands-join}
 use Rattle.plan.specs.PlanLaws.{runs-append, plan-body}
 use Rattle.plan.specs.Placings.{inner, inside, own, placings, plan-placed}
@@ -131,20 +131,20 @@ module _ (base : ℕ) (k : Kind) where
 
   module _ (n : ℕ) where
     -- the mark that an operand gets
-    abbrev pub markOf : Bool → List Table → ℕ
+    abbrev pub markOf : Bool → List LookupTable → ℕ
     markOf false ts = 0
     markOf true ts = suc (n + length ts)
 
-    mark-says : (l : Bool) (ts : List Table) → Says l (markOf l ts)
+    mark-says : (l : Bool) (ts : List LookupTable) → PlanSays l (markOf l ts)
     mark-says false ts = refl
     mark-says true ts = omega arith
 
     -- what is placed
-    abbrev pub added : Bool → Operand → List Table
+    abbrev pub added : Bool → Operand → List LookupTable
     added false x = []
     added true x = x .table ∷ []
 
-    tables-added : (l : Bool) (ts : List Table) (x : Operand) → tables base n l ts x ≡ ts ++ added l x
+    tables-added : (l : Bool) (ts : List LookupTable) (x : Operand) → tables base n l ts x ≡ ts ++ added l x
     tables-added false ts x = sym (append-nil ts)
     tables-added true ts x = refl
 
@@ -153,11 +153,11 @@ module _ (base : ℕ) (k : Kind) where
     Places false f = Unit {0}
     Places true f = IsGate f
 
-    shown-operand : (l : Bool) (ts : List Table) (x : Operand) (f : Fragment) → Places l f → Shows 0 x f → Shows (markOf l ts) (operand base n l ts x) f
+    shown-operand : (l : Bool) (ts : List LookupTable) (x : Operand) (f : Fragment) → Places l f → Shows 0 x f → Shows (markOf l ts) (operand base n l ts x) f
     shown-operand false ts x f g s = s
     shown-operand true ts x f g s = shown-placed (n + length ts) x f g s
 
-    own-added : (l : Bool) (ts : List Table) (x : Operand) (f : Fragment) → Places l f → Shows 0 x f →
+    own-added : (l : Bool) (ts : List LookupTable) (x : Operand) (f : Fragment) → Places l f → Shows 0 x f →
         own base k (markOf l ts) f ≡ numbered (n + length ts) (added l x)
     own-added false ts x (drawn (i, net z)) g s = refl
     own-added false ts x (drawn (i, top z j fs)) g s = refl
@@ -166,10 +166,10 @@ module _ (base : ℕ) (k : Kind) where
 
     -- ---- codes: those that stand after b tables
 
-    low-more : {b d : ℕ} (t : Table) → b ≤ d → Low base b t → Low base d t
+    low-more : {b d : ℕ} (t : LookupTable) → b ≤ d → Low base b t → Low base d t
     low-more t l h c m = let i = h c m in omega arith
 
-    low-operand : (l : Bool) (ts : List Table) (x : Operand) → Low base (n + length ts) (x .table) →
+    low-operand : (l : Bool) (ts : List LookupTable) (x : Operand) → Low base (n + length ts) (x .table) →
         Low base (n + length (tables base n l ts x)) (operand base n l ts x .table)
     low-operand false ts x h = h
     low-operand true ts x h = every-cons (simp length-append (omega arith)) (every-none _)
@@ -178,7 +178,7 @@ module _ (base : ℕ) (k : Kind) where
     unfolding merged
     low-merged b x y g h = permuted-to (sorted-permuted (x .table .inputs ++ y .table .inputs)) (every-append (x .table .inputs) (y .table .inputs) g h)
 
-    early-added : (l : Bool) (ts : List Table) (x : Operand) → Low base (n + length ts) (x .table) → Early base (numbered (n + length ts) (added l x))
+    early-added : (l : Bool) (ts : List LookupTable) (x : Operand) → Low base (n + length ts) (x .table) → Early base (numbered (n + length ts) (added l x))
     early-added false ts x h = every-none _
     early-added true ts x h = every-cons (λ c m. let i = h c m in omega arith) (every-none _)
 
@@ -199,7 +199,7 @@ module _ (base : ℕ) (k : Kind) where
     run-append fanins (t ∷ p) q s = run-append fanins p q (step base n k fanins t s)
 
     -- only a gate is wide enough to be placed
-    taken-places : {K : ℕ} {es : Edges} {f : Fragment} {ns : List ℕ} {a b : Key} {l : Bool} → Stands K es f ns a → Taken a l b → Places l f
+    taken-places : {K : ℕ} {es : Edges} {f : Fragment} {ns : List ℕ} {a b : Key} {l : Bool} → Stands K es f ns a → KeyTaken a l b → Places l f
     taken-places s kept = tt
     taken-places (as-drawn {q = (i, net z)} s h) (cut w) = absurd (omega (arith, s .inputs))
     taken-places (as-drawn {q = (i, top m j fs)} s h) (cut w) = tt
@@ -209,10 +209,10 @@ module _ (base : ℕ) (k : Kind) where
         (shown : (i : ℕ) → i < length ks → Shows 0 (getD fanins i (record { inverted = false; table = single 0 })) (drawn (getD ds i (false, net 0))))
         (early : (i : ℕ) → i < length ks → Low base n (getD fanins i (record { inverted = false; table = single 0 }) .table)) where
       -- a run of the plan p, of the fanins `ns`, with the key a
-      pub record Followed (p : List Token) (ns : List ℕ) (a : Key) (st : List Operand) (ts : List Table) (sf : List Fragment) : Type 0 where
+      pub record Followed (p : List Token) (ns : List ℕ) (a : Key) (st : List Operand) (ts : List LookupTable) (sf : List Fragment) : Type 0 where
         pub top : Operand
         pub fragment : Fragment
-        pub new : List Table
+        pub new : List LookupTable
         pub runs : Runs ds p sf (fragment ∷ sf)
         pub placing : placings base k ds runs ≡ numbered (n + length ts) new
         pub ends : run base n k fanins p (record { stack = st; placed = ts }) ≡ record { stack = top ∷ st; placed = ts ++ new }
@@ -221,22 +221,22 @@ module _ (base : ℕ) (k : Kind) where
         pub low : Low base (n + length (ts ++ new)) (top .table)
         pub earlier : Early base (numbered (n + length ts) new)
 
-      module _ {p q : List Token} {ms ns : List ℕ} {a b c : Key} {st : List Operand} (ts : List Table) {sf : List Fragment} (l d : Bool) (w : Way K l d a b c)
+      module _ {p q : List Token} {ms ns : List ℕ} {a b c : Key} {st : List Operand} (ts : List LookupTable) {sf : List Fragment} (l d : Bool) (w : Way K l d a b c)
           (x : Followed p ms a st ts sf) (y : Followed q ns b (x .top ∷ st) (ts ++ x .new) (x .fragment ∷ sf)) where
         -- the tables before the join, after its left operand, and after both; and those that it places
-        abbrev before : List Table
+        abbrev before : List LookupTable
         before = (ts ++ x .new) ++ y .new
 
-        abbrev between : List Table
+        abbrev between : List LookupTable
         between = tables base n l before (x .top)
 
-        abbrev after : List Table
+        abbrev after : List LookupTable
         after = tables base n d between (y .top)
 
-        abbrev lefts : List Table
+        abbrev lefts : List LookupTable
         lefts = added l (x .top)
 
-        abbrev rights : List Table
+        abbrev rights : List LookupTable
         rights = added d (y .top)
 
         abbrev left-mark : ℕ
@@ -314,7 +314,7 @@ module _ (base : ℕ) (k : Kind) where
               (every-append (numbered (n + length before) lefts) _ (early-added l before (x .top) left-low) (early-added d between (y .top) right-low))));
         }
 
-      followed : {p : List Token} {ns : List ℕ} {a : Key} → Denotes K ks p ns a → (st : List Operand) (ts : List Table) (sf : List Fragment) → Followed p ns a st ts sf
+      followed : {p : List Token} {ns : List ℕ} {a : Key} → Denotes K ks p ns a → (st : List Operand) (ts : List LookupTable) (sf : List Fragment) → Followed p ns a st ts sf
       followed (fanin i l) st ts sf =
           let q = ready-names K r i l in
           record {
@@ -341,7 +341,7 @@ module _ (base : ℕ) (k : Kind) where
       -- what the run of a gate's plan leaves: the gate's fanins, split, with the table that holds the gate, and the tables placed
       pub record Gated (p : List Token) (a : Key) : Type 0 where
         pub body : Fanins
-        pub new : List Table
+        pub new : List LookupTable
         pub ends : run base n k fanins p (record { stack = []; placed = [] }) ≡ record { stack = record { inverted = false; table = tableOf base 0 false k body } ∷ []; placed = new }
         pub is : Body K es a body
         pub taken : Permuted (gather (λ q. inner base (q .1)) ds ++ numbered n new) (records* base body k)
@@ -349,7 +349,7 @@ module _ (base : ℕ) (k : Kind) where
         pub earlier : Early base (numbered n new)
 
       module _ {p : List Token} {ns : List ℕ} {a : Key} (y : Followed p ns a [] [] []) (body : Fanins) (f : y .fragment ≡ made body) where
-        start : n + length {A = Table} [] ≡ n
+        start : n + length {A = LookupTable} [] ≡ n
         start = omega arith
 
         body-shows : Shows 0 (y .top) (made body)

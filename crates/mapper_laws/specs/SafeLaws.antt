@@ -12,8 +12,8 @@ use Rattle.tree.specs.declared.Kind.{Kind}
 use Rattle.plan.specs.declared.Key.{Key}
 use Rattle.plan.specs.declared.Token.{Token}
 use Rattle.plan.specs.declared.Token.the-variants.{Join as join}
-use Rattle.plan.specs.Key.{leaf-key, Taken, held, cut}
-use Rattle.cover.specs.Trusted.Tables.{Table}
+use Rattle.plan.specs.Key.{leaf-key, KeyTaken, held, cut}
+use Rattle.cover.specs.Trusted.Tables.{LookupTable}
 use Rattle.plan.specs.Plans.{Denotes, fanin, binary, Planned}
 use Rattle.pending.specs.Operands.{Operand, single, merged}
 use Rattle.mapper_laws.specs.Run.{merge, operand, tables, SafeRun}
@@ -28,21 +28,21 @@ denotes-some (fanin i l) = omega arith
 denotes-some (binary {ms = ms} {ns = ns} u v w) = omega (arith, denotes-some u, length-append ms ns)
 
 module _ (base n : ℕ) where
-  operand-length : (l : Bool) (ts : List Table) (x : Operand) {a b : Key} → length (x .table .inputs) ≡ a .width → Taken a l b →
+  operand-length : (l : Bool) (ts : List LookupTable) (x : Operand) {a b : Key} → length (x .table .inputs) ≡ a .width → KeyTaken a l b →
       length (operand base n l ts x .table .inputs) ≡ b .width
   operand-length false ts x e held = e
   operand-length true ts x e (cut h) = refl
 
-  tables-length : (l : Bool) (ts : List Table) (x : Operand) → length (tables base n l ts x) ≤ length ts + 1
+  tables-length : (l : Bool) (ts : List LookupTable) (x : Operand) → length (tables base n l ts x) ≤ length ts + 1
   tables-length false ts x = omega arith
   tables-length true ts x = omega (arith, length-append ts (x .table ∷ []))
 
   module _ (k : Kind) (fanins : List Operand) {K : ℕ} {ks : List Key} (small : K ≤ 6) (count : length fanins ≡ length ks)
       (widths : (i : ℕ) → i < length ks → length (getD fanins i (record { inverted = false; table = single 0 }) .table .inputs) ≡ (getD ks i leaf-key) .width) where
     -- what a plan needs of the stack and of the tables placed, and what it leaves for the tokens after it
-    safe-denotes : {p : List Token} {ns : List ℕ} {a : Key} → Denotes K ks p ns a → (q : List Token) (st : List Operand) (ts : List Table) →
+    safe-denotes : {p : List Token} {ns : List ℕ} {a : Key} → Denotes K ks p ns a → (q : List Token) (st : List Operand) (ts : List LookupTable) →
         length ns + length st ≤ 10 → length ts + 2 * (length ns - 1) ≤ 18 →
-        ((o : Operand) (us : List Table) → length (o .table .inputs) ≡ a .width → length us ≤ length ts + 2 * (length ns - 1) →
+        ((o : Operand) (us : List LookupTable) → length (o .table .inputs) ≡ a .width → length us ≤ length ts + 2 * (length ns - 1) →
         SafeRun base n k fanins q (record { stack = o ∷ st; placed = us })) →
         SafeRun base n k fanins (p ++ q) (record { stack = st; placed = ts })
     safe-denotes (fanin i l) q st ts room put go = ((omega arith, omega arith), go _ ts (widths i l) (omega arith))

@@ -13,15 +13,15 @@ use Rattle.lists.specs.ListLaws.{every-none, every-cons, every-head, every-appe
 use Rattle.lists.specs.NumberLaws.{sorted-permuted}
 use Rattle.tree.specs.declared.Kind.the-variants.{And}
 use Rattle.tree.specs.Trusted.Limits.{codeBase}
-use Rattle.plan.specs.Entries.{Small, Fanin}
+use Rattle.plan.specs.Entries.{Small, FaninKey}
 use Rattle.plan.specs.Reach.{LeastReach}
 use Rattle.plan.specs.ReachBounds.{reach-small}
 use Rattle.plan.specs.Plans.{Planned}
 use Rattle.cover.specs.Trusted.Placed.{codes*, held*, tableOf as gateTable}
 use Rattle.cover.specs.Nets.{least-bounds}
-use Rattle.cover.specs.Trusted.CoverTables.{AddedLeast}
+use Rattle.cover.specs.Trusted.CoverTables.{LeastCoverTables}
 use Rattle.cover.specs.Size.{codes-length*}
-use Rattle.cover.specs.Trusted.Tables.{Table as LookupTable}
+use Rattle.cover.specs.Trusted.Tables.{LookupTable}
 use Rattle.sheet.specs.declared.Source.{Source}
 use Rattle.sheet.specs.declared.Source.the-variants.{Net, Gate}
 use Rattle.sheet.specs.declared.Edge.{Edge}
@@ -45,9 +45,9 @@ use Rattle.mapper_laws.specs.declared.Held.{Held}
 use Rattle.mapper_laws.specs.declared.MappedGate.{MappedGate}
 use Rattle.mapper_laws.specs.declared.Mapping.{Mapping}
 use Rattle.mapper_laws.specs.Run.{run}
-use Rattle.pending.specs.Pendings.{operandOf, Kept}
+use Rattle.pending.specs.Pendings.{operandOf, MergeKept}
 use Rattle.mapper_laws.specs.CodeRun.{noTable, operandAt, stackOf, placedOf, stateOf, begun}
-use Rattle.mapper_laws.specs.Mapping.{Mapped, unmapped, mappedAt, keyOf, keysOf, heldTable, Progress, Next}
+use Rattle.mapper_laws.specs.Mapping.{GatesMapped, unmapped, mappedAt, keyOf, keysOf, heldTable, Progress, NextGate}
 use Rattle.mapper_laws.specs.CodeMap.{keysIn, Mappable, GateMapped, HeldIs, noHeld, HeldAll, Gathered, Gathering, Staged, Reaches, Gathers, tablesIn, Sheetable, SheetMapped, Going, flipped, driving, rooted}
 use Rattle.mapper_laws.specs.MappingLaws.{source-standing, mapping-start, mapping-next, mapping-added, done-count}
 use Rattle.pending.specs.Merging.{Tabled}
@@ -101,13 +101,13 @@ facts s w g z l = record {
 -- ---- one gate
 
 -- the keys of the fanins can be searched
-fanin-keys : {K : ℕ} (two : 2 ≤ K) {used : ℕ} {gs : List DrawnGate} {done : List Mapped} {ts : List LookupTable} → Progress codeBase used K gs done ts →
-    (held : List Held) → HeldAll done held → (fs : List Edge) → Every (λ j. (1 ≤ j) × (j ≤ length done)) (faninGates fs) → Every (Fanin K) (keysOf done fs)
+fanin-keys : {K : ℕ} (two : 2 ≤ K) {used : ℕ} {gs : List DrawnGate} {done : List GatesMapped} {ts : List LookupTable} → Progress codeBase used K gs done ts →
+    (held : List Held) → HeldAll done held → (fs : List Edge) → Every (λ j. (1 ≤ j) × (j ≤ length done)) (faninGates fs) → Every (FaninKey K) (keysOf done fs)
 fanin-keys two p held a [] m = every-none _
 fanin-keys {K} two {done = done} p held a (f ∷ fs) m =
     every-cons (one (f .source) (every-left (gateOf (f .source)) (faninGates fs) m)) (fanin-keys two p held a fs (every-right (gateOf (f .source)) (faninGates fs) m))
   where
-    one : (s : Source) → Every (λ j. (1 ≤ j) × (j ≤ length done)) (gateOf s) → Fanin K (keyOf done s)
+    one : (s : Source) → Every (λ j. (1 ≤ j) × (j ≤ length done)) (gateOf s) → FaninKey K (keyOf done s)
     one (Net n) m = record { some = omega arith; most = omega arith; few = omega arith }
     one (Gate g) m =
         let b = every-head m in
@@ -128,7 +128,7 @@ module _ {K used : ℕ} {s : DrawnSheet} {g : ℕ} {held : List Held} {m : Mappi
   all-gathered : Gathered (y .done) (x .fanins) o
   all-gathered = subst (λ fs. Gathered (y .done) fs o) (take-length (x .fanins)) (q .gathered (y .done) (y .all) are-mapped)
 
-  key-list : Every (Fanin K) (keysIn o)
+  key-list : Every (FaninKey K) (keysIn o)
   key-list = rw (all-gathered .keys) (fanin-keys two (y .progress) held (y .all) (x .fanins) are-mapped)
 
   key-length : length (keysIn o) ≡ length (x .fanins)
@@ -147,12 +147,12 @@ module _ {K used : ℕ} {s : DrawnSheet} {g : ℕ} {held : List Held} {m : Mappi
     staged-count : length (tablesIn (m .count) (m .tables)) ≡ m .count
     staged-count = length-map (take (m .count) (m .tables)) tableOf ∙ length-take-le (m .count) (m .tables) (omega (arith, y .few, y .table-room))
 
-    next : Next codeBase used K (take g (s .gates)) (y .done) (tablesIn (m .count) (m .tables)) x (p .tokens) (p .key)
+    next : NextGate codeBase used K (take g (s .gates)) (y .done) (tablesIn (m .count) (m .tables)) x (p .tokens) (p .key)
     next = mapping-next codeBase used K two (y .progress) x (f .many .0) (f .nets) are-mapped
         (subst (λ ks. LeastReach K ks (p .key)) (all-gathered .keys) (p .least))
         (subst (λ ks. Planned K ks (upto (length ks)) (p .tokens) (p .key)) (all-gathered .keys) (p .planned))
 
-    abbrev mapped : Mapped
+    abbrev mapped : GatesMapped
     mapped = record { kind = x .kind; body = next .body; key = p .key }
 
     ends : stateOf (r .run) ≡ record { stack = record { inverted = false; table = heldTable codeBase mapped } ∷ []; placed = next .new }
@@ -233,8 +233,8 @@ module _ {K used : ℕ} {s : DrawnSheet} {g : ℕ} {held : List Held} {m : Mappi
           ap (map tableOf) (z .tables) ∙ map-append tableOf (take (m .count) (m .tables)) (take (r .run .placed) (r .run .tables))
           ∙ ap (λ ts. tablesIn (m .count) (m .tables) ++ ts) new-tables
 
-      run-kept : Every Kept (take (r .run .placed) (r .run .tables))
-      run-kept = take-every Kept (r .run .tables) (r .run .placed) noTable (omega (arith, p .holds .table-room, p .holds .placed)) (p .holds .kept)
+      run-kept : Every MergeKept (take (r .run .placed) (r .run .tables))
+      run-kept = take-every MergeKept (r .run .tables) (r .run .placed) noTable (omega (arith, p .holds .table-room, p .holds .placed)) (p .holds .kept)
 
       -- ONE GATE MORE
       pub going-next : Going K used (s .gates) (g + 1) (set held g (r .held)) n
@@ -263,7 +263,7 @@ going-start {K} {used} {m = m} e l h = record {
   table-room = l;
 }
 
-root-record : (out : ℕ) (v : Bool) (d : Mapped) → driving out (flipped v (recordOf (heldTable codeBase d))) ≡ recordOf (gateTable codeBase out v (d .kind) (d .body))
+root-record : (out : ℕ) (v : Bool) (d : GatesMapped) → driving out (flipped v (recordOf (heldTable codeBase d))) ≡ recordOf (gateTable codeBase out v (d .kind) (d .body))
 root-record out false d = refl
 root-record out true d = ap (driving out) (tabled-inverted 0 (sorted (codes* codeBase (d .body))) (held* codeBase (d .body) (d .kind)))
 
@@ -277,7 +277,7 @@ module _ {K used : ℕ} {s : DrawnSheet} {g : ℕ} {held : List Held} {m : Mappi
   abbrev rootHeld : Held
   rootHeld = getD held (length (s .gates) - 1) noHeld
 
-  abbrev root : Mapped
+  abbrev root : GatesMapped
   root = mappedAt (y .done) (length (s .gates))
 
   root-held : HeldIs rootHeld root
@@ -289,7 +289,7 @@ module _ {K used : ℕ} {s : DrawnSheet} {g : ℕ} {held : List Held} {m : Mappi
   last-record : driving (s .out) (flipped (s .inverted) (rootHeld .table)) ≡ recordOf rootTable
   last-record = ap (λ t. driving (s .out) (flipped (s .inverted) t)) (root-held .table) ∙ root-record (s .out) (s .inverted) root
 
-  added : (old : List LookupTable) → length old ≡ used → AddedLeast codeBase K old (tablesIn (m .count) (m .tables) ++ (rootTable ∷ [])) (drawn s)
+  added : (old : List LookupTable) → length old ≡ used → LeastCoverTables codeBase K old (tablesIn (m .count) (m .tables) ++ (rootTable ∷ [])) (drawn s)
   added = mapping-added codeBase used K two s w (drawn-legal s w) ended
 
   records-count : length (tablesIn (m .count) (m .tables)) ≡ m .count
@@ -314,22 +314,22 @@ module _ {K used : ℕ} {s : DrawnSheet} {g : ℕ} {held : List Held} {m : Mappi
       room = length-set (m .tables) (m .count) (driving (s .out) (flipped (s .inverted) (rootHeld .table))) ∙ y .table-room;
       few = omega (arith, root-room .0);
       kept = λ i j.
-          by-eqb (λ b. Kept (getD (set (m .tables) (m .count) last) i noTable)) i (m .count)
+          by-eqb (λ b. MergeKept (getD (set (m .tables) (m .count) last) i noTable)) i (m .count)
           (λ q. rw (q, getD-set-same (m .tables) (m .count) last noTable (omega (arith, root-room .0, y .table-room)), last-record) root-kept)
           (λ q. rw (getD-set-other (m .tables) (m .count) i last noTable q) (kept-at i (omega arith)));
-      least = λ old f. rw now (subst (λ z. AddedLeast codeBase K old (tablesIn (m .count) (m .tables) ++ (rootTable ∷ [])) (drawn z)) (sym e) (added old f));
+      least = λ old f. rw now (subst (λ z. LeastCoverTables codeBase K old (tablesIn (m .count) (m .tables) ++ (rootTable ∷ [])) (drawn z)) (sym e) (added old f));
     }
       where
         last : Table
         last = driving (s .out) (flipped (s .inverted) (rootHeld .table))
 
-        root-kept : Kept (recordOf rootTable)
+        root-kept : MergeKept (recordOf rootTable)
         root-kept = record { fits = omega (arith, root-held .width, root-held .fits .1); padded = ap recordOf (sym (read-back rootTable)) }
 
-        kept-at : (i : ℕ) → i < m .count → Kept (getD (m .tables) i noTable)
+        kept-at : (i : ℕ) → i < m .count → MergeKept (getD (m .tables) i noTable)
         kept-at i l =
             rw (← (getD-take (m .count) (m .tables) i noTable l))
-            (every-at {P = Kept} (take (m .count) (m .tables)) i noTable (y .kept) (omega (arith, l, length-take-le (m .count) (m .tables) (omega (arith, y .few, y .table-room)))))
+            (every-at {P = MergeKept} (take (m .count) (m .tables)) i noTable (y .kept) (omega (arith, l, length-take-le (m .count) (m .tables) (omega (arith, y .few, y .table-room)))))
 
         now : tablesIn (m .count + 1) (set (m .tables) (m .count) (driving (s .out) (flipped (s .inverted) (rootHeld .table)))) ≡ tablesIn (m .count) (m .tables) ++ (rootTable ∷ [])
         now =

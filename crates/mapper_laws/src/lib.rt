@@ -18,7 +18,7 @@ pub struct Operands {
 }
 
 // The operands, the last one at depth - 1, and the tables placed. What stands past the counts is of no matter.
-pub struct Run {
+pub struct PlanRun {
     pub depth: u8,
     pub stack: [Pending; 10],
     pub placed: u8,
@@ -28,7 +28,7 @@ pub struct Run {
 // A gate mapped: what holds it, and the run of its plan, which has the tables placed.
 pub struct MappedGate {
     pub held: Held,
-    pub run: Run,
+    pub run: PlanRun,
 }
 
 // A gate of two fanins mapped: what holds it, and the tables placed. What stands past their count is of no matter.

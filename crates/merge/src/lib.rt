@@ -10,7 +10,7 @@ ghost use Rattle.table.specs.Trusted.Limits.{inputRoom};
 ghost use Rattle.table.specs.Trusted.Records.{recordOf};
 ghost use Rattle.pending.specs.Operands.{single as singleOf, merged};
 ghost use Rattle.pending.specs.Pendings.{operandOf, Mergeable};
-ghost use Rattle.pending.specs.Merging.{padded, columnsOf, valueAt, Rows, Words, Room, Filled, Ordered, Tabled, invertedOf};
+ghost use Rattle.pending.specs.Merging.{padded, columnsOf, valueAt, Rows, Words, MergeRoom, Filled, Ordered, Tabled, invertedOf};
 use pending::Pending;
 use table::Table;
 use tree::Kind;
@@ -97,7 +97,7 @@ fn meet(kind: Kind, a: u64, b: u64) -> u64
 
 // The place of a code among the first inputs, from 0; their count where it is none of them.
 fn place(code: u16, inputs: &[u16; 6], count: usize) -> usize
-    requires { ⌜ Room count (now inputs) ⌝ }
+    requires { ⌜ MergeRoom count (now inputs) ⌝ }
     ensures { λ r. ⌜ r ≡ placeOf code (take count (now (inputs .entry))) ⌝ }
 {
     let mut i = 0;
@@ -112,7 +112,7 @@ fn place(code: u16, inputs: &[u16; 6], count: usize) -> usize
 
 // The columns of the first n codes among the first inputs.
 fn columns<'a>(codes: &'a [u16; 6], n: usize, inputs: &'a [u16; 6], count: usize) -> [u64; 6]
-    requires { ⌜ Room n (now codes) × Room count (now inputs) ⌝ }
+    requires { ⌜ MergeRoom n (now codes) × MergeRoom count (now inputs) ⌝ }
     ensures { λ r. ⌜ r ≡ padded (columnsOf (take n (now (codes .entry))) (take count (now (inputs .entry)))) ⌝ }
 {
     let table = COLUMNS;
@@ -170,7 +170,7 @@ fn spread(truth: u64, columns: &[u64; 6], n: usize) -> u64
 
 // The values of a table in the rows of the first inputs, among which its first n codes are.
 fn values<'a>(truth: u64, codes: &'a [u16; 6], n: usize, inputs: &'a [u16; 6], count: usize) -> u64
-    requires { ⌜ Room n (now codes) × Room count (now inputs) ⌝ }
+    requires { ⌜ MergeRoom n (now codes) × MergeRoom count (now inputs) ⌝ }
     ensures { λ r. ⌜ Rows (valueAt truth (columnsOf (take n (now (codes .entry))) (take count (now (inputs .entry))))) r ⌝ }
 {
     let cs = columns(codes, n, inputs, count);
@@ -197,7 +197,7 @@ fn insert(inputs: &mut [u16; 6], count: usize, code: u16)
 
 // The first n codes put among the first inputs, which are in order.
 fn union(codes: &[u16; 6], n: usize, inputs: [u16; 6], count: usize) -> [u16; 6]
-    requires { ⌜ (n + count ≤ 6) × Room n (now codes) × Ordered count inputs ⌝ }
+    requires { ⌜ (n + count ≤ 6) × MergeRoom n (now codes) × Ordered count inputs ⌝ }
     ensures { λ r. ⌜ r ≡ padded (sorted (take n (now (codes .entry)) ++ take count inputs)) ⌝ }
 {
     let mut out = inputs;

@@ -1,6 +1,6 @@
 // The mapper for programs in other languages: `rt staticlib pailinstant` writes the archive.
 ghost use mathlib.Core.Path.{_≡_};
-ghost use Rattle.refusals.specs.Trusted.Sentences.{refusalText, fitted};
+ghost use Rattle.refusals.specs.Trusted.Sentences.{refusalText, frontWrite};
 ghost use Rattle.pailinstant.specs.Calls.{PrintedInto};
 use program::Printed;
 use program::run;
@@ -21,7 +21,7 @@ pub extern "C" fn pailinstant_map(input: &[u8], output: &mut [u8]) -> usize
 // buffer that is too short, or a number that is no refusal, leaves the buffer as it is and gives 0.
 #[no_mangle]
 pub extern "C" fn pailinstant_refusal(number: u32, output: &mut [u8]) -> usize
-    ensures { λ r. ⌜ record { count = r; bytes = now (output .exit) } ≡ fitted (refusalText number) (now (output .entry)) ⌝ }
+    ensures { λ r. ⌜ record { count = r; bytes = now (output .exit) } ≡ frontWrite (refusalText number) (now (output .entry)) ⌝ }
 {
     refusals::write(number, output)
 }

@@ -7,7 +7,7 @@ use Rattle.lists.specs.Trusted.Tests.{elem}
 use Rattle.sheet.specs.declared.Sheet.{Sheet as CodeSheet}
 use Rattle.sheet.specs.Trusted.Answers.{drawnSheet}
 use Rattle.sheet.specs.Trusted.Trees.{drawn}
-use Rattle.cover.specs.Trusted.CoverTables.{Sheet}
+use Rattle.cover.specs.Trusted.CoverTables.{Circuit}
 use Rattle.table.specs.declared.Table.{Table}
 use Rattle.table.specs.Trusted.Records.{reads}
 use Rattle.mapper_laws.specs.declared.Mapping.{Mapping}
@@ -15,7 +15,7 @@ use Rattle.part.specs.declared.Part.{Part}
 use Rattle.part.specs.declared.add.Uses.{Uses}
 
 -- the tree of the code's sheet
-abbrev pub sheetOf : CodeSheet → Sheet
+abbrev pub sheetOf : CodeSheet → Circuit
 sheetOf s = drawn (drawnSheet s)
 
 -- ---- tables and a net

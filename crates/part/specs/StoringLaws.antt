@@ -11,12 +11,12 @@ use lib.Seq.{length-take-le, getD-take}
 use Rattle.lists.specs.ListLaws.{every-head, every-tail, every-at}
 use Rattle.lists.specs.Trusted.Tests.{any, elem}
 use Rattle.lists.specs.TestLaws.{reflects-true}
-use Rattle.cover.specs.Trusted.Tables.{Table as LookupTable}
-use Rattle.cover.specs.Trusted.CoverTables.{Sheet, AddedLeast}
+use Rattle.cover.specs.Trusted.Tables.{LookupTable}
+use Rattle.cover.specs.Trusted.CoverTables.{Circuit, LeastCoverTables}
 use Rattle.sheet.specs.Trusted.Sheet.{DrawnSheet, sheet as read, refused as unread}
 use Rattle.sheet.specs.declared.Sheet.{Sheet as CodeSheet}
-use Rattle.sheet.specs.declared.Answer.{Answer as CodeAnswer}
-use Rattle.sheet.specs.declared.Reading.{Reading as CodeReading}
+use Rattle.sheet.specs.declared.ReadAnswer.{ReadAnswer as CodeAnswer}
+use Rattle.sheet.specs.declared.ReadResult.{ReadResult as CodeReading}
 use Rattle.sheet.specs.Trusted.Read.{readSheet}
 use Rattle.sheet.specs.Trusted.Answers.{drawnSheet, answered}
 use Rattle.sheet.specs.Promise.{SheetRead}
@@ -90,7 +90,7 @@ module _ {p : Part} {n i : ℕ} {u : Uses} (h : Looked p n i u) (room : p .used 
 
 -- ---- 21 and 22
 
-module _ (p : Part) (s : Sheet) where
+module _ (p : Part) (s : Circuit) where
   pub offer-driven : isDriven (s .out) (tablesOf p) ≡ true → Offer p s p (refused 21 0)
   offer-driven d = rw d (refl, refl)
 
@@ -115,7 +115,7 @@ module _ (p : Part) (shape : Shaped p) (h : Sound p) (s : CodeSheet) (m : Mappin
   unfolding new
   new-count = length-map (take (m .count) (m .tables)) tableOf ∙ taken-count
 
-  new-least : AddedLeast tableBase (p .k) (tablesOf p) new (sheetOf s)
+  new-least : LeastCoverTables tableBase (p .k) (tablesOf p) new (sheetOf s)
   unfolding new
   new-least = g .least (tablesOf p) (length-map (inUse p) tableOf ∙ used-count p shape h)
 
@@ -146,7 +146,7 @@ module _ (p : Part) (shape : Shaped p) (h : Sound p) (s : CodeSheet) (m : Mappin
 -- ---- a result as the part and the answer that it holds
 
 module _ (r : Added) (q : Part) (a : Adding) (e : r ≡ record { part = q; answer = a }) where
-  pub offer-same : (p : Part) (s : Sheet) → Offer p s q (addingAnswer a) → Offer p s (r .part) (addingAnswer (r .answer))
+  pub offer-same : (p : Part) (s : Circuit) → Offer p s q (addingAnswer a) → Offer p s (r .part) (addingAnswer (r .answer))
   offer-same p s = subst (λ x. Offer p s (x .part) (addingAnswer (x .answer))) (sym e)
 
   pub add-same : (p : Part) (text : List ℕ) → Add p text q (addingAnswer a) → Add p text (r .part) (addingAnswer (r .answer))

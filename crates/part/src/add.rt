@@ -12,7 +12,7 @@ use crate::Added;
 use crate::Adding;
 use crate::Part;
 use mapper::map;
-use sheet::Answer;
+use sheet::ReadAnswer;
 use sheet::Sheet;
 use table::Table;
 use table_inputs::reads_net;
@@ -95,7 +95,7 @@ impl Part {
         }
         let reading = sheet_reader::read(text);
         let answer = reading.answer;
-        if let Answer::Refused(why, line) = answer {
+        if let ReadAnswer::Refused(why, line) = answer {
             return self.refused(Adding::Misread(why, line));
         }
         let sheet = reading.sheet;

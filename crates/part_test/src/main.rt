@@ -14,7 +14,7 @@ ghost use Prim.Native.Nat.{_≤_};
 ghost use Rattle.io.specs.Counts.{Counts};
 use decimal::Field;
 use libc::STDOUT_FILENO;
-use listing::Answer;
+use listing::WriteAnswer;
 use part::Adding;
 use part::Opening;
 use part::Part;
@@ -95,19 +95,19 @@ fn place(a: Adding) -> u16 {
 }
 
 // The count, which is below 100,000, or minus the refusal's number.
-fn written(a: Answer) -> i32 {
+fn written(a: WriteAnswer) -> i32 {
     match a {
-        Answer::Wrote(n) => (n % 100000) as i32,
-        Answer::NotSound => -20,
-        Answer::NoLine => -15,
-        Answer::NoRoom => -14,
+        WriteAnswer::Wrote(n) => (n % 100000) as i32,
+        WriteAnswer::NotSound => -20,
+        WriteAnswer::NoLine => -15,
+        WriteAnswer::NoRoom => -14,
     }
 }
 
 // The count, 0 for a refusal.
-fn count(a: Answer) -> isize {
+fn count(a: WriteAnswer) -> isize {
     match a {
-        Answer::Wrote(n) => (n % 100000) as isize,
+        WriteAnswer::Wrote(n) => (n % 100000) as isize,
         _ => 0,
     }
 }
@@ -181,7 +181,7 @@ fn with_field(mut p: Part, which: u32, x: u32) -> Part {
 }
 
 // The answer, and the buffer's first bytes.
-fn show(a: Answer, buf: &[u8]) {
+fn show(a: WriteAnswer, buf: &[u8]) {
     say(written(a));
     io::write_all(STDOUT_FILENO, buf);
     io::write_all(STDOUT_FILENO, b"\n");

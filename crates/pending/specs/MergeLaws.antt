@@ -28,7 +28,7 @@ use Rattle.table.specs.Trusted.Records.{reads, tableOf, recordOf}
 use Rattle.pending.specs.declared.Pending.{Pending}
 use Rattle.pending.specs.Operands.{merged}
 use Rattle.pending.specs.Pendings.{operandOf, Mergeable}
-use Rattle.pending.specs.Merging.{padded, columnOf, columnsOf, valueAt, Rows, Words, Room, Filled, Ordered, Tabled, invertedOf}
+use Rattle.pending.specs.Merging.{padded, columnOf, columnsOf, valueAt, Rows, Words, MergeRoom, Filled, Ordered, Tabled, invertedOf}
 
 -- ---- a part of a list
 
@@ -387,7 +387,7 @@ columns-next cs xs out i v l m h e =
     w : Filled i out × (take i out ≡ columnsOf (take i cs) xs)
     w = padded-filled i (columnsOf (take i cs) xs) out h (length-map (take i cs) (λ c. columnOf (place c xs)) ∙ length-take-le i cs (omega arith)) (omega arith)
 
-pub columns-length : {n : ℕ} {cs : List ℕ} (xs : List ℕ) → Room n cs → length (columnsOf (take n cs) xs) ≡ n
+pub columns-length : {n : ℕ} {cs : List ℕ} (xs : List ℕ) → MergeRoom n cs → length (columnsOf (take n cs) xs) ≡ n
 columns-length {n} {cs} xs r = length-map (take n cs) (λ c. columnOf (place c xs)) ∙ length-take-le n cs (omega (arith, r .shape, r .fits))
 
 -- ---- the inputs in order
@@ -484,7 +484,7 @@ pub record Gathered (cs : List ℕ) (n : ℕ) (ys out : List ℕ) (size i : ℕ)
 sorted-length : (xs : List ℕ) → length (sorted xs) ≡ length xs
 sorted-length xs = sym (permuted-length (sorted-permuted xs))
 
-module _ (cs : List ℕ) (n : ℕ) (r : Room n cs) (xs : List ℕ) (m : ℕ) (o : Ordered m xs) (fits : n + m ≤ inputRoom) where
+module _ (cs : List ℕ) (n : ℕ) (r : MergeRoom n cs) (xs : List ℕ) (m : ℕ) (o : Ordered m xs) (fits : n + m ≤ inputRoom) where
   ys-length : length (take m xs) ≡ m
   ys-length = length-take-le m xs (omega (arith, ordered-shape o))
 
@@ -564,7 +564,7 @@ module _ (x y : Pending) (m : Mergeable x y) (shape : length (x .table .inputs) 
   codes-are : take (count x y) inputs ≡ sorted (codes x y)
   codes-are = ap (take (count x y)) i ∙ take-at (sorted (codes x y)) _ (count x y) codes-count
 
-  pub inputs-room : Room (count x y) inputs
+  pub inputs-room : MergeRoom (count x y) inputs
   inputs-room = record { fits = m .fits; shape = ap length i ∙ padded-length (sorted (codes x y)) (omega (arith, codes-count, m .fits)) }
 
   pub merged-is : (k : Kind) {v v′ w w′ t : ℕ} → Rows (valueAt (x .table .truth) (columnsOf (reads (x .table)) (take (count x y) inputs))) v →

@@ -35,7 +35,7 @@ pub record Words (f : ℕ → ℕ → Bool) (size : ℕ) (ws : List ℕ) : Type 
   pub rows : (j : ℕ) → j < size → Rows (f j) (getD ws j 0)
 
 -- `xs` are the inputs of a record, of which the first n are in use
-pub record Room (n : ℕ) (xs : List ℕ) : Type 0 where
+pub record MergeRoom (n : ℕ) (xs : List ℕ) : Type 0 where
   pub fits : n ≤ inputRoom
   pub shape : length xs ≡ inputRoom
 

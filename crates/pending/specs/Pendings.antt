@@ -12,17 +12,17 @@ abbrev pub operandOf : Pending → Operand
 operandOf x = record { inverted = x .inverted; table = tableOf (x .table) }
 
 -- the record is that of its table: its unused inputs are zero, and it has no more inputs than there is room for
-pub record Kept (r : Table) : Type 0 where
+pub record MergeKept (r : Table) : Type 0 where
   pub fits : r .count ≤ inputRoom
   pub padded : r ≡ recordOf (tableOf r)
 
 -- and its inputs are in order
 pub record Neat (r : Table) : Type 0 where
-  pub kept : Kept r
+  pub kept : MergeKept r
   pub sorted : Sorted (reads r)
 
 -- two pending tables that fit into one
 pub record Mergeable (x y : Pending) : Type 0 where
   pub fits : x .table .count + y .table .count ≤ inputRoom
-  pub kept : Kept (y .table)
+  pub kept : MergeKept (y .table)
   pub sorted : Sorted (reads (y .table))

@@ -8,7 +8,7 @@ use Rattle.lists.specs.Trusted.Lists.{Every, sum}
 use Rattle.plan.specs.declared.Key.{Key}
 use Rattle.plan.specs.Key.{key, leaf-key, _≼_, join}
 use Rattle.plan.specs.Limits.{leastInputs, mostInputs, leastFanins, mostFanins, mostBelow, mostReached, mostJoined, masks}
-use Rattle.plan.specs.Masks.{select, Within}
+use Rattle.plan.specs.Masks.{select, MaskWithin}
 use Rattle.plan.specs.Reach.{LeastReach}
 use Rattle.plan.specs.Volume.{volume}
 
@@ -51,25 +51,25 @@ pub record Split (K top r least : ℕ) (bs ws : List ℕ) : Type 0 where
   pub below : r < top
   pub within : top + r < masks
   pub keys : Smalls K bs ws (top + r)
-  pub bound : (v : ℕ) → 0 < v → Within v r → least ≤ volume K (join K (entry bs ws (top + r - v)) (entry bs ws v))
+  pub bound : (v : ℕ) → 0 < v → MaskWithin v r → least ≤ volume K (join K (entry bs ws (top + r - v)) (entry bs ws v))
 
 -- `a` is the join of the keys at u, a submask of r, and at the rest of top + r
 pub record Made (K : ℕ) (bs ws : List ℕ) (top r : ℕ) (a : Key) (u : ℕ) : Type 0 where
   pub some : 0 < u
-  pub part : Within u r
+  pub part : MaskWithin u r
   pub is : a ≡ join K (entry bs ws (top + r - u)) (entry bs ws u)
 
 -- and no such join is better
 pub record BestJoin (K : ℕ) (bs ws : List ℕ) (top r : ℕ) (a : Key) (u : ℕ) : Type 0 where
   pub made : Made K bs ws top r a u
-  pub low : (v : ℕ) → 0 < v → Within v r → a ≼ join K (entry bs ws (top + r - v)) (entry bs ws v)
+  pub low : (v : ℕ) → 0 < v → MaskWithin v r → a ≼ join K (entry bs ws (top + r - v)) (entry bs ws v)
 
 -- `a` and `u` are right for the mask s: the key is the least that the selected keys reach; where u is 0 it is a single fanin's,
 -- and else the join of those at the submask u and at the rest
 pub record Entered (K : ℕ) (ks : List Key) (bs ws : List ℕ) (s : ℕ) (a : Key) (u : ℕ) : Type 0 where
   pub least : LeastReach K (select s ks) a
   pub alone : u ≡ 0 → (h : ℕ) × (h < length ks) × (s ≡ 2 ^ h) × (a ≡ getD ks h leaf-key)
-  pub apart : 0 < u → Within u s × (u < s) × (a ≡ join K (entry bs ws (s - u)) (entry bs ws u))
+  pub apart : 0 < u → MaskWithin u s × (u < s) × (a ≡ join K (entry bs ws (s - u)) (entry bs ws u))
 
 -- so at each mask below n
 pub record Entries (K : ℕ) (ks : List Key) (bs ws us : List ℕ) (n : ℕ) : Type 0 where
@@ -80,20 +80,20 @@ pub record Volumes (K : ℕ) (ks : List Key) (vs : List ℕ) (n : ℕ) : Type 0 
   pub at : (s : ℕ) → 0 < s → s < n → getD vs s 0 ≡ sum (volume K) (select s ks)
 
 -- the key of a fanin: at least one input and at most K, with few tables below
-pub record Fanin (K : ℕ) (a : Key) : Type 0 where
+pub record FaninKey (K : ℕ) (a : Key) : Type 0 where
   pub some : 1 ≤ a .width
   pub most : a .width ≤ K
   pub few : a .below ≤ mostBelow
 
 -- what can be searched: the keys of from 2 to 10 fanins
-pub record Good (K : ℕ) (ks : List Key) : Type 0 where
+pub record GoodKeys (K : ℕ) (ks : List Key) : Type 0 where
   pub table : (leastInputs ≤ K) × (K ≤ mostInputs)
   pub count : (leastFanins ≤ length ks) × (length ks ≤ mostFanins)
-  pub keys : Every (Fanin K) ks
+  pub keys : Every (FaninKey K) ks
 
 -- and the arrays for it: one place for each mask of ten fanins
 pub record Fillable (K count : ℕ) (keys : List Key) (bs ws us vs : List ℕ) : Type 0 where
-  pub good : Good K (take count keys)
+  pub good : GoodKeys K (take count keys)
   pub size : length (take count keys) ≡ count
   pub rooms : (length bs ≡ masks) × (length ws ≡ masks) × (length us ≡ masks) × (length vs ≡ masks)
 

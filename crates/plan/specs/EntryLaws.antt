@@ -14,12 +14,12 @@ use Rattle.lists.specs.NumberLaws.{sum-inserted, sum-mix}
 use Rattle.plan.specs.declared.Key.{Key}
 use Rattle.plan.specs.Key.{leaf-key, join}
 use Rattle.plan.specs.Limits.{mostInputs, mostReached}
-use Rattle.plan.specs.Masks.{select, Within}
+use Rattle.plan.specs.Masks.{select, MaskWithin}
 use Rattle.plan.specs.MaskLaws.{within-le, within-top, select-mix, select-top, select-none, select-every}
 use Rattle.plan.specs.MaskSearch.{mask-one, mask-step}
 use Rattle.plan.specs.Reach.{Wide}
 use Rattle.plan.specs.ReachBounds.{select-small}
-use Rattle.plan.specs.Entries.{entry, Smalls, BestJoin, Entered, Entries, Volumes, Good}
+use Rattle.plan.specs.Entries.{entry, Smalls, BestJoin, Entered, Entries, Volumes, GoodKeys}
 use Rattle.plan.specs.Volume.{volume}
 use Rattle.plan.specs.VolumeLaws.{volume-most, join-volume, reach-volume}
 
@@ -72,7 +72,7 @@ volume-one K ks h l =
     let i = rw add-zero at (select-top ks h 0 leaf-key l (pow-pos h)) in
     omega (arith, sum-inserted (volume K) i, ap (sum (volume K)) (select-none ks))
 
-module _ {K : ℕ} {ks : List Key} (good : Good K ks) where
+module _ {K : ℕ} {ks : List Key} (good : GoodKeys K ks) where
   wide : Wide ks
   wide a m = good .keys a m .some
 
@@ -107,7 +107,7 @@ module _ {K : ℕ} {ks : List Key} (good : Good K ks) where
       (select-every ks s (λ a m. good .keys a m .most))
 
   -- and at most that of every join by a submask
-  pub join-bound : {bs ws us : List ℕ} {s : ℕ} → Entries K ks bs ws us s → (u : ℕ) → 0 < u → u < s → Within u s →
+  pub join-bound : {bs ws us : List ℕ} {s : ℕ} → Entries K ks bs ws us s → (u : ℕ) → 0 < u → u < s → MaskWithin u s →
       sum (volume K) (select s ks) ≤ volume K (join K (entry bs ws (s - u)) (entry bs ws u))
   join-bound {bs} {ws} {s = s} es u p l w =
       let m = entries-small es in

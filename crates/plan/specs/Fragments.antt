@@ -11,8 +11,8 @@ use Rattle.lists.specs.MixLaws.{paired-append}
 use Rattle.tree.specs.Trusted.Tree.{Node, Edges, none, edge}
 use Rattle.cover.specs.Trusted.Cover.{Cover, net, top, Fanins, end, pick, arity, frontier, tables, tables*, width, widths, Fits*, Fits, SplitOf, same, split, Matched, done, match}
 use Rattle.plan.specs.declared.Key.{Key}
-use Rattle.plan.specs.Key.{leaf-key, Taken, held, cut, Way}
-use Rattle.plan.specs.Plans.{Fragment, drawn, made, marked, place, Says, Standing, Ready, ready-none, ready-edge}
+use Rattle.plan.specs.Key.{leaf-key, KeyTaken, held, cut, Way}
+use Rattle.plan.specs.Plans.{Fragment, drawn, made, marked, place, PlanSays, Standing, Ready, ready-none, ready-edge}
 
 -- ---- which fanin a cover stands for
 
@@ -58,14 +58,14 @@ place-arity m (made s) fs = refl
 
 module _ (K : ℕ) where
   -- a gate with the key a, held or chosen
-  mark-gate : (m w n : ℕ) {a x : Key} {l : Bool} → w ≤ K → n ≡ a .below → w ≡ a .width → Taken a l x → Says l m →
+  mark-gate : (m w n : ℕ) {a x : Key} {l : Bool} → w ≤ K → n ≡ a .below → w ≡ a .width → KeyTaken a l x → PlanSays l m →
       pick m (Unit {0}) (w ≤ K) × (pick m 0 1 + n ≡ x .below) × (pick m w 1 ≡ x .width)
   mark-gate zero w n h c i held s = (tt, omega arith, i)
   mark-gate (suc m) w n h c i held s = absurd (omega arith)
   mark-gate zero w n h c i (cut g) s = absurd (omega arith)
   mark-gate (suc m) w n h c i (cut g) s = (h, omega arith, refl)
 
-  mark-cover : (c : Cover) {t : Node} {a x : Key} {l : Bool} (m : ℕ) → Standing K t a c → Taken a l x → Says l m →
+  mark-cover : (c : Cover) {t : Node} {a x : Key} {l : Bool} (m : ℕ) → Standing K t a c → KeyTaken a l x → PlanSays l m →
       Fits (marked m c) K × (tables (marked m c) ≡ x .below) × (width (marked m c) ≡ x .width)
   mark-cover (net n) m s held e = (tt, s .count, s .inputs)
   mark-cover (net n) m s (cut h) e = absurd (omega (arith, s .inputs))
@@ -95,7 +95,7 @@ module _ (K : ℕ) where
       count : (fs : Fanins) → tables* (place m f fs) ≡ k .below + tables* fs
       inputs : (fs : Fanins) → widths (place m f fs) ≡ k .width + widths fs
 
-    stands-item : {f : Fragment} {ns : List ℕ} {a x : Key} {l : Bool} (m : ℕ) → Stands f ns a → Taken a l x → Says l m →
+    stands-item : {f : Fragment} {ns : List ℕ} {a x : Key} {l : Bool} (m : ℕ) → Stands f ns a → KeyTaken a l x → PlanSays l m →
         Item ns x m f
     stands-item m (as-drawn {q = q} s h) g e =
         let r = mark-cover (q .1) m s g e in
@@ -115,7 +115,7 @@ module _ (K : ℕ) where
         }
 
     pub stands-join : {f g : Fragment} {ms ns : List ℕ} {a b k : Key} {l r : Bool} (m n : ℕ) → Stands f ms a → Stands g ns b →
-        Way K l r a b k → Says l m → Says r n → Stands (made (place m f (place n g end))) (ms ++ ns) k
+        Way K l r a b k → PlanSays l m → PlanSays r n → Stands (made (place m f (place n g end))) (ms ++ ns) k
     stands-join {f} {g} {ms} {ns} {k = k} m n s t w d e =
         let x = stands-item m s (w .took-left) d in
         let y = stands-item n t (w .took-right) e in

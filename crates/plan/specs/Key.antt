@@ -48,15 +48,15 @@ cuts K a b =
     (cond (leb (1 + min (a .width) (b .width)) K) (cond (leb (a .width) (b .width)) (false, true) (true, false)) (true, true))
 
 -- how an operand stands under a join: held; or chosen, which only a gate can be
-pub data Taken (a : Key) : Bool → Key → Type 0 where
-  held : Taken a false a
-  cut : 2 ≤ a .width → Taken a true (chosen a)
+pub data KeyTaken (a : Key) : Bool → Key → Type 0 where
+  held : KeyTaken a false a
+  cut : 2 ≤ a .width → KeyTaken a true (chosen a)
 
 -- `r` is what this way to hold or choose the two operands gives, and it fits
 pub record Way (K : ℕ) (cut-left cut-right : Bool) (a b r : Key) : Type 0 where
   pub left : Key
   pub right : Key
-  pub took-left : Taken a cut-left left
-  pub took-right : Taken b cut-right right
+  pub took-left : KeyTaken a cut-left left
+  pub took-right : KeyTaken b cut-right right
   pub fits : left .width + right .width ≤ K
   pub is : r ≡ left ⊕ right

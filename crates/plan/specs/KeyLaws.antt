@@ -8,7 +8,7 @@ use native.Mathlib.Omega.{arith}
 use lib.Dec.{leb}
 use Rattle.lists.specs.Cases.{by-leb, if-leb}
 use Rattle.plan.specs.declared.Key.{Key}
-use Rattle.plan.specs.Key.{key, _≼_, better, _⊕_, pack, join, cuts, Taken, held, cut, Way}
+use Rattle.plan.specs.Key.{key, _≼_, better, _⊕_, pack, join, cuts, KeyTaken, held, cut, Way}
 
 key-path : {a b : Key} → a .below ≡ b .below → a .width ≡ b .width → a ≡ b
 key-path p q = λ i. key (p i) (q i)
@@ -71,15 +71,15 @@ join-below K a b = pack-cases K _ _ _ (λ r. r .below ≤ a .below + b .below + 
 pub join-comm : (K : ℕ) (a b : Key) → join K a b ≡ join K b a
 join-comm K a b = rw (add-comm (a .below), add-comm (a .width), min-comm (a .width))
 
-taken-above : {a b : Key} {c : Bool} → Taken a c b → a ≼ b
+taken-above : {a b : Key} {c : Bool} → KeyTaken a c b → a ≼ b
 taken-above {a} held = ≼-refl a
 taken-above (cut h) = omega arith
 
-taken-wide : {a b : Key} {c : Bool} → Taken a c b → 1 ≤ a .width → 1 ≤ b .width
+taken-wide : {a b : Key} {c : Bool} → KeyTaken a c b → 1 ≤ a .width → 1 ≤ b .width
 taken-wide held h = h
 taken-wide (cut g) h = omega arith
 
-way : {K : ℕ} {l c : Bool} {a b x y r : Key} → Taken a l x → Taken b c y → x .width + y .width ≤ K →
+way : {K : ℕ} {l c : Bool} {a b x y r : Key} → KeyTaken a l x → KeyTaken b c y → x .width + y .width ≤ K →
     (r .below ≡ x .below + y .below) × (r .width ≡ x .width + y .width) → Way K l c a b r
 way {x = x} {y = y} t u f e = record { left = x; right = y; took-left = t; took-right = u; fits = f; is = key-path (e .0) (e .1) }
 

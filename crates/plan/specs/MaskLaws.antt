@@ -14,45 +14,45 @@ use lib.Pow.{pow-pos}
 use Rattle.lists.specs.Trusted.Lists.{Every, Inserted, here, there, Mix, neither, left, right}
 use Rattle.lists.specs.ListLaws.{every-cons, every-head, every-tail, inserted-length}
 use Rattle.cover.specs.Trusted.Cover.{pick}
-use Rattle.plan.specs.Masks.{select, Within}
+use Rattle.plan.specs.Masks.{select, MaskWithin}
 
 -- ---- submasks
 
 -- by the lowest bit and the others
-within-half : (u r : ℕ) → Within u r → (u % 2 ≤ r % 2) × Within (u / 2) (r / 2)
+within-half : (u r : ℕ) → MaskWithin u r → (u % 2 ≤ r % 2) × MaskWithin (u / 2) (r / 2)
 within-half u r w = let e = and-step u r in (omega arith, omega arith)
 
-within-whole : (u r : ℕ) → u % 2 ≤ r % 2 → Within (u / 2) (r / 2) → Within u r
+within-whole : (u r : ℕ) → u % 2 ≤ r % 2 → MaskWithin (u / 2) (r / 2) → MaskWithin u r
 within-whole u r l w = omega (arith, and-step u r)
 
-pub within-le : (u r : ℕ) → Within u r → u ≤ r
+pub within-le : (u r : ℕ) → MaskWithin u r → u ≤ r
 within-le u r w = omega (arith, and-le-r u r)
 
 -- what two masks have in common is a submask of each
-pub within-and : (u r : ℕ) → Within (bitAnd u r) r
+pub within-and : (u r : ℕ) → MaskWithin (bitAnd u r) r
 within-and =
-    bin-ind (λ u. (r : ℕ) → Within (bitAnd u r) r) (λ r. rw (and-zero-l r) (and-zero-l r)) λ u f r.
+    bin-ind (λ u. (r : ℕ) → MaskWithin (bitAnd u r) r) (λ r. rw (and-zero-l r) (and-zero-l r)) λ u f r.
     let e : bitAnd u r / 2 ≡ bitAnd (u / 2) (r / 2) = omega (arith, and-step u r) in
     within-whole (bitAnd u r) r (omega (arith, and-step u r)) (rw e (f (r / 2)))
 
 -- a submask of what stands below the highest bit is one of the whole
-pub within-top : (h r u : ℕ) → r < 2 ^ h → Within u r → Within u (2 ^ h + r)
+pub within-top : (h r u : ℕ) → r < 2 ^ h → MaskWithin u r → MaskWithin u (2 ^ h + r)
 within-top h r u l w =
     let b = and-block h 0 1 u r (omega (arith, within-le u r w)) l in
     (simp (zero-mul, one-mul, zero-add) at b) ∙ w
 
 -- ---- the loop over the submasks of r, from u to the next
 
-pub next-within : (u r : ℕ) → Within (bitAnd (u - 1) r) r
+pub next-within : (u r : ℕ) → MaskWithin (bitAnd (u - 1) r) r
 next-within u r = within-and (u - 1) r
 
 pub next-less : (u r : ℕ) → 0 < u → bitAnd (u - 1) r < u
 next-less u r h = omega (arith, and-le-l (u - 1) r)
 
 -- no submask is passed over
-pub next-greatest : (u r x : ℕ) → Within u r → Within x r → x < u → x ≤ bitAnd (u - 1) r
+pub next-greatest : (u r x : ℕ) → MaskWithin u r → MaskWithin x r → x < u → x ≤ bitAnd (u - 1) r
 next-greatest =
-    bin-ind (λ u. (r x : ℕ) → Within u r → Within x r → x < u → x ≤ bitAnd (u - 1) r) (λ r x v w h. absurd (omega arith)) λ u f r x v w h.
+    bin-ind (λ u. (r x : ℕ) → MaskWithin u r → MaskWithin x r → x < u → x ≤ bitAnd (u - 1) r) (λ r x v w h. absurd (omega arith)) λ u f r x v w h.
     let a = within-half u r v in
     let b = within-half x r w in
     let s = and-step (u - 1) r in
@@ -93,7 +93,7 @@ module _ {A : Type 0} where
   select-cons k ks s b t p q = λ i. pick (p i) (select (q i) ks) (k ∷ select (q i) ks)
 
   -- a submask and the rest
-  pub select-mix : (ks : List A) (u r : ℕ) → Within u r → Mix (select (r - u) ks) (select u ks) (select r ks)
+  pub select-mix : (ks : List A) (u r : ℕ) → MaskWithin u r → Mix (select (r - u) ks) (select u ks) (select r ks)
   select-mix [] u r w = neither
   select-mix (k ∷ ks) u r w =
       let h = within-half u r w in
@@ -103,7 +103,7 @@ module _ {A : Type 0} where
 
   -- `xs` is what is left of the mask r without some submask, and `ys` is what that submask selects
   abbrev pub Parted : List A → ℕ → List A → List A → Type 0
-  Parted ks r xs ys = (u : ℕ) × Within u r × (xs ≡ select (r - u) ks) × (ys ≡ select u ks)
+  Parted ks r xs ys = (u : ℕ) × MaskWithin u r × (xs ≡ select (r - u) ks) × (ys ≡ select u ks)
 
   parted-cons : (k : A) (ks : List A) (r d a b : ℕ) (xs ys : List A) → r % 2 ≡ d → d ≡ a + b → Parted ks (r / 2) xs ys →
       Parted (k ∷ ks) r (pick a xs (k ∷ xs)) (pick b ys (k ∷ ys))

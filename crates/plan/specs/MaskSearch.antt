@@ -16,7 +16,7 @@ use Rattle.plan.specs.Key.{leaf-key, _≼_, join}
 use Rattle.plan.specs.Reach.{Reach, both, LeastReach, Wide}
 use Rattle.plan.specs.ReachLaws.{least-permuted, least-one, least-single, no-reach}
 use Rattle.plan.specs.SubsetLaws.{least-step}
-use Rattle.plan.specs.Masks.{select, Within}
+use Rattle.plan.specs.Masks.{select, MaskWithin}
 use Rattle.plan.specs.MaskLaws.{within-le, select-mix, select-parted, select-top, select-none, select-every, select-some}
 
 module _ (K : ℕ) (two : 2 ≤ K) (ks : List Key) (wide : Wide ks) where
@@ -37,17 +37,17 @@ module _ (K : ℕ) (two : 2 ≤ K) (ks : List Key) (wide : Wide ks) where
   module _ (h r : ℕ) (l : h < length ks) (some : 0 < r) (below : r < 2 ^ h) (best : ℕ → Key)
       (before : (s : ℕ) → 0 < s → s < 2 ^ h + r → LeastReach K (select s ks) (best s)) where
     -- a submask of r, and the rest of the mask
-    low-part : (u : ℕ) → 0 < u → Within u r → LeastReach K (select u ks) (best u)
+    low-part : (u : ℕ) → 0 < u → MaskWithin u r → LeastReach K (select u ks) (best u)
     low-part u p w = before u p (omega (arith, within-le u r w, pow-pos h))
 
-    high-part : (u : ℕ) → 0 < u → Within u r → LeastReach K (at h ∷ select (r - u) ks) (best (2 ^ h + r - u))
+    high-part : (u : ℕ) → 0 < u → MaskWithin u r → LeastReach K (at h ∷ select (r - u) ks) (best (2 ^ h + r - u))
     high-part u p w =
         let e : 2 ^ h + r - u ≡ 2 ^ h + (r - u) = omega (arith, within-le u r w) in
         let b = before (2 ^ h + r - u) (omega (arith, pow-pos h)) (omega (arith, within-le u r w)) in
         least-permuted b (rw e (top-permuted h (r - u) l (omega arith)))
 
-    pub mask-step : (k : Key) → ((u : ℕ) × (0 < u) × Within u r × (k ≡ join K (best (2 ^ h + r - u)) (best u))) →
-        ((u : ℕ) → 0 < u → Within u r → k ≼ join K (best (2 ^ h + r - u)) (best u)) → LeastReach K (select (2 ^ h + r) ks) k
+    pub mask-step : (k : Key) → ((u : ℕ) × (0 < u) × MaskWithin u r × (k ≡ join K (best (2 ^ h + r - u)) (best u))) →
+        ((u : ℕ) → 0 < u → MaskWithin u r → k ≼ join K (best (2 ^ h + r - u)) (best u)) → LeastReach K (select (2 ^ h + r) ks) k
     mask-step k made low = least-permuted (least-step K two thick (select-some ks r leaf-key some in-range) reached under) (permuted-sym whole)
       where
         whole : Permuted (at h ∷ select r ks) (select (2 ^ h + r) ks)

@@ -12,5 +12,5 @@ select s [] = []
 select s (k ∷ ks) = pick (s % 2) (select (s / 2) ks) (k ∷ select (s / 2) ks)
 
 -- each set bit of `u` is a set bit of `r`
-abbrev pub Within : ℕ → ℕ → Type 0
-Within u r = bitAnd u r ≡ u
+abbrev pub MaskWithin : ℕ → ℕ → Type 0
+MaskWithin u r = bitAnd u r ≡ u

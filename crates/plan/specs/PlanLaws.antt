@@ -17,7 +17,7 @@ use Rattle.plan.specs.declared.Key.{Key}
 use Rattle.plan.specs.Key.{leaf-key}
 use Rattle.plan.specs.declared.Token.{Token}
 use Rattle.plan.specs.declared.Token.the-variants.{Push as push, Join as join}
-use Rattle.plan.specs.Plans.{Denotes, fanin, binary, Planned, Fragment, made, place, Says, Runs, stop, pushed, joined, Standing, Ready, ready-none, ready-edge, Body}
+use Rattle.plan.specs.Plans.{Denotes, fanin, binary, Planned, Fragment, made, place, PlanSays, Runs, stop, pushed, joined, Standing, Ready, ready-none, ready-edge, Body}
 use Rattle.plan.specs.Fragments.{names-matched, edges, Stands, as-drawn, as-made, ready-names, stands-join}
 
 -- ---- a run
@@ -36,7 +36,7 @@ runs-split (join l c ∷ p) (joined m n d e a) = let r = runs-split p a in (r .0
 
 last-join : {ds : List (Bool × Cover)} {l c : Bool} {x y : Fragment} {st st′ : List Fragment} →
     Runs ds (join l c ∷ []) (y ∷ x ∷ st) st′ →
-    (m : ℕ) × (n : ℕ) × Says l m × Says c n × (st′ ≡ made (place m x (place n y end)) ∷ st)
+    (m : ℕ) × (n : ℕ) × PlanSays l m × PlanSays c n × (st′ ≡ made (place m x (place n y end)) ∷ st)
 last-join (joined m n d e stop) = (m, n, d, e, refl)
 
 module _ (K : ℕ) where
@@ -75,7 +75,7 @@ module _ (K : ℕ) where
       let b = stands-body (x .2) (rw e at (pl .once)) (omega arith) in
       (b .0, x .1 ∙ ap (λ f. f ∷ []) (b .1), b .2)
 
-  some-mark : (l : Bool) → (m : ℕ) × Says l m
+  some-mark : (l : Bool) → (m : ℕ) × PlanSays l m
   some-mark false = (0, refl)
   some-mark true = (1, omega arith)
 

@@ -30,7 +30,7 @@ abbrev pub blank : Bool → Key → Plan
 blank b a = record { ok = b; key = a; len = 0; steps = replicate mostSteps (record { token = push 0 }) }
 
 -- a plan for fanins with these keys: it joins each of them once, and no plan has a better key
-pub record Answer (K : ℕ) (ks : List Key) (r : Plan) : Type 0 where
+pub record PlanAnswer (K : ℕ) (ks : List Key) (r : Plan) : Type 0 where
   pub ok : r .ok ≡ true
   pub least : LeastReach K ks (r .key)
   pub planned : Planned K ks (upto (length ks)) (tokens r) (r .key)
@@ -39,4 +39,4 @@ pub record Answer (K : ℕ) (ks : List Key) (r : Plan) : Type 0 where
 
 -- the promise: input that is not good is answered by zeros
 abbrev pub PlanOf : ℕ → ℕ → List Key → Plan → Type 0
-PlanOf K count keys r = either (goodInput K count keys) (Answer K (take count keys) r) (r ≡ blank false (key 0 0))
+PlanOf K count keys r = either (goodInput K count keys) (PlanAnswer K (take count keys) r) (r ≡ blank false (key 0 0))

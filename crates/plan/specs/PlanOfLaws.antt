@@ -12,10 +12,10 @@ use Rattle.lists.specs.TestLaws.{Reflects, reflects-le, reflects-map, reflects-
 use Rattle.plan.specs.declared.Key.{Key}
 use Rattle.plan.specs.declared.Plan.{Plan}
 use Rattle.plan.specs.Limits.{leastInputs, mostInputs, leastFanins, mostFanins, mostBelow, mostSteps}
-use Rattle.plan.specs.Entries.{Fanin, Good}
-use Rattle.plan.specs.PlanOf.{faninTest, goodInput, Answer, PlanOf}
+use Rattle.plan.specs.Entries.{FaninKey, GoodKeys}
+use Rattle.plan.specs.PlanOf.{faninTest, goodInput, PlanAnswer, PlanOf}
 
-reflects-fanin : (K : ℕ) (a : Key) → Reflects (faninTest K a) (Fanin K a)
+reflects-fanin : (K : ℕ) (a : Key) → Reflects (faninTest K a) (FaninKey K a)
 unfolding faninTest
 reflects-fanin K a =
     reflects-map (λ h. record { some = h .0 .0; most = h .0 .1; few = h .1 }) (λ f. ((f .some, f .most), f .few))
@@ -23,7 +23,7 @@ reflects-fanin K a =
 
 -- the input is good where its keys can be searched
 pub reflects-good : (K count : ℕ) (keys : List Key) → length (take count keys) ≡ count →
-    Reflects (goodInput K count keys) (Good K (take count keys))
+    Reflects (goodInput K count keys) (GoodKeys K (take count keys))
 unfolding goodInput
 reflects-good K count keys e =
     reflects-map
@@ -41,10 +41,10 @@ good-size K count keys l h =
     length-take-le count keys (omega (arith, (reflects-within leastFanins mostFanins count) .to (q .0)))
 
 -- good input has an answer
-pub plan-answer : (K count : ℕ) (keys : List Key) {r : Plan} → length (take count keys) ≡ count → Good K (take count keys) →
-    PlanOf K count keys r → Answer K (take count keys) r
+pub plan-answer : (K count : ℕ) (keys : List Key) {r : Plan} → length (take count keys) ≡ count → GoodKeys K (take count keys) →
+    PlanOf K count keys r → PlanAnswer K (take count keys) r
 plan-answer K count keys e g = by-either (reflects-good K count keys e) (λ h a. a) (λ n z. absurd (n g))
 
-module _ {K : ℕ} {ks : List Key} {r : Plan} (a : Answer K ks r) where
-  pub answer-most : Good K ks → r .len ≤ mostSteps
+module _ {K : ℕ} {ks : List Key} {r : Plan} (a : PlanAnswer K ks r) where
+  pub answer-most : GoodKeys K ks → r .len ≤ mostSteps
   answer-most g = omega (arith, a .len, g .count .1)

@@ -47,16 +47,16 @@ place m (drawn q) fs = old (q .0) (marked m (q .1)) fs
 place m (made s) fs = new m s fs
 
 -- the mark m says what the flag says
-abbrev pub Says : Bool → ℕ → Type 0
-Says false m = m ≡ 0
-Says true m = 0 < m
+abbrev pub PlanSays : Bool → ℕ → Type 0
+PlanSays false m = m ≡ 0
+PlanSays true m = 0 < m
 
 -- the plan turns the first stack into the second, with any numbers for what is placed; `ds` are the fanins
 pub data Runs (ds : List (Bool × Cover)) : List Token → List Fragment → List Fragment → Type 0 where
   stop : {st : List Fragment} → Runs ds [] st st
   pushed : {i : ℕ} {p : List Token} {st st′ : List Fragment} →
       Runs ds p (drawn (getD ds i (false, net 0)) ∷ st) st′ → Runs ds (push i ∷ p) st st′
-  joined : {l r : Bool} {p : List Token} {x y : Fragment} {st st′ : List Fragment} (m n : ℕ) → Says l m → Says r n →
+  joined : {l r : Bool} {p : List Token} {x y : Fragment} {st st′ : List Fragment} (m n : ℕ) → PlanSays l m → PlanSays r n →
       Runs ds p (made (place m x (place n y end)) ∷ st) st′ → Runs ds (join l r ∷ p) (y ∷ x ∷ st) st′
 
 -- ---- what a run makes

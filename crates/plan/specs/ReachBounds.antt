@@ -14,7 +14,7 @@ use Rattle.plan.specs.Masks.{select}
 use Rattle.plan.specs.MaskLaws.{select-every}
 use Rattle.plan.specs.Reach.{Reach, one, both, Wide}
 use Rattle.plan.specs.ReachLaws.{reach-wide}
-use Rattle.plan.specs.Entries.{Small, Fanin, Good}
+use Rattle.plan.specs.Entries.{Small, FaninKey, GoodKeys}
 use Rattle.plan.specs.Limits.{mostFanins, mostBelow}
 
 -- the tables below a fanin, and two for it
@@ -33,7 +33,7 @@ module _ (K : ℕ) (two : 2 ≤ K) where
       let v = mix-every m w in
       omega (arith, join-width K two a b (reach-wide two p (v .0)) (reach-wide two q (v .1)))
 
-sum-few : (K : ℕ) (ks : List Key) → Every (Fanin K) ks → sum cost ks ≤ (mostBelow + 2) * length ks
+sum-few : (K : ℕ) (ks : List Key) → Every (FaninKey K) ks → sum cost ks ≤ (mostBelow + 2) * length ks
 sum-few K [] h = omega arith
 sum-few K (k ∷ ks) h = let f = every-head h in omega (arith, sum-few K ks (every-tail h))
 
@@ -46,7 +46,7 @@ select-length s [] = omega arith
 select-length s (k ∷ ks) = omega (arith, pick-length k (select (s / 2) ks) (s % 2), select-length (s / 2) ks)
 
 -- at most ten fanins reach a small key
-pub reach-small : {K : ℕ} {ks : List Key} {r : Key} → 2 ≤ K → Every (Fanin K) ks → length ks ≤ mostFanins → Reach K ks r → Small K r
+pub reach-small : {K : ℕ} {ks : List Key} {r : Key} → 2 ≤ K → Every (FaninKey K) ks → length ks ≤ mostFanins → Reach K ks r → Small K r
 reach-small {K} {ks} two f l p =
     let w : Wide ks = λ a m. f a m .some in
     record {
@@ -56,6 +56,6 @@ reach-small {K} {ks} two f l p =
     }
 
 -- and so do some of them
-pub select-small : {K : ℕ} {ks : List Key} → Good K ks → (s : ℕ) {r : Key} → Reach K (select s ks) r → Small K r
+pub select-small : {K : ℕ} {ks : List Key} → GoodKeys K ks → (s : ℕ) {r : Key} → Reach K (select s ks) r → Small K r
 select-small {ks = ks} g s =
     reach-small (g .table .0) (select-every ks s (g .keys)) (omega (arith, select-length s ks, g .count .1))

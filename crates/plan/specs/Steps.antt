@@ -7,16 +7,16 @@ use Rattle.lists.specs.Trusted.Lists.{upto}
 use Rattle.plan.specs.declared.Key.{Key}
 use Rattle.plan.specs.declared.Token.{Token}
 use Rattle.plan.specs.declared.Token.the-variants.{Push as push, Join as join}
-use Rattle.plan.specs.declared.Step.{Step}
+use Rattle.plan.specs.declared.PlanStep.{PlanStep}
 use Rattle.plan.specs.declared.Plan.{Plan}
 use Rattle.plan.specs.Limits.{masks, mostSteps}
 use Rattle.plan.specs.Key.{cuts}
 use Rattle.plan.specs.Masks.{select}
 use Rattle.plan.specs.MaskPlans.{MaskPlanned}
-use Rattle.plan.specs.Entries.{entry, Entries, Good}
+use Rattle.plan.specs.Entries.{entry, Entries, GoodKeys}
 
 -- the tokens of the first n steps
-abbrev pub firsts : ℕ → List Step → List Token
+abbrev pub firsts : ℕ → List PlanStep → List Token
 firsts n ss = map (λ x. x .token) (take n ss)
 
 -- the tokens of a plan
@@ -38,7 +38,7 @@ Took s p q = (h : ℕ) × (2 ^ h ≡ s) × (q ≡ stepped p (push h))
 -- the mask has an entry, as have all below it, and the plan has room: each fanin takes two steps, but the first one
 pub record Writable (K : ℕ) (bs ws us : List ℕ) (s : ℕ) (p : Plan) : Type 0 where
   pub keys : List Key
-  pub good : Good K keys
+  pub good : GoodKeys K keys
   pub entries : Entries K keys bs ws us (s + 1)
   pub some : 0 < s
   pub place : s < masks
@@ -46,7 +46,7 @@ pub record Writable (K : ℕ) (bs ws us : List ℕ) (s : ℕ) (p : Plan) : Type 
   pub room : p .len + 2 * length (select s (upto (length keys))) ≤ mostSteps + 1
 
 -- q is p with a plan for the mask added
-pub record Written (K : ℕ) (ks : List Key) (bs ws : List ℕ) (s : ℕ) (p q : Plan) : Type 0 where
+pub record StepsWritten (K : ℕ) (ks : List Key) (bs ws : List ℕ) (s : ℕ) (p q : Plan) : Type 0 where
   pub added : List Token
   pub planned : MaskPlanned K ks s added (entry bs ws s)
   pub is : tokens q ≡ tokens p ++ added
@@ -56,4 +56,4 @@ pub record Written (K : ℕ) (ks : List Key) (bs ws : List ℕ) (s : ℕ) (p q :
 
 -- whatever keys the entries are of
 abbrev pub Writes : ℕ → List ℕ → List ℕ → List ℕ → ℕ → Plan → Plan → Type 0
-Writes K bs ws us s p q = (ks : List Key) → Entries K ks bs ws us (s + 1) → Written K ks bs ws s p q
+Writes K bs ws us s p q = (ks : List Key) → Entries K ks bs ws us (s + 1) → StepsWritten K ks bs ws s p q

@@ -15,7 +15,7 @@ use Rattle.plan.specs.Key.{leaf-key, _≼_, join}
 use Rattle.plan.specs.KeyLaws.{≼-refl, ≼-trans, better-cases, join-comm, join-mono}
 use Rattle.plan.specs.Reach.{Reach, one, both, LeastReach, Wide}
 use Rattle.plan.specs.ReachLaws.{no-reach, reach-wide}
-use Rattle.plan.specs.Subsets.{Entries, tip, fork, better-of, join-of, betters, joins, solve, blank, only, entries, full, least-of}
+use Rattle.plan.specs.Subsets.{SubsetEntries, tip, fork, better-of, join-of, betters, joins, solve, blank, only, entries, full, least-of}
 
 -- What the entries are: each is the least key that has a property of its part, or there is no such key.
 
@@ -40,7 +40,7 @@ abbrev Same : Property → Property → Type 0
 Same P Q = Implies P Q × Implies Q P
 
 -- every entry is exact
-abbrev Each : {ks : List Key} → Entries ks → Property → Type 0
+abbrev Each : {ks : List Key} → SubsetEntries ks → Property → Type 0
 Each (tip o) P = Exact (P []) o
 Each (fork {k} a b) P = Each a P × Each b (plus k P)
 
@@ -48,7 +48,7 @@ exact-iff : (P Q : Key → Type 0) (o : Option Key) → ((r : Key) → P r → Q
 exact-iff P Q none f g h = λ r q. h r (g r q)
 exact-iff P Q (some o) f g h = (f o (h .0), λ r q. h .1 r (g r q))
 
-each-iff : {ks : List Key} (P Q : Property) (t : Entries ks) → Same P Q → Each t P → Each t Q
+each-iff : {ks : List Key} (P Q : Property) (t : SubsetEntries ks) → Same P Q → Each t P → Each t Q
 each-iff P Q (tip o) e h = exact-iff (P []) (Q []) o (e .0 []) (e .1 []) h
 each-iff P Q (fork {k} a b) e h =
     (each-iff P Q a e (h .0), each-iff (plus k P) (plus k Q) b (λ zs. e .0 (k ∷ zs), λ zs. e .1 (k ∷ zs)) (h .1))
@@ -62,7 +62,7 @@ better-exact P Q (some a) (some b) h l =
     (λ c. (inl (h .0), λ r. ⊎-elim (h .1 r) (λ q. ≼-trans c (l .1 r q))))
     (λ c. (inr (l .0), λ r. ⊎-elim (λ p. ≼-trans c (h .1 r p)) (l .1 r)))
 
-betters-exact : {ks : List Key} (P Q : Property) (a b : Entries ks) → Each a P → Each b Q → Each (betters a b) (either P Q)
+betters-exact : {ks : List Key} (P Q : Property) (a b : SubsetEntries ks) → Each a P → Each b Q → Each (betters a b) (either P Q)
 betters-exact P Q (tip a) (tip b) h l = better-exact (P []) (Q []) a b h l
 betters-exact P Q (fork {k} a b) (fork c d) h l =
     (betters-exact P Q a c (h .0) (l .0), betters-exact (plus k P) (plus k Q) b d (h .1) (l .1))
@@ -80,7 +80,7 @@ only-exact : (ks : List Key) (r : Key) → Each (only ks r) (Only r)
 only-exact [] r = (refl, λ s e. rw e (≼-refl r))
 only-exact (k ∷ ks) r = (only-exact ks r, blank-exact (plus k (Only r)) ks (λ zs s b. b))
 
-full-exact : {ks : List Key} (P : Property) (t : Entries ks) → Each t P → Exact (P ks) (full t)
+full-exact : {ks : List Key} (P : Property) (t : SubsetEntries ks) → Each t P → Exact (P ks) (full t)
 full-exact P (tip a) h = h
 full-exact P (fork {k} a b) h = full-exact (plus k P) b (h .1)
 
@@ -126,7 +126,7 @@ module _ (K : ℕ) where
       λ r j. at-empty j (λ r. join K a b ≼ r) (λ x y p q. join-mono K two (h .1 x p) (l .1 y q) (t [] x p) (u [] y q)),
     )
 
-    joins-exact : {ks : List Key} (P Q : Property) (a b : Entries ks) → Thick P → Thick Q →
+    joins-exact : {ks : List Key} (P Q : Property) (a b : SubsetEntries ks) → Thick P → Thick Q →
         Each a P → Each b Q → Each (joins K a b) (Joined P Q)
     joins-exact P Q (tip a) (tip b) t u h l = join-exact P Q a b t u h l
     joins-exact P Q (fork {k} a b) (fork c d) t u h l = (
@@ -139,7 +139,7 @@ module _ (K : ℕ) where
     )
 
     -- the property `S` is that of what `H` gives, and of joins of `S` with `F`
-    solve-exact : {ks : List Key} (H F S : Property) (f h : Entries ks) → Thick S → Thick F → ((r : Key) → F [] r → ⊥) →
+    solve-exact : {ks : List Key} (H F S : Property) (f h : SubsetEntries ks) → Thick S → Thick F → ((r : Key) → F [] r → ⊥) →
         Same (either H (Joined S F)) S → Each f F → Each h H → Each (solve K f h) S
     solve-exact H F S (tip f) (tip h) t u e i x y =
         exact-iff (H []) (S []) h (λ r p. i .0 [] r (inl p))

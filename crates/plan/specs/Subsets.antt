@@ -7,9 +7,9 @@ use Rattle.plan.specs.declared.Key.{Key}
 use Rattle.plan.specs.Key.{leaf-key, better, join}
 
 -- without the first key, and with it
-pub data Entries : List Key → Type 0 where
-  tip : Option Key → Entries []
-  fork : {k : Key} {ks : List Key} → Entries ks → Entries ks → Entries (k ∷ ks)
+pub data SubsetEntries : List Key → Type 0 where
+  tip : Option Key → SubsetEntries []
+  fork : {k : Key} {ks : List Key} → SubsetEntries ks → SubsetEntries ks → SubsetEntries (k ∷ ks)
 
 abbrev pub better-of : Option Key → Option Key → Option Key
 better-of none b = b
@@ -22,35 +22,35 @@ join-of K (some a) none = none
 join-of K (some a) (some b) = some (join K a b)
 
 -- entry by entry, the better one
-abbrev pub betters : {ks : List Key} → Entries ks → Entries ks → Entries ks
+abbrev pub betters : {ks : List Key} → SubsetEntries ks → SubsetEntries ks → SubsetEntries ks
 betters (tip a) (tip b) = tip (better-of a b)
 betters (fork a b) (fork c d) = fork (betters a c) (betters b d)
 
 -- at each part, the best join of an entry of the first table and an entry of the second that make up the part
-abbrev pub joins : {ks : List Key} → ℕ → Entries ks → Entries ks → Entries ks
+abbrev pub joins : {ks : List Key} → ℕ → SubsetEntries ks → SubsetEntries ks → SubsetEntries ks
 joins K (tip a) (tip b) = tip (join-of K a b)
 joins K (fork a b) (fork c d) = fork (joins K a c) (betters (joins K b c) (joins K a d))
 
 -- the best table `s` with `s = betters h (joins K s f)`; `f` has no entry at the empty part
-abbrev pub solve : {ks : List Key} → ℕ → Entries ks → Entries ks → Entries ks
+abbrev pub solve : {ks : List Key} → ℕ → SubsetEntries ks → SubsetEntries ks → SubsetEntries ks
 solve K (tip f) h = h
 solve K (fork f g) (fork h l) = let s = solve K f h in fork s (solve K f (betters l (joins K s g)))
 
-abbrev pub blank : (ks : List Key) → Entries ks
+abbrev pub blank : (ks : List Key) → SubsetEntries ks
 blank [] = tip none
 blank (k ∷ ks) = let b = blank ks in fork b b
 
 -- an entry at the empty part, and no other
-abbrev pub only : (ks : List Key) → Key → Entries ks
+abbrev pub only : (ks : List Key) → Key → SubsetEntries ks
 only [] r = tip (some r)
 only (k ∷ ks) r = fork (only ks r) (blank ks)
 
 -- at each part, the least key that it reaches
-abbrev pub entries : ℕ → (ks : List Key) → Entries ks
+abbrev pub entries : ℕ → (ks : List Key) → SubsetEntries ks
 entries K [] = tip none
 entries K (k ∷ ks) = let f = entries K ks in fork f (solve K f (only ks k))
 
-abbrev pub full : {ks : List Key} → Entries ks → Option Key
+abbrev pub full : {ks : List Key} → SubsetEntries ks → Option Key
 full (tip a) = a
 full (fork a b) = full b
 

@@ -32,7 +32,7 @@ pub enum Token {
 }
 
 // A token in a struct of its own, for an array.
-pub struct Step {
+pub struct PlanStep {
     pub token: Token,
 }
 
@@ -41,7 +41,7 @@ pub struct Plan {
     pub ok: bool,
     pub key: Key,
     pub len: u8,
-    pub steps: [Step; MOST_STEPS],
+    pub steps: [PlanStep; MOST_STEPS],
 }
 
 // Which operands of a join are placed.

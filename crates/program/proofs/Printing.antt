@@ -23,13 +23,13 @@ use Rattle.part.specs.Trusted.Sound.{Sound}
 use Rattle.part.specs.SoundLaws.{sound-reflects}
 use Rattle.part.specs.Trusted.Listing.{listOf}
 use Rattle.part.specs.declared.Part.{Part}
-use Rattle.list_line.specs.Trusted.Writes.{Outcome, wrote, refused, pasted}
+use Rattle.list_line.specs.Trusted.Writes.{WriteOutcome, wrote, refused, pasted}
 use Rattle.listing.specs.Trusted.WriteAnswers.{resultOf}
 use Rattle.listing.specs.Lines.{turnedDown, fitted, listWritten}
 use Rattle.list_line.specs.PasteLaws.{paste-one, paste-length, paste-next}
 use Rattle.listing.specs.LineLaws.{fitted-out, fitted-in, list-there}
-use Rattle.listing.specs.declared.Answer.{Answer}
-use Rattle.listing.specs.declared.Answer.the-variants.{Wrote, NotSound, NoLine, NoRoom}
+use Rattle.listing.specs.declared.WriteAnswer.{WriteAnswer}
+use Rattle.listing.specs.declared.WriteAnswer.the-variants.{Wrote, NotSound, NoLine, NoRoom}
 use Rattle.list_line.proofs.Written.{number-written}
 use Rattle.program.specs.Trusted.Program.{refusalLine}
 use Rattle.program.specs.Contracts.{WrittenAs}
@@ -38,7 +38,7 @@ use Rattle.program.specs.declared.Printed.the-variants.{Wrote as Printed
 
 -- ---- the list
 
-abbrev pub printedOf : Answer → Printed
+abbrev pub printedOf : WriteAnswer → Printed
 printedOf (Wrote n) = Printed-Wrote n
 printedOf NotSound = Printed-NoRoom
 printedOf NoLine = Printed-NoRoom
@@ -51,14 +51,14 @@ only-14 old line number =
     (λ l e. let z : _≡_ {A = ℕ} 0 1 = cc in absurd (omega arith))
     (λ l e. cc)
 
-pub list-printed : (p : Part) → Sound p → (old new : List ℕ) (a : Answer) → record { result = resultOf a; bytes = new } ≡ listWritten p old 0 →
+pub list-printed : (p : Part) → Sound p → (old new : List ℕ) (a : WriteAnswer) → record { result = resultOf a; bytes = new } ≡ listWritten p old 0 →
     WrittenAs (listOf p) (printedOf a) new old
 list-printed p s old new a e = of a (e ∙ list-there p old 0 (reflects-true (sound-reflects p) s))
   where
-    of : (a : Answer) → record { result = resultOf a; bytes = new } ≡ fitted old 0 (listOf p) → WrittenAs (listOf p) (printedOf a) new old
+    of : (a : WriteAnswer) → record { result = resultOf a; bytes = new } ≡ fitted old 0 (listOf p) → WrittenAs (listOf p) (printedOf a) new old
     of (Wrote n) i = i
-    of NotSound i = absurd (omega (arith, only-14 old (listOf p) 20 (ap (λ (o : Outcome). o .result) i)))
-    of NoLine i = absurd (omega (arith, only-14 old (listOf p) 15 (ap (λ (o : Outcome). o .result) i)))
+    of NotSound i = absurd (omega (arith, only-14 old (listOf p) 20 (ap (λ (o : WriteOutcome). o .result) i)))
+    of NoLine i = absurd (omega (arith, only-14 old (listOf p) 15 (ap (λ (o : WriteOutcome). o .result) i)))
     of NoRoom i = i
 
 -- ---- the line of a refusal
@@ -92,7 +92,7 @@ module _ (old : List ℕ) (number sheet place : ℕ) where
         let y = fieldOf 6 sheet in
         let z = fieldOf 6 place in
         let ea : a ≡ pasted old 0 x =
-        ap (λ (o : writing.Outcome). o .bytes) (e ∙ signed-written-at old 0 6 (minus number) (omega arith) (omega arith)
+        ap (λ (o : writing.FieldWrite). o .bytes) (e ∙ signed-written-at old 0 6 (minus number) (omega arith) (omega arith)
         (record { size = omega arith; sign = λ _. (some, omega arith) })) in
         let la : length a ≡ length old = ap length ea ∙ paste-length old 0 x (omega arith) in
         let eb : b ≡ pasted old 0 (x ++ y) =

@@ -9,7 +9,7 @@ use Rattle.part.specs.Trusted.Sound.{Sound}
 use Rattle.part.specs.Trusted.Listing.{listOf}
 use Rattle.part.specs.declared.Part.{Part}
 use Rattle.listing.specs.Lines as lines
-use Rattle.program.specs.Trusted.Program.{refusalLine, Mapped, Prints}
+use Rattle.program.specs.Trusted.Program.{refusalLine, SheetsPrint, Prints}
 use Rattle.program.specs.declared.Printed.{Printed}
 use Rattle.program.specs.declared.Printed.the-variants.{Wrote, NoRoom}
 use Rattle.program.specs.declared.End.{End}
@@ -39,5 +39,5 @@ abbrev pub endLine : End → List ℕ
 endLine r = cond (eqb (r .told .number) 0) (listOf (r .part)) (refusalLine (r .told .number) (r .sheet) (r .told .line))
 
 pub record Ended (p : Part) (text : List ℕ) (r : End) : Type 0 where
-  pub mapped : Mapped p 0 text (endLine r)
+  pub mapped : SheetsPrint p 0 text (endLine r)
   pub sound : Sound (r .part)

@@ -21,14 +21,14 @@ use Rattle.sheet.specs.Trusted.Formed.{WellFormed}
 use Rattle.sheet.specs.ReadLaws.{read-formed}
 use Rattle.sheet.specs.Trusted.Answers.{numberOf, drawnSheet}
 use Rattle.sheet.specs.Promise.{answerStep, NextRead}
-use Rattle.sheet.specs.declared.Answer.{Answer as CodeAnswer}
-use Rattle.sheet.specs.declared.Answer.the-variants.{Accepted as Read, Refused as Misread}
+use Rattle.sheet.specs.declared.ReadAnswer.{ReadAnswer as CodeAnswer}
+use Rattle.sheet.specs.declared.ReadAnswer.the-variants.{Accepted as Read, Refused as Misread}
 use Rattle.sheet.specs.declared.Next.{Next}
 use Rattle.part.specs.Trusted.Parts.{Shaped}
 use Rattle.part.specs.Trusted.Sound.{Sound}
 use Rattle.part.specs.Trusted.Answers.{Answer, accepted, refused, Result}
 use Rattle.part.specs.Trusted.Add.{Offer, Add}
-use Rattle.demands.specs.AddLaws.{Outcome, unsound, misread, driven, read, full, taken, outcome, kept, opened-shaped, opened-sound}
+use Rattle.demands.specs.AddLaws.{AddCase, unsound, misread, driven, read, full, taken, outcome, kept, opened-shaped, opened-sound}
 use Rattle.demands.specs.AddLaws.{not-refused}
 use Rattle.part.specs.Storing.{sheetOf}
 use Rattle.part.specs.StoringLaws.{add-misread, add-offered}
@@ -36,7 +36,7 @@ use Rattle.part.specs.Trusted.Listing.{listOf}
 use Rattle.part.specs.declared.Part.{Part}
 use Rattle.opening.specs.Trusted.Opening.{openingNumbers, count, openedBy}
 use Rattle.opening.specs.Contracts.{told, startResult}
-use Rattle.program.specs.Trusted.Program.{refusalLine, Mapped, ended, stopped, added, After, Prints}
+use Rattle.program.specs.Trusted.Program.{refusalLine, SheetsPrint, ended, stopped, added, After, Prints}
 use Rattle.program.specs.Contracts.{endLine, Ended}
 use Rattle.opening.specs.declared.Told.{Told}
 use Rattle.opening.specs.declared.Start.{Start}
@@ -78,7 +78,7 @@ least-some l = let c = l .some in omega (arith, rooted-some (c .1 .root), c .2)
 pub grown : (p : Part) (text : List ℕ) (q : Part) (a : Answer) → Add p text q a → a ≡ accepted → p .used < q .used
 grown p text q a h e = of (outcome p text q a h)
   where
-    of : Outcome p text q a → p .used < q .used
+    of : AddCase p text q a → p .used < q .used
     of (unsound n r) = absurd (not-refused (r .1) e)
     of (misread number place s i r) = absurd (not-refused (r .1) e)
     of (driven s h i d r) = absurd (not-refused (r .1) e)
@@ -175,7 +175,7 @@ pub record SoFar (input : List ℕ) (opened : Part) (start : ℕ) (part : Part) 
   pub shaped : Shaped part
   pub sound : Sound part
   pub few : sheet ≤ part .used
-  pub whole : (out : List ℕ) → Mapped part sheet (drop at input) out → Mapped opened 0 (drop start input) out
+  pub whole : (out : List ℕ) → SheetsPrint part sheet (drop at input) out → SheetsPrint opened 0 (drop start input) out
 
 pub so-far-start : (input : List ℕ) (opened : Part) (start : ℕ) → Shaped opened → Sound opened → SoFar input opened start opened start 0
 so-far-start input opened start shape s = record { shaped = shape; sound = s; few = omega arith; whole = λ out m. m }
@@ -184,8 +184,8 @@ module _ {input : List ℕ} {opened part : Part} {start at sheet : ℕ} (h : SoF
   pub few-sheets : sheet ≤ 800
   few-sheets = omega (arith, h .few, h .sound .used-fits, h .sound .capacity-range)
 
-  so-far-all : length input ≤ at → Mapped opened 0 (drop start input) (listOf part)
-  so-far-all l = h .whole (listOf part) (subst (λ t. Mapped part sheet t (listOf part)) (sym (nothing (drop at input) (omega (arith, length-drop at input)))) ended)
+  so-far-all : length input ≤ at → SheetsPrint opened 0 (drop start input) (listOf part)
+  so-far-all l = h .whole (listOf part) (subst (λ t. SheetsPrint part sheet t (listOf part)) (sym (nothing (drop at input) (omega (arith, length-drop at input)))) ended)
     where
       nothing : (xs : List ℕ) → length xs ≡ 0 → xs ≡ []
       nothing [] e = refl
@@ -204,18 +204,18 @@ module _ {input : List ℕ} {opened part : Part} {start at sheet : ℕ} (h : SoF
           few = omega (arith, h .few, s .grown e);
           whole = λ out m. h .whole out
               (added q left (subst (Add part (sheetText (drop at input) .0) q) e (s .add))
-              (subst (λ x. Mapped q (suc sheet) x out) (sym (s .rest e)) (subst (λ n. Mapped q n (drop end input) out) (add-one sheet) m)));
+              (subst (λ x. SheetsPrint q (suc sheet) x out) (sym (s .rest e)) (subst (λ n. SheetsPrint q n (drop end input) out) (add-one sheet) m)));
         }
 
-    so-far-stop : (t .number ≡ 0 → ⊥) → Mapped opened 0 (drop start input) (refusalLine (t .number) (sheet + 1) (t .line))
+    so-far-stop : (t .number ≡ 0 → ⊥) → SheetsPrint opened 0 (drop start input) (refusalLine (t .number) (sheet + 1) (t .line))
     so-far-stop d =
-        subst (λ n. Mapped opened 0 (drop start input) (refusalLine (t .number) n (t .line))) (sym (add-one sheet))
+        subst (λ n. SheetsPrint opened 0 (drop start input) (refusalLine (t .number) n (t .line))) (sym (add-one sheet))
         (h .whole _ (stopped q (t .number) (t .line) left (subst (Add part (sheetText (drop at input) .0) q) (told-refused t d) (s .add))))
 
     -- the loop's ends
     pub ended-stop : (t .number ≡ 0 → ⊥) → Ended opened (drop start input) (record { part = q; told = t; sheet = sheet + 1 })
     ended-stop d = record {
-      mapped = subst (Mapped opened 0 (drop start input)) (sym (ap (λ b. cond b (listOf q) (refusalLine (t .number) (sheet + 1) (t .line))) (ne-eqb (t .number) 0 d))) (so-far-stop d);
+      mapped = subst (SheetsPrint opened 0 (drop start input)) (sym (ap (λ b. cond b (listOf q) (refusalLine (t .number) (sheet + 1) (t .line))) (ne-eqb (t .number) 0 d))) (so-far-stop d);
       sound = s .sound;
     }
 
@@ -240,7 +240,7 @@ module _ (input : List ℕ) (s : Start) (e : startResult s ≡ openedBy (opening
   opening-refused d =
       subst (λ (r : Result). After r (drop 13 input) (refusalLine (s .told .number) 0 (s .told .line))) (with-answer (told-refused (s .told) d)) refl
 
-  pub opening-accepted : s .told .number ≡ 0 → (out : List ℕ) → Mapped (s .part) 0 (drop 13 input) out → Prints input out
+  pub opening-accepted : s .told .number ≡ 0 → (out : List ℕ) → SheetsPrint (s .part) 0 (drop 13 input) out → Prints input out
   opening-accepted z out m = subst (λ (r : Result). After r (drop 13 input) out) (with-answer (told-accepted (s .told) z)) m
 
   pub opening-sound : s .told .number ≡ 0 → Sound (s .part)
@@ -250,9 +250,9 @@ module _ (input : List ℕ) (s : Start) (e : startResult s ≡ openedBy (opening
 
 -- ---- what is printed at the end, by the answer
 
-module _ {p : Part} {text : List ℕ} (r : End) (m : Mapped p 0 text (endLine r)) where
-  pub refused-line : (r .told .number ≡ 0 → ⊥) → Mapped p 0 text (refusalLine (r .told .number) (r .sheet) (r .told .line))
-  refused-line d = subst (λ b. Mapped p 0 text (cond b (listOf (r .part)) (refusalLine (r .told .number) (r .sheet) (r .told .line)))) (ne-eqb (r .told .number) 0 d) m
+module _ {p : Part} {text : List ℕ} (r : End) (m : SheetsPrint p 0 text (endLine r)) where
+  pub refused-line : (r .told .number ≡ 0 → ⊥) → SheetsPrint p 0 text (refusalLine (r .told .number) (r .sheet) (r .told .line))
+  refused-line d = subst (λ b. SheetsPrint p 0 text (cond b (listOf (r .part)) (refusalLine (r .told .number) (r .sheet) (r .told .line)))) (ne-eqb (r .told .number) 0 d) m
 
-  pub accepted-list : r .told .number ≡ 0 → Mapped p 0 text (listOf (r .part))
-  accepted-list z = subst (λ b. Mapped p 0 text (cond b (listOf (r .part)) (refusalLine (r .told .number) (r .sheet) (r .told .line)))) (eq-eqb (r .told .number) 0 z) m
+  pub accepted-list : r .told .number ≡ 0 → SheetsPrint p 0 text (listOf (r .part))
+  accepted-list z = subst (λ b. SheetsPrint p 0 text (cond b (listOf (r .part)) (refusalLine (r .told .number) (r .sheet) (r .told .line)))) (eq-eqb (r .told .number) 0 z) m

@@ -16,7 +16,7 @@ use Rattle.listing.specs.Lines.{longest}
 use Rattle.list_line.specs.PasteLaws.{paste-length}
 use Rattle.listing.specs.LineLaws.{list-short, fitted-in}
 use Rattle.opening.specs.Trusted.Opening.{openingNumbers, openedBy}
-use Rattle.program.specs.Trusted.Program.{Mapped, ended, stopped, added, After, Prints}
+use Rattle.program.specs.Trusted.Program.{SheetsPrint, ended, stopped, added, After, Prints}
 use Rattle.program.specs.Contracts.{WrittenAs, Answered, AtFront}
 use Rattle.program.specs.ProgramLaws.{opened-good}
 use Rattle.program.specs.declared.Printed.{Printed}
@@ -27,7 +27,7 @@ refusal-short : 19 ≤ longest
 unfolding longest
 refusal-short = omega arith
 
-mapped-short : {p : Part} {n : ℕ} {text out : List ℕ} → Shaped p → Sound p → Mapped p n text out → length out ≤ longest
+mapped-short : {p : Part} {n : ℕ} {text out : List ℕ} → Shaped p → Sound p → SheetsPrint p n text out → length out ≤ longest
 mapped-short {p} f h ended = list-short p h
 mapped-short f h (stopped q number place l a) = refusal-short
 mapped-short {p} f h (added q l a m) =

@@ -13,7 +13,7 @@ use opening::Told;
 use part::Added;
 use part::Adding;
 use part::Part;
-use sheet::Answer;
+use sheet::ReadAnswer;
 
 // The bytes of a field.
 const FIELD: usize = 6;
@@ -81,7 +81,7 @@ fn add_sheets(opened: Part, input: &[u8], start: usize) -> End
         sheet += 1;
         let next = sheet_reader::read_next(input, at);
         let answer = next.answer;
-        if let Answer::Refused(why, line) = answer {
+        if let ReadAnswer::Refused(why, line) = answer {
             let told = Told {
                 number: sheet::number(why),
                 line,
@@ -130,10 +130,10 @@ fn print_list(output: &mut [u8], part: Part) -> Printed
 {
     let a = listing::write_sound_list(part, output, 0);
     match a {
-        listing::Answer::Wrote(n) => Printed::Wrote(n),
-        listing::Answer::NotSound => Printed::NoRoom,
-        listing::Answer::NoLine => Printed::NoRoom,
-        listing::Answer::NoRoom => Printed::NoRoom,
+        listing::WriteAnswer::Wrote(n) => Printed::Wrote(n),
+        listing::WriteAnswer::NotSound => Printed::NoRoom,
+        listing::WriteAnswer::NoLine => Printed::NoRoom,
+        listing::WriteAnswer::NoRoom => Printed::NoRoom,
     }
 }
 

@@ -13,7 +13,7 @@ use Rattle.demands.specs.Trusted.Calls.{Call, Chain, done, call}
 use Rattle.demands.specs.Theorems.{demand-2, demand-3}
 use Rattle.part.specs.declared.Part.{Part}
 use Rattle.opening.specs.Trusted.Opening.{openingNumbers, count, openedBy}
-use Rattle.program.specs.Trusted.Program.{refusalLine, Mapped, ended, stopped, added, After, Prints}
+use Rattle.program.specs.Trusted.Program.{refusalLine, SheetsPrint, ended, stopped, added, After, Prints}
 use Rattle.program_laws.specs.Trusted.Runs.{Texts, end, stop, next, printedBy, Run}
 
 -- a text that is not empty has a call
@@ -23,7 +23,7 @@ texts-some (stop number place l e) h = omega arith
 texts-some (next l e t) h = omega arith
 
 -- the calls, their results, and what these print
-mapped-calls : {p : Part} {n : ℕ} {text out : List ℕ} → Mapped p n text out →
+mapped-calls : {p : Part} {n : ℕ} {text out : List ℕ} → SheetsPrint p n text out →
     (cs : List Call) × (rs : List Result) × Chain p cs rs × Texts text cs rs × (out ≡ printedBy p n rs)
 mapped-calls ended = ([], [], done, end, refl)
 mapped-calls (stopped q number place l a) = (_, record { part = q; answer = refused number place } ∷ [], call a done, stop number place l refl, refl)
@@ -31,7 +31,7 @@ mapped-calls (added q l a m) =
     let r = mapped-calls m in
     (_, record { part = q; answer = accepted } ∷ r .1, call a (r .2), next l refl (r .3), r .4)
 
-pub mapped-run : (k capacity : ℕ) (text out : List ℕ) → (opened k capacity) .answer ≡ accepted → Mapped ((opened k capacity) .part) 0 text out →
+pub mapped-run : (k capacity : ℕ) (text out : List ℕ) → (opened k capacity) .answer ≡ accepted → SheetsPrint ((opened k capacity) .part) 0 text out →
     Run k capacity text out
 mapped-run k capacity text out a m =
     let c = mapped-calls m in
@@ -52,4 +52,4 @@ prints-run input out x y e a h =
     let capacity = count y in
     let g : After (opened k capacity) (drop 13 input) out = subst (λ o. After (openedBy o) (drop 13 input) out) e h in
     mapped-run k capacity (drop 13 input) out a
-    (subst (λ b. elim b as (λ z. Type 0) [ accepted ↦ Mapped ((opened k capacity) .part) 0 (drop 13 input) out | refused number place ↦ out ≡ refusalLine number 0 place ]) a g)
+    (subst (λ b. elim b as (λ z. Type 0) [ accepted ↦ SheetsPrint ((opened k capacity) .part) 0 (drop 13 input) out | refused number place ↦ out ≡ refusalLine number 0 place ]) a g)

@@ -10,7 +10,7 @@ use lib.Seq.{take-all, take-append-le, drop-append-le, length-take-le}
 use Rattle.lists.specs.Cases.{by-leb}
 use Rattle.decimal.specs.Trusted.Number.{columns}
 use Rattle.tree.specs.Trusted.Tree.{leaves}
-use Rattle.cover.specs.Trusted.CoverTables.{Sheet}
+use Rattle.cover.specs.Trusted.CoverTables.{Circuit}
 use Rattle.cover.specs.Nets.{least-bounds}
 use Rattle.sheet.specs.Trusted.Sheet.{DrawnSheet, sheet as drew}
 use Rattle.sheet.specs.Trusted.Read.{readSheet}
@@ -30,7 +30,7 @@ use Rattle.demands.specs.Theorems.{demand-3}
 use Rattle.demands.specs.ReadingLaws.{drawn-back}
 use Rattle.part.specs.declared.Part.{Part}
 use Rattle.opening.specs.Trusted.Opening.{openingNumbers, openedBy}
-use Rattle.program.specs.Trusted.Program.{Mapped, ended, stopped, added, After, Prints}
+use Rattle.program.specs.Trusted.Program.{SheetsPrint, ended, stopped, added, After, Prints}
 use Rattle.program.specs.ProgramLaws.{grown, opened-good}
 use Rattle.program_laws.specs.Front.{room}
 
@@ -60,7 +60,7 @@ took p shape sound text q a =
     record {
       sheet = d;
       read = e;
-      short = omega (arith, read-short text d e, ap (λ (x : Sheet). length (leaves (x .tree))) i, t .used, grown p text q accepted a refl);
+      short = omega (arith, read-short text d e, ap (λ (x : Circuit). length (leaves (x .tree))) i, t .used, grown p text q accepted a refl);
     }
 
 -- ---- sheets one after the other
@@ -71,8 +71,8 @@ unfolding Add readOf
 add-read p text text₁ q a e h = rw e h
 
 module _ (more : List ℕ) where
-  mapped-front : {p : Part} {n : ℕ} {text out : List ℕ} → Shaped p → Sound p → enough ≤ tableBytes * p .used + length text → Mapped p n text out →
-      Mapped p n (text ++ more) out
+  mapped-front : {p : Part} {n : ℕ} {text out : List ℕ} → Shaped p → Sound p → enough ≤ tableBytes * p .used + length text → SheetsPrint p n text out →
+      SheetsPrint p n (text ++ more) out
   mapped-front shape sound l ended = absurd (omega (arith, sound .used-fits, sound .capacity-range))
   mapped-front {p} {text = text} shape sound l (stopped q number place h a) =
       let long : sheetRoom ≤ length text = omega (arith, sound .used-fits, sound .capacity-range) in
@@ -83,7 +83,7 @@ module _ (more : List ℕ) where
       let e = front-rest text more (t .sheet) (t .read) in
       added {text = text ++ more} q (omega (arith, length-append text more))
       (subst (λ (r : List ℕ × List ℕ). Add p (r .0) q accepted) (sym e) a)
-      (subst (λ (r : List ℕ × List ℕ). Mapped q (suc n) (r .1) out) (sym e)
+      (subst (λ (r : List ℕ × List ℕ). SheetsPrint q (suc n) (r .1) out) (sym e)
       (mapped-front (g .shaped) (g .sound sound) (omega (arith, t .short, length-append (sheetText text .0) (sheetText text .1), ap length (text-whole text))) m))
 
   -- ---- the opening line

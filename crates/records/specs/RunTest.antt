@@ -8,7 +8,7 @@ use Rattle.table.specs.Trusted.Limits.{inputRoom, tableRoom}
 use Rattle.table.specs.Trusted.RecordTest.{Verdict, none, bad, refused}
 use Rattle.table.specs.SeenTest.{noneSeen, seenAfter, keepsIn}
 use Rattle.table.specs.declared.Table.{Table}
-use Rattle.table.specs.declared.Seen.{Seen}
+use Rattle.table.specs.declared.Prefix.{Prefix}
 use Rattle.records.specs.declared.Walk.{Walk}
 use Rattle.records.specs.declared.Found.{Found}
 use Rattle.records.specs.declared.Found.the-variants.{Nothing, At, KOutOfRange, CapacityOutOfRange}
@@ -30,10 +30,10 @@ abbrev pub beginOf : ℕ → ℕ → ℕ → Walk
 beginOf n k capacity = cond (within 2 inputRoom k) (cond (within 1 tableRoom capacity) (startOf n k capacity) (stoppedOf 3)) (stoppedOf 2)
 
 -- past a good record, and past a bad one
-abbrev pub onOf : Seen → ℕ → ℕ → ℕ → ℕ → ℕ → Walk
+abbrev pub onOf : Prefix → ℕ → ℕ → ℕ → ℕ → ℕ → Walk
 onOf s at n k capacity refusal = record { seen = s; at = at + 1; going = ltb (at + 1) n; bad = false; k = k; capacity = capacity; refusal = refusal }
 
-abbrev pub badOf : Seen → ℕ → ℕ → ℕ → ℕ → Walk
+abbrev pub badOf : Prefix → ℕ → ℕ → ℕ → ℕ → Walk
 badOf s at k capacity refusal = record { seen = s; at = at + 1; going = false; bad = true; k = k; capacity = capacity; refusal = refusal }
 
 abbrev pub stepOf : Walk → Table → ℕ → Walk

@@ -7,7 +7,7 @@ ghost use lib.ListN.{take};
 ghost use Rattle.table.specs.Trusted.RecordTest.{tested};
 ghost use Rattle.records.specs.RunTest.{beginOf, stepOf, stoppedOf, finishOf, verdictOf};
 use table::INPUT_ROOM;
-use table::Seen;
+use table::Prefix;
 use table::TABLE_ROOM;
 use table::Table;
 use table::within;
@@ -27,7 +27,7 @@ pub enum Found {
 // The walk between two records: what is kept of those passed, how many they are, whether another is to be read, whether the last
 // was bad, K and the capacity, and the number of a refusal, or 0.
 pub struct Walk {
-    pub seen: Seen,
+    pub seen: Prefix,
     pub at: usize,
     pub going: bool,
     pub bad: bool,

@@ -92,11 +92,11 @@ line-same text es (suc k) n t h =
     (λ lt. line-same text es k n (b .1) lt)
 
 -- the text's lines before line k are the sentences of their numbers, the text ends there, and no entry has a greater number
-abbrev pub Lines : List ℕ → List Entry → ℕ → Type 0
-Lines text es k = T (linesSame text es k) × T (keysBelow es k) × (after k text ≡ [])
+abbrev pub LinesAre : List ℕ → List Entry → ℕ → Type 0
+LinesAre text es k = T (linesSame text es k) × T (keysBelow es k) × (after k text ≡ [])
 
 -- so each line is the sentence of its number, and a number that has no line has no sentence
-pub line-is : (text : List ℕ) (es : List Entry) (k n : ℕ) → Lines text es k → line n text ≡ bytesOf (sentenceIn es n)
+pub line-is : (text : List ℕ) (es : List Entry) (k n : ℕ) → LinesAre text es k → line n text ≡ bytesOf (sentenceIn es n)
 unfolding indexOf
 line-is text es k n l =
     by-leb (λ c. line n text ≡ bytesOf (sentenceIn es n)) k n

@@ -2,12 +2,12 @@
 ghost use mathlib.Core.Path.{_≡_};
 ghost use Prim.Native.Nat.{_≤_};
 ghost use lib.ListN.{length, drop};
-ghost use Rattle.refusals.specs.Trusted.Sentences.{refusalText, fitted};
+ghost use Rattle.refusals.specs.Trusted.Sentences.{refusalText, frontWrite};
 ghost use Rattle.refusals.specs.Lines.{after, line};
 
 // Writes a text to the front of the buffer and gives its length; 0, with the buffer as it was, where it does not fit.
 fn put(text: &[u8], out: &mut [u8]) -> usize
-    ensures { λ r. ⌜ record { count = r; bytes = now (out .exit) } ≡ fitted (now (text .entry)) (now (out .entry)) ⌝ }
+    ensures { λ r. ⌜ record { count = r; bytes = now (out .exit) } ≡ frontWrite (now (text .entry)) (now (out .entry)) ⌝ }
 {
     if text.len() > out.len() {
         return 0;
@@ -35,7 +35,7 @@ fn line_start(text: &[u8], number: u32) -> usize
 
 // Writes the line of a number to the front of the buffer, as `put` does.
 fn put_line(text: &[u8], number: u32, out: &mut [u8]) -> usize
-    ensures { λ r. ⌜ record { count = r; bytes = now (out .exit) } ≡ fitted (line number (now (text .entry))) (now (out .entry)) ⌝ }
+    ensures { λ r. ⌜ record { count = r; bytes = now (out .exit) } ≡ frontWrite (line number (now (text .entry))) (now (out .entry)) ⌝ }
 {
     let start = line_start(text, number);
     let end = bytes::scan::find(text, start, text.len(), b'\n');
@@ -45,7 +45,7 @@ fn put_line(text: &[u8], number: u32, out: &mut [u8]) -> usize
 // Writes the sentence of a refusal to the front of the buffer and gives its length; 0, with the buffer as it was, for a number that is
 // no refusal, and where the sentence does not fit. Each sentence stands in the line of its number; other lines are empty.
 pub fn write(number: u32, out: &mut [u8]) -> usize
-    ensures { λ r. ⌜ record { count = r; bytes = now (out .exit) } ≡ fitted (refusalText number) (now (out .entry)) ⌝ }
+    ensures { λ r. ⌜ record { count = r; bytes = now (out .exit) } ≡ frontWrite (refusalText number) (now (out .entry)) ⌝ }
 {
     put_line(
         b"\n\

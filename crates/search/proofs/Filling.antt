@@ -16,9 +16,9 @@ use Rattle.lists.specs.NumberLaws.{sum-mix}
 use Rattle.plan.specs.declared.Key.{Key}
 use Rattle.plan.specs.Limits.{masks, mostFanins}
 use Rattle.plan.specs.Key.{leaf-key}
-use Rattle.plan.specs.Entries.{BestJoin, Entered, Entries, Volumes, Joined, Split, Good}
+use Rattle.plan.specs.Entries.{BestJoin, Entered, Entries, Volumes, Joined, Split, GoodKeys}
 use Rattle.plan.specs.EntryLaws.{entries-more, entries-small, entered-one, entered-join, volumes-more, volumes-few, volume-one, join-bound}
-use Rattle.plan.specs.Masks.{select, Within}
+use Rattle.plan.specs.Masks.{select, MaskWithin}
 use Rattle.plan.specs.MaskLaws.{within-le, within-top, select-mix}
 use Rattle.plan.specs.Volume.{volume}
 
@@ -62,7 +62,7 @@ module _ {K count : ℕ} {ks : List Key} where
     volumes = record { at = λ s p l. absurd (omega arith) };
   }
 
-  module _ (good : Good K ks) (size : length ks ≡ count) {bs ws us vs : List ℕ} {h top next s : ℕ}
+  module _ (good : GoodKeys K ks) (size : length ks ≡ count) {bs ws us vs : List ℕ} {h top next s : ℕ}
       (f : Filling K count ks bs ws us vs h top next s) where
     -- no mask is past the arrays
     filling-room : 2 ^ count ≤ masks
@@ -134,7 +134,7 @@ module _ {K count : ℕ} {ks : List Key} where
           let g = f .half l in
           omega (arith, ap (λ n. 2 ^ n) (g .1 ∙ add-one (g .0)))
 
-      rest-within : (v : ℕ) → Within v (s - top) → Within v s
+      rest-within : (v : ℕ) → MaskWithin v (s - top) → MaskWithin v s
       rest-within v i =
           let g = f .half within in
           let e : 2 ^ g .0 + (s - top) ≡ s = omega (arith, g .2, g .3) in

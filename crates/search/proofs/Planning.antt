@@ -18,12 +18,12 @@ use Rattle.plan.specs.MaskLaws.{select-all}
 use Rattle.plan.specs.Reach.{LeastReach}
 use Rattle.plan.specs.Plans.{Planned}
 use Rattle.plan.specs.PlanBounds.{planned-length}
-use Rattle.plan.specs.Entries.{entry, Entries, Good}
+use Rattle.plan.specs.Entries.{entry, Entries, GoodKeys}
 use Rattle.plan.specs.Steps.{Writable, Writes}
 use Rattle.plan.specs.PlanOfLaws.{reflects-good, good-size}
-use Rattle.plan.specs.PlanOf.{goodInput, blank, Answer, PlanOf}
+use Rattle.plan.specs.PlanOf.{goodInput, blank, PlanAnswer, PlanOf}
 
-module _ {K : ℕ} {ks : List Key} (good : Good K ks) {n : ℕ} (size : n ≡ 2 ^ length ks) where
+module _ {K : ℕ} {ks : List Key} (good : GoodKeys K ks) {n : ℕ} (size : n ≡ 2 ^ length ks) where
   pub whole-place : (0 < n - 1) × (n - 1 < masks)
   whole-place =
       let c = good .count in
@@ -54,7 +54,7 @@ module _ {K : ℕ} {ks : List Key} (good : Good K ks) {n : ℕ} (size : n ≡ 2 
           room = rw whole-bits (omega (arith, upto-length (length ks), good .count .1));
         }
 
-    pub whole-answer : {a : Key} {r : Plan} → a ≡ entry bs ws (n - 1) → Writes K bs ws us (n - 1) (blank true a) r → Answer K ks r
+    pub whole-answer : {a : Key} {r : Plan} → a ≡ entry bs ws (n - 1) → Writes K bs ws us (n - 1) (blank true a) r → PlanAnswer K ks r
     whole-answer {a} {r} e w =
         let p = whole-place in
         let x = w ks whole-entries in
@@ -70,7 +70,7 @@ module _ {K : ℕ} {ks : List Key} (good : Good K ks) {n : ℕ} (size : n ≡ 2 
 
 -- what the test tells of the keys
 pub plan-keys : (K count : ℕ) (keys : List Key) → length keys ≡ mostFanins → goodInput K count keys ≡ true →
-    (length (take count keys) ≡ count) × Good K (take count keys)
+    (length (take count keys) ≡ count) × GoodKeys K (take count keys)
 plan-keys K count keys l e =
     let t = subst T (sym e) tt in
     let s = good-size K count keys (omega arith) t in
@@ -81,6 +81,6 @@ pub plan-refused : (K count : ℕ) (keys : List Key) {r : Plan} → goodInput K 
     PlanOf K count keys r
 plan-refused K count keys e h = rw e h
 
-pub plan-found : (K count : ℕ) (keys : List Key) {r : Plan} → goodInput K count keys ≡ true → Answer K (take count keys) r →
+pub plan-found : (K count : ℕ) (keys : List Key) {r : Plan} → goodInput K count keys ≡ true → PlanAnswer K (take count keys) r →
     PlanOf K count keys r
 plan-found K count keys e h = rw e h

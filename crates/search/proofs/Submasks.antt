@@ -10,7 +10,7 @@ use lib.Bits.{bitAnd, and-self}
 use Rattle.plan.specs.declared.Key.{Key}
 use Rattle.plan.specs.Key.{_≼_, join}
 use Rattle.plan.specs.KeyLaws.{≼-refl, ≼-trans, join-below, join-width}
-use Rattle.plan.specs.Masks.{Within}
+use Rattle.plan.specs.Masks.{MaskWithin}
 use Rattle.plan.specs.MaskLaws.{within-le, next-within, next-greatest}
 use Rattle.plan.specs.Entries.{entry, JoinableAt, Joined, Split, Made, BestJoin}
 use Rattle.plan.specs.Volume.{volume}
@@ -19,9 +19,9 @@ use Rattle.plan.specs.VolumeLaws.{volume-first}
 -- the key `a`, made by w, is no worse than the join by any submask above u, which is the next to be tried
 pub record Passed (K : ℕ) (bs ws : List ℕ) (top r : ℕ) (a : Key) (w u : ℕ) : Type 0 where
   pub made : Made K bs ws top r a w
-  pub at : Within u r
+  pub at : MaskWithin u r
   pub here : u ≤ r
-  pub low : (v : ℕ) → u < v → Within v r → a ≼ join K (entry bs ws (top + r - v)) (entry bs ws v)
+  pub low : (v : ℕ) → u < v → MaskWithin v r → a ≼ join K (entry bs ws (top + r - v)) (entry bs ws v)
 
 module _ (K : ℕ) (bs ws : List ℕ) (top r : ℕ) where
   -- the join by u
@@ -36,14 +36,14 @@ module _ (K : ℕ) (bs ws : List ℕ) (top r : ℕ) where
   }
 
   -- that join has from 2 to K inputs
-  by-width : {least : ℕ} → Split K top r least bs ws → (u : ℕ) → 0 < u → Within u r → (2 ≤ (by u) .width) × ((by u) .width ≤ K)
+  by-width : {least : ℕ} → Split K top r least bs ws → (u : ℕ) → 0 < u → MaskWithin u r → (2 ≤ (by u) .width) × ((by u) .width ≤ K)
   by-width h u p w =
       let j = joinable-at h u p (within-le u r w) .keys in
       join-width K (h .table .0) _ _ (j .left .some) (j .right .some)
 
   -- a submask above the next one is u or above u
-  above-next : (u : ℕ) → Within u r → (P : ℕ → Type 0) → P u → ((v : ℕ) → u < v → Within v r → P v) →
-      (v : ℕ) → bitAnd (u - 1) r < v → Within v r → P v
+  above-next : (u : ℕ) → MaskWithin u r → (P : ℕ → Type 0) → P u → ((v : ℕ) → u < v → MaskWithin v r → P v) →
+      (v : ℕ) → bitAnd (u - 1) r < v → MaskWithin v r → P v
   above-next u w P here above v l x =
       by-cases (decLt u v) (λ h. above v h x) λ h.
       by-cases (decLt v u) (λ g. absurd (omega (arith, next-greatest u r v w x g))) λ g.

@@ -22,20 +22,20 @@ use Rattle.plan.specs.declared.Plan.{Plan}
 use Rattle.plan.specs.Limits.{mostFanins, mostSteps}
 use Rattle.plan.specs.Key.{leaf-key, cuts, Way}
 use Rattle.plan.specs.KeyLaws.{join-way}
-use Rattle.plan.specs.Masks.{select, Within}
+use Rattle.plan.specs.Masks.{select, MaskWithin}
 use Rattle.plan.specs.MaskLaws.{select-mix, select-some}
 use Rattle.plan.specs.MaskPlans.{MaskPlanned, mask-plan-one, mask-plan-join}
 use Rattle.plan.specs.PlanBounds.{planned-length}
 use Rattle.plan.specs.Entries.{entry, JoinableAt, Entered, Entries, OneBit}
 use Rattle.plan.specs.EntryLaws.{entries-small}
-use Rattle.plan.specs.Steps.{tokens, stepped, joinToken, Took, Writable, Written, Writes}
+use Rattle.plan.specs.Steps.{tokens, stepped, joinToken, Took, Writable, StepsWritten, Writes}
 
 -- how many of the at most ten fanins a mask has
 abbrev pub fanins : ℕ → ℕ
 fanins s = length (select s (upto mostFanins))
 
 -- the fanins of a mask are those of a submask and of the rest
-parts-length : {A : Type 0} (xs : List A) (u s : ℕ) → Within u s →
+parts-length : {A : Type 0} (xs : List A) (u s : ℕ) → MaskWithin u s →
     length (select s xs) ≡ length (select (s - u) xs) + length (select u xs)
 parts-length xs u s w =
     sym (permuted-length (mix-append (select-mix xs u s w))) ∙ length-append (select (s - u) xs) (select u xs)
@@ -53,9 +53,9 @@ stepped-tokens : (p : Plan) (t : Token) → p .len < length (p .steps) → token
 stepped-tokens p t l = rw (add-one, take-suc-set) (map-append _ (take (p .len) (p .steps)) _)
 
 -- the steps of two parts, and a join
-written-join : {K : ℕ} {ks : List Key} {bs ws : List ℕ} {s : ℕ} {p q r : Plan} {a b : Bool} (u : ℕ) → Within u s →
+written-join : {K : ℕ} {ks : List Key} {bs ws : List ℕ} {s : ℕ} {p q r : Plan} {a b : Bool} (u : ℕ) → MaskWithin u s →
     Way K a b (entry bs ws (s - u)) (entry bs ws u) (entry bs ws s) → r .len < mostSteps →
-    Written K ks bs ws (s - u) p q → Written K ks bs ws u q r → Written K ks bs ws s p (stepped r (join a b))
+    StepsWritten K ks bs ws (s - u) p q → StepsWritten K ks bs ws u q r → StepsWritten K ks bs ws s p (stepped r (join a b))
 written-join {s = s} {p = p} {r = r} {a = a} {b = b} u i way l x y =
     let t = join a b in record {
       added = x .added ++ (y .added ++ (t ∷ []));
@@ -112,7 +112,7 @@ module _ {K : ℕ} {bs ws us : List ℕ} {s : ℕ} {p : Plan} (w : Writable K bs
     some : 0 < u
     some = by-cases (decLt 0 u) (λ l. l) (λ l. absurd (n (omega arith)))
 
-    pub part : Within u s × (u < s) × (0 < u)
+    pub part : MaskWithin u s × (u < s) × (0 < u)
     part = let a = own (w .entries) .apart some in (a .0, a .1, some)
 
     -- each part has fewer fanins than the mask
@@ -154,7 +154,7 @@ module _ {K : ℕ} {bs ws us : List ℕ} {s : ℕ} {p : Plan} (w : Writable K bs
         }
 
     module _ {q : Plan} (f : Writes K bs ws us (s - u) p q) where
-      first : Written K (w .keys) bs ws (s - u) p q
+      first : StepsWritten K (w .keys) bs ws (s - u) p q
       first = f (w .keys) (rest-entries (w .entries))
 
       pub second-writable : Writable K bs ws us u q
@@ -171,7 +171,7 @@ module _ {K : ℕ} {bs ws us : List ℕ} {s : ℕ} {p : Plan} (w : Writable K bs
           }
 
       module _ {r : Plan} (g : Writes K bs ws us u q r) where
-        second : Written K (w .keys) bs ws u q r
+        second : StepsWritten K (w .keys) bs ws u q r
         second = g (w .keys) (part-entries (w .entries))
 
         join-room : r .len < mostSteps

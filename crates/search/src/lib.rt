@@ -22,7 +22,7 @@ use plan::MOST_FANINS;
 use plan::MOST_INPUTS;
 use plan::MOST_STEPS;
 use plan::Plan;
-use plan::Step;
+use plan::PlanStep;
 use plan::Token;
 
 // The token of that join.
@@ -161,7 +161,7 @@ fn with_step(plan: Plan, token: Token) -> Plan
     let mut p = plan;
     let len = p.len;
     let at = len as usize;
-    let step = Step { token };
+    let step = PlanStep { token };
     p.steps[at] = step;
     p.len = len + 1;
     p
@@ -269,7 +269,7 @@ fn is_good(k: u8, count: u8, keys: [Key; MOST_FANINS]) -> bool
 fn blank(ok: bool, key: Key) -> Plan
     ensures { λ r. ⌜ r ≡ blankOf ok key ⌝ }
 {
-    let step = Step {
+    let step = PlanStep {
         token: Token::Push(0),
     };
     let steps = [step; MOST_STEPS];

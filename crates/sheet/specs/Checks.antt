@@ -17,7 +17,7 @@ use Rattle.sheet.specs.declared.Source.{Source}
 use Rattle.sheet.specs.declared.Source.the-variants.{Net as net, Gate as gate}
 use Rattle.sheet.specs.declared.Edge.{Edge as Fanin}
 use Rattle.sheet.specs.declared.Sheet.{Sheet}
-use Rattle.sheet.specs.Trusted.Sheet.{DrawnSheet, Outcome, sheet, refused}
+use Rattle.sheet.specs.Trusted.Sheet.{DrawnSheet, SheetReading, sheet, refused}
 use Rattle.sheet.specs.Trusted.Step.{_>>=_, require, given}
 use Rattle.sheet.specs.Trusted.Read.{readSheet}
 use Rattle.sheet.specs.Trusted.Cut.{sheetText}
@@ -147,7 +147,7 @@ first-tree = refl
 -- ---- what comes of texts
 
 abbrev pub Case : Type 0
-Case = String × Outcome
+Case = String × SheetReading
 
 abbrev pub cases : List Case
 cases =
@@ -240,7 +240,7 @@ abbrev link : ℕ → List ℕ
 link g = bytes "     1     2" ++ three (101 + g) ++ bytes "  1" ++ drop 3 (three g) ++ (10 ∷ [])
 
 -- the numbers of gates and of leaves
-abbrev sizes : Outcome → ℕ × ℕ
+abbrev sizes : SheetReading → ℕ × ℕ
 sizes (sheet s) = (length (s .gates), length (leaves (treeOf s)))
 sizes (refused number place) = (0, 0)
 

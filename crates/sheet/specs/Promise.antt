@@ -4,9 +4,9 @@ use mathlib.Core.Path.{_≡_}
 use mathlib.Core.List.{List}
 use lib.ListN.{length, drop}
 use Rattle.sheet.specs.declared.Refusal.{Refusal}
-use Rattle.sheet.specs.declared.Answer.{Answer}
-use Rattle.sheet.specs.declared.Answer.the-variants.{Accepted, Refused}
-use Rattle.sheet.specs.declared.Reading.{Reading}
+use Rattle.sheet.specs.declared.ReadAnswer.{ReadAnswer}
+use Rattle.sheet.specs.declared.ReadAnswer.the-variants.{Accepted, Refused}
+use Rattle.sheet.specs.declared.ReadResult.{ReadResult}
 use Rattle.sheet.specs.declared.Next.{Next}
 use Rattle.sheet.specs.Trusted.Sheet.{DrawnSheet}
 use Rattle.sheet.specs.Trusted.Step.{Step, good, bad}
@@ -14,12 +14,12 @@ use Rattle.sheet.specs.Trusted.Read.{readSheet}
 use Rattle.sheet.specs.Trusted.Answers.{numberOf, drawnSheet, outcome, noSheet}
 
 -- a sheet that is the whole text
-pub record SheetRead (text : List ℕ) (r : Reading) : Type 0 where
+pub record SheetRead (text : List ℕ) (r : ReadResult) : Type 0 where
   pub same : outcome r ≡ readSheet text
   pub none : (why : Refusal) (line : ℕ) → r .answer ≡ Refused why line → r .sheet ≡ noSheet
 
 -- a sheet off the front of a text: the sheet and the rest of the text, or a refusal
-abbrev pub answerStep : {A : Type 0} → Answer → A → Step A
+abbrev pub answerStep : {A : Type 0} → ReadAnswer → A → Step A
 answerStep Accepted a = good a
 answerStep (Refused why line) a = bad (numberOf why) line
 

@@ -27,7 +27,7 @@ use Rattle.sheet.specs.Trusted.Formed.{Net, LeafNet, FaninCount, Before,
 use Rattle.sheet.specs.NumberLaws.{by-test, counts-holds, not-eqb, not-elem, distinct-end, distinct-permuted, same-numbers, from-once, in-from}
 
 -- what holds of the nets and gates read so far
-pub record Sound (out : ℕ) (seen : Seen) : Type 0 where
+pub record SeenSound (out : ℕ) (seen : Seen) : Type 0 where
   pub leaf-nets : Every (LeafNet out) (seen .nets)
   pub leaf-once : Distinct (seen .nets)
   pub leaf-count : length (seen .nets) ≤ mostLeaves
@@ -35,11 +35,11 @@ pub record Sound (out : ℕ) (seen : Seen) : Type 0 where
 
 -- the nets `ns` and the gates `gs` were read on top of those seen before
 pub record Also (out : ℕ) (before after : Seen) (ns gs : List ℕ) : Type 0 where
-  pub sound : Sound out after
+  pub sound : SeenSound out after
   pub nets : after .nets ≡ before .nets ++ ns
   pub gates : after .gates ≡ before .gates ++ gs
 
-also-none : {out : ℕ} {seen : Seen} → Sound out seen → Also out seen seen [] []
+also-none : {out : ℕ} {seen : Seen} → SeenSound out seen → Also out seen seen [] []
 also-none h = record { sound = h; nets = sym (append-nil _); gates = sym (append-nil _) }
 
 also-more : {out : ℕ} {a b c : Seen} {ms ns fs gs : List ℕ} → Also out a b ms fs → Also out b c ns gs → Also out a c (ms ++ ns) (fs ++ gs)
@@ -82,7 +82,7 @@ source-named g n =
     subst (Named g n) q (record { is-net = every-none _; is-before = every-cons (omega arith) (every-none _); code = omega arith }))
     (λ t s e. let z : _≡_ {A = ℕ} 0 1 = cc in absurd (omega arith)))
 
-source-meets : (out place : ℕ) (seen : Seen) (s : Source) → Sound out seen → Every Net (netOf s) →
+source-meets : (out place : ℕ) (seen : Seen) (s : Source) → SeenSound out seen → Every Net (netOf s) →
     Meets (λ r. Also out seen r (netOf s) (gateOf s)) (readSource out place seen s)
 source-meets out place seen (net n) h i =
     meets-require _ _ _ _ (λ t. meets-require _ _ _ _ (λ u. meets-require _ _ _ _ (λ v.
@@ -109,7 +109,7 @@ source-meets out place seen (gate g) h i =
       gates = refl;
     }))
 
-fanin-meets : (out g : ℕ) (seen : Seen) (n : ℕ) → Sound out seen →
+fanin-meets : (out g : ℕ) (seen : Seen) (n : ℕ) → SeenSound out seen →
     Meets (λ r. Also out seen (r .1) (netOf (r .0)) (gateOf (r .0)) × Every (Before g) (gateOf (r .0))) (readFanin out g seen n)
 fanin-meets out g seen n h =
     meets-given _ _ _ _ (λ s e.
@@ -121,7 +121,7 @@ pub record FaninsRead (out g : ℕ) (seen : Seen) (count : ℕ) (r : List Fanin 
   pub earlier : Every (Before g) (faninGates (r .0))
   pub number : length (r .0) ≡ count
 
-fanins-meets : (out g : ℕ) (seen : Seen) (xs : List Number) → Sound out seen → Meets (FaninsRead out g seen (length xs)) (readFanins out g seen xs)
+fanins-meets : (out g : ℕ) (seen : Seen) (xs : List Number) → SeenSound out seen → Meets (FaninsRead out g seen (length xs)) (readFanins out g seen xs)
 fanins-meets out g seen [] h = on (record { also = also-none h; earlier = every-none _; number = refl })
 fanins-meets out g seen (x ∷ xs) h =
     meets-bind _ _ (fanin-meets out g seen (x .magnitude) h) (λ s p.
@@ -147,7 +147,7 @@ gate-head-meets g fs =
     let q = eqb→eq (length (x .2)) (x .1 .magnitude) u in
     on (omega arith))))))
 
-gate-meets : (out g : ℕ) (seen : Seen) (bytes : List ℕ) → Sound out seen → Meets (GateRead out g seen) (readGate out g seen bytes)
+gate-meets : (out g : ℕ) (seen : Seen) (bytes : List ℕ) → SeenSound out seen → Meets (GateRead out g seen) (readGate out g seen bytes)
 gate-meets out g seen bytes h =
     meets-bind _ _ (gate-head-meets g (fields bytes)) (λ x c.
     meets-bind _ _ (fanins-meets out g seen (x .1) h) (λ r f.
@@ -159,7 +159,7 @@ pub record LeftRead (out left g : ℕ) (seen : Seen) (r : List DrawnGate × Seen
   pub counts : Every FaninCount (r .0)
   pub number : length (r .0) ≡ left
 
-left-meets : (out left g : ℕ) (seen : Seen) (text : List ℕ) → Sound out seen → Meets (LeftRead out left g seen) (readLeft out left g seen text)
+left-meets : (out left g : ℕ) (seen : Seen) (text : List ℕ) → SeenSound out seen → Meets (LeftRead out left g seen) (readLeft out left g seen text)
 left-meets out zero g seen text h = on (record { also = also-none h; earlier = tt; counts = every-none _; number = refl })
 left-meets out (suc left) g seen text h =
     meets-given _ _ _ _ (λ l e.
@@ -197,7 +197,7 @@ each-once xs n read l q e d f =
 
 -- ---- a sheet
 
-nothing-sound : {out : ℕ} → Sound out nothing
+nothing-sound : {out : ℕ} → SeenSound out nothing
 nothing-sound = record { leaf-nets = every-none _; leaf-once = tt; leaf-count = omega arith; gate-once = tt }
 
 all-meets : (text : List ℕ) → Meets WellFormed (readAll text)

@@ -17,25 +17,25 @@ use Rattle.sheet.specs.StepLaws.{Meets, on, off, meets-any}
 use Rattle.sheet.specs.Trusted.Read.{Seen, nothing, readHead, readSource, readFanin, readFanins, gateHeadOf, readGate, readLeft, readUnread, readAll, reading, readSheet}
 use Rattle.sheet.specs.ReadLaws.{head-meets}
 
-pub record Told (number place : ℕ) : Type 0 where
+pub record RefusalTold (number place : ℕ) : Type 0 where
   pub known : (1 ≤ number) × (number ≤ 13) × (number ≢ 2) × (number ≢ 3)
   pub at-line : (1 ≤ place) × (place ≤ mostGates + 2)
 
 data Tells {A : Type 0} : Step A → Type 0 where
   went : {a : A} → Tells (good a)
-  told : {number place : ℕ} → Told number place → Tells (bad number place)
+  told : {number place : ℕ} → RefusalTold number place → Tells (bad number place)
 
 tells-bind : {A B : Type 0} {Q : A → Type 0} (m : Step A) (f : A → Step B) → Tells m → Meets Q m → ((a : A) → Q a → Tells (f a)) → Tells (m >>= f)
 unfolding _>>=_
 tells-bind m f (went {a = a}) (on q) h = h a q
 tells-bind m f (told t) off h = told t
 
-tells-require : {B : Type 0} (b : Bool) (number place : ℕ) (f : Unit {0} → Step B) → Told number place → Tells (f tt) → Tells (require b number place >>= f)
+tells-require : {B : Type 0} (b : Bool) (number place : ℕ) (f : Unit {0} → Step B) → RefusalTold number place → Tells (f tt) → Tells (require b number place >>= f)
 unfolding _>>=_ require
 tells-require true number place f t h = h
 tells-require false number place f t h = told t
 
-tells-given : {A B : Type 0} (o : Option A) (number place : ℕ) (f : A → Step B) → Told number place → ((a : A) → Tells (f a)) → Tells (given o number place >>= f)
+tells-given : {A B : Type 0} (o : Option A) (number place : ℕ) (f : A → Step B) → RefusalTold number place → ((a : A) → Tells (f a)) → Tells (given o number place >>= f)
 unfolding _>>=_ given
 tells-given (some a) number place f t h = h a
 tells-given none number place f t h = told t
@@ -88,12 +88,12 @@ all-tells text =
     tells-require _ _ _ _ (omega arith)
     (tells-bind _ _ (unread-tells (h .count - 1) 1 (r .1 .gates) (omega arith)) (meets-any _) (λ v w. went)))))
 
-pub refused-told : (text : List ℕ) (number place : ℕ) → readSheet text ≡ refused number place → Told number place
+pub refused-told : (text : List ℕ) (number place : ℕ) → readSheet text ≡ refused number place → RefusalTold number place
 refused-told text number place e = of (readAll text) (all-tells text) e
   where
-    of : (m : Step DrawnSheet) → Tells m → reading m ≡ refused number place → Told number place
+    of : (m : Step DrawnSheet) → Tells m → reading m ≡ refused number place → RefusalTold number place
     of m went e = let z : _≡_ {A = ℕ} 0 1 = cc in absurd (omega arith)
     of m (told {number = n} {place = p} t) e =
         let q : n ≡ number = cc in
         let r : p ≡ place = cc in
-        subst (λ k. Told k place) q (subst (λ k. Told n k) r t)
+        subst (λ k. RefusalTold k place) q (subst (λ k. RefusalTold n k) r t)

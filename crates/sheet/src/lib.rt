@@ -80,20 +80,20 @@ pub fn number(why: Refusal) -> u8
 }
 
 // A refusal gives the line, from 1.
-pub enum Answer {
+pub enum ReadAnswer {
     Accepted,
     Refused(Refusal, u16),
 }
 
 // What comes of a text. The sheet of a refused text is zero.
-pub struct Reading {
-    pub answer: Answer,
+pub struct ReadResult {
+    pub answer: ReadAnswer,
     pub sheet: Sheet,
 }
 
 // What comes of a text from a place on, and the place after the sheet. The sheet of a refused text is zero, and so is the place.
 pub struct Next {
-    pub answer: Answer,
+    pub answer: ReadAnswer,
     pub end: usize,
     pub sheet: Sheet,
 }

@@ -14,7 +14,7 @@ use Rattle.sheet_line.specs.declared.FieldValue.{FieldValue}
 use Rattle.sheet_line.specs.declared.Fields.{Fields}
 use Rattle.sheet.specs.Trusted.Limits.{mostFields}
 use Rattle.sheet.specs.Trusted.Line.{with, cells, fields}
-use Rattle.sheet_line.specs.Inside.{valueOf, Room, FieldsRead}
+use Rattle.sheet_line.specs.Inside.{valueOf, FieldsRoom, FieldsRead}
 use Rattle.sheet_line.proofs.HeadLaws.{zeroValue, fields-none}
 
 -- numbers before others, where all are there
@@ -82,7 +82,7 @@ so-far-start bytes l = record {
 
 module _ {bytes : List ℕ} {numbers : List FieldValue} {count at : ℕ} (h : SoFar bytes numbers count at) where
   -- a field is missing or none: the line is not laid out
-  pub so-far-none : (f : Fields) → (f .laid ≡ false) × Room f → cells (mostFields - count) (drop at bytes) ≡ none → FieldsRead bytes f
+  pub so-far-none : (f : Fields) → (f .laid ≡ false) × FieldsRoom f → cells (mostFields - count) (drop at bytes) ≡ none → FieldsRead bytes f
   so-far-none f (e, r) n =
       record { same = h .same ∙ (ap (withAll (map valueOf (take count numbers))) n ∙ sym (fields-none f e)); room = r }
 

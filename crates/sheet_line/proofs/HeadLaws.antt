@@ -15,7 +15,7 @@ use Rattle.sheet_line.specs.declared.Fields.{Fields}
 use Rattle.sheet.specs.Trusted.Limits.{mostGates}
 use Rattle.sheet.specs.Trusted.Step.{good, bad, _>>=_, require, given}
 use Rattle.sheet.specs.Trusted.Read.{counts, headOf}
-use Rattle.sheet_line.specs.Inside.{valueOf, valuesOf, fieldsOf, Room}
+use Rattle.sheet_line.specs.Inside.{valueOf, valuesOf, fieldsOf, FieldsRoom}
 
 -- ---- the fields as a list
 
@@ -32,11 +32,11 @@ fields-none f e = ap (λ b. cond b (some (valuesOf f)) none) e
 pub fields-some : (f : Fields) → f .laid ≡ true → fieldsOf f ≡ some (valuesOf f)
 fields-some f e = ap (λ b. cond b (some (valuesOf f)) none) e
 
-pub values-count : (f : Fields) → Room f → length (valuesOf f) ≡ f .count
+pub values-count : (f : Fields) → FieldsRoom f → length (valuesOf f) ≡ f .count
 values-count f r =
     length-map (take (f .count) (f .numbers)) valueOf ∙ length-take-le (f .count) (f .numbers) (omega arith)
 
-pub more-count : (f : Fields) → Room f → length (drop 2 (valuesOf f)) ≡ f .count - 2
+pub more-count : (f : Fields) → FieldsRoom f → length (drop 2 (valuesOf f)) ≡ f .count - 2
 more-count f r = length-drop 2 (valuesOf f) ∙ ap (λ n. n - 2) (values-count f r)
 
 first-two : (xs : List FieldValue) (n : ℕ) → 2 ≤ n → 2 ≤ length xs →
@@ -47,7 +47,7 @@ first-two (x ∷ y ∷ xs) zero k l = absurd (omega arith)
 first-two (x ∷ y ∷ xs) (suc zero) k l = absurd (omega arith)
 first-two (x ∷ y ∷ xs) (suc (suc n)) k l = refl
 
-pub values-two : (f : Fields) → Room f → 2 ≤ f .count → valuesOf f ≡ fieldAt f 0 ∷ fieldAt f 1 ∷ drop 2 (valuesOf f)
+pub values-two : (f : Fields) → FieldsRoom f → 2 ≤ f .count → valuesOf f ≡ fieldAt f 0 ∷ fieldAt f 1 ∷ drop 2 (valuesOf f)
 values-two f r k = first-two (f .numbers) (f .count) k (omega (arith, r .whole))
 
 -- ---- line 1
@@ -58,7 +58,7 @@ no-more (x ∷ []) e = refl
 no-more (x ∷ y ∷ []) e = refl
 no-more (x ∷ y ∷ z ∷ xs) e = absurd (omega arith)
 
-pub values-pair : (f : Fields) → Room f → f .count ≡ 2 → valuesOf f ≡ fieldAt f 0 ∷ fieldAt f 1 ∷ []
+pub values-pair : (f : Fields) → FieldsRoom f → f .count ≡ 2 → valuesOf f ≡ fieldAt f 0 ∷ fieldAt f 1 ∷ []
 values-pair f r e =
     values-two f r (omega arith)
     ∙ ap (λ l. fieldAt f 0 ∷ fieldAt f 1 ∷ l) (no-more (valuesOf f) (values-count f r ∙ e))

@@ -14,8 +14,8 @@ use Rattle.sheet_line.specs.declared.Ending.{Ending}
 use Rattle.sheet_line.specs.declared.Ending.the-variants.{At, Missing}
 use Rattle.sheet_line.specs.declared.FieldValue.{FieldValue}
 use Rattle.sheet_line.specs.declared.Fields.{Fields}
-use Rattle.sheet_line.specs.declared.Head.{Head}
-use Rattle.sheet_line.specs.declared.Head.the-variants.{Good, Bad}
+use Rattle.sheet_line.specs.declared.LineHead.{LineHead}
+use Rattle.sheet_line.specs.declared.LineHead.the-variants.{Good, Bad}
 use Rattle.sheet_line.specs.declared.KindRead.{KindRead}
 use Rattle.sheet_line.specs.declared.KindRead.the-variants.{Is, Neither}
 use Rattle.sheet_line.specs.declared.GateHead.{GateHead}
@@ -57,17 +57,17 @@ abbrev pub fieldsOf : Fields → Option (List Number)
 fieldsOf f = cond (f .laid) (some (valuesOf f)) none
 
 -- the numbers fill their array, and the count is at most as many
-pub record Room (f : Fields) : Type 0 where
+pub record FieldsRoom (f : Fields) : Type 0 where
   pub whole : length (f .numbers) ≡ mostFields
   pub within : f .count ≤ mostFields
 
 pub record FieldsRead (bytes : List ℕ) (f : Fields) : Type 0 where
   pub same : fields bytes ≡ fieldsOf f
-  pub room : Room f
+  pub room : FieldsRoom f
 
 -- ---- line 1
 
-abbrev pub headStep : Head → Step LineOne
+abbrev pub headStep : LineHead → Step LineOne
 headStep (Good out inverted count) = good (record { out = out; inverted = inverted; count = count })
 headStep (Bad why) = bad (numberOf why) 1
 

@@ -8,7 +8,7 @@ ghost use Rattle.lists.specs.Trusted.Tests.{within};
 ghost use Rattle.sheet.specs.Trusted.Read.{counts, headOf, kindOf, sourceOf};
 ghost use Rattle.sheet.specs.Trusted.Limits.{mostGates, mostLeaves};
 ghost use Rattle.sheet.specs.Trusted.Sheet.{netOf};
-ghost use Rattle.sheet_line.specs.Inside.{LineEnds, valueOf, fieldsOf, Room, FieldsRead, headStep, kindStep, GateHeadRead, LineRefused, GateLineRead, sourceStep, FaninRead};
+ghost use Rattle.sheet_line.specs.Inside.{LineEnds, valueOf, fieldsOf, FieldsRoom, FieldsRead, headStep, kindStep, GateHeadRead, LineRefused, GateLineRead, sourceStep, FaninRead};
 use sheet::FEWEST_FANINS;
 use sheet::Gate;
 use sheet::MOST_FANINS;
@@ -66,7 +66,7 @@ pub struct Fields {
 
 // No fields: of a line that is not laid out.
 fn no_fields() -> Fields
-    ensures { λ r. ⌜ (r .laid ≡ false) × Room r ⌝ }
+    ensures { λ r. ⌜ (r .laid ≡ false) × FieldsRoom r ⌝ }
 {
     let zero = FieldValue {
         sign: 0,
@@ -140,34 +140,34 @@ fn counts(low: u32, high: u32, x: FieldValue) -> bool
 }
 
 // What line 1 says: the output net, whether the tree's value is inverted, and the number of gates.
-pub enum Head {
+pub enum LineHead {
     Good(u16, bool, u8),
     Bad(Refusal),
 }
 
-pub fn read_head(f: Fields) -> Head
-    requires { ⌜ Room f ⌝ }
+pub fn read_head(f: Fields) -> LineHead
+    requires { ⌜ FieldsRoom f ⌝ }
     ensures { λ r. ⌜ headOf (fieldsOf f) ≡ headStep r ⌝ }
 {
     let laid = f.laid;
     let count = f.count;
     if !laid {
-        return Head::Bad(Refusal::Layout);
+        return LineHead::Bad(Refusal::Layout);
     }
     if count != 2 {
-        return Head::Bad(Refusal::Layout);
+        return LineHead::Bad(Refusal::Layout);
     }
     let out = f.numbers[0];
     let gates = f.numbers[1];
     let net = out.magnitude;
     if !within(1, tree::GREATEST_NET as u32, net) {
-        return Head::Bad(Refusal::OutputNet);
+        return LineHead::Bad(Refusal::OutputNet);
     }
     if !counts(1, MOST_GATES as u32, gates) {
-        return Head::Bad(Refusal::GateCount);
+        return LineHead::Bad(Refusal::GateCount);
     }
     let n = gates.magnitude;
-    Head::Good(net as u16, out.sign != 0, n as u8)
+    LineHead::Good(net as u16, out.sign != 0, n as u8)
 }
 
 enum KindRead {
@@ -194,7 +194,7 @@ enum GateHead {
 }
 
 fn read_gate_head(f: Fields) -> GateHead
-    requires { ⌜ Room f ⌝ }
+    requires { ⌜ FieldsRoom f ⌝ }
     ensures { λ r. ⌜ GateHeadRead f r ⌝ }
 {
     let laid = f.laid;

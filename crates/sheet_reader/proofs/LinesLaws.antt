@@ -15,8 +15,8 @@ use Rattle.decimal.specs.Trusted.Number.{Number}
 use Rattle.sheet.specs.declared.Source.{Source}
 use Rattle.sheet.specs.declared.Edge.{Edge}
 use Rattle.sheet.specs.declared.Gate.{Gate}
-use Rattle.sheet.specs.declared.Answer.{Answer}
-use Rattle.sheet.specs.declared.Answer.the-variants.{Accepted}
+use Rattle.sheet.specs.declared.ReadAnswer.{ReadAnswer}
+use Rattle.sheet.specs.declared.ReadAnswer.the-variants.{Accepted}
 use Rattle.sheet.specs.declared.Refusal.{Refusal}
 use Rattle.sheet_line.specs.declared.Fault.the-variants.{Nothing, Is}
 use Rattle.sheet_line.specs.declared.Fanin.{Fanin}
@@ -180,7 +180,7 @@ module _ (text : List ℕ) (start out count : ℕ) where
   all = readLeft out count 1 nothing (drop start text)
 
   -- at a gate's line
-  pub record AtLine (gates : List Gate) (fs : List Edge) (used : ℕ) (flags : List Bool) (leaves : ℕ) (answer : Answer) (at g : ℕ) : Type 0 where
+  pub record AtLine (gates : List Gate) (fs : List Edge) (used : ℕ) (flags : List Bool) (leaves : ℕ) (answer : ReadAnswer) (at g : ℕ) : Type 0 where
     pub accepted : answer ≡ Accepted
     pub far : g ≤ count
     pub inside : at ≤ length text
@@ -194,7 +194,7 @@ module _ (text : List ℕ) (start out count : ℕ) where
     pub same : all ≡ lines out (count - g) (g + 1) (drawnGates fs g gates) seen (drop at text)
 
   -- at a fanin of gate g + 1
-  pub record AtFanin (gates : List Gate) (fs : List Edge) (used : ℕ) (flags : List Bool) (leaves : ℕ) (answer : Answer) (g : ℕ) (l : GateLine) (i : ℕ) : Type 0 where
+  pub record AtFanin (gates : List Gate) (fs : List Edge) (used : ℕ) (flags : List Bool) (leaves : ℕ) (answer : ReadAnswer) (g : ℕ) (l : GateLine) (i : ℕ) : Type 0 where
     pub accepted : answer ≡ Accepted
     pub far : g < count
     pub room : length gates ≡ mostGates
@@ -227,7 +227,7 @@ module _ (text : List ℕ) (start out count : ℕ) where
         ∙ ap (λ n. lines out n 1 [] nothing (drop start text)) (let q : count ≡ count - 0 = omega arith in q);
   }
 
-  module _ {gates : List Gate} {fs : List Edge} {used : ℕ} {flags : List Bool} {leaves : ℕ} {answer : Answer} {at g : ℕ} (h : AtLine gates fs used flags leaves answer at g) where
+  module _ {gates : List Gate} {fs : List Edge} {used : ℕ} {flags : List Bool} {leaves : ℕ} {answer : ReadAnswer} {at g : ℕ} (h : AtLine gates fs used flags leaves answer at g) where
     one-left : g < count → all ≡ lines out (suc (count - (g + 1))) (g + 1) (drawnGates fs g gates) (h .seen) (drop at text)
     one-left l = h .same ∙ ap (λ n. lines out n (g + 1) (drawnGates fs g gates) (h .seen) (drop at text)) (let q : count - g ≡ suc (count - (g + 1)) = omega arith in q)
 
@@ -263,7 +263,7 @@ module _ (text : List ℕ) (start out count : ℕ) where
         ∙ (ap (λ n. lines out n (g + 1) (drawnGates fs g gates) (h .seen) (drop at text)) (let q : count - g ≡ 0 = omega arith in q)
         ∙ (lines-done out (g + 1) (drawnGates fs g gates) (h .seen) (drop at text) ∙ ap (λ n. good (drawnGates fs n gates, h .seen, drop at text)) (let q : g ≡ count = omega arith in q)))
 
-  module _ {gates : List Gate} {fs : List Edge} {used : ℕ} {flags : List Bool} {leaves : ℕ} {answer : Answer} {g : ℕ} {l : GateLine} {i : ℕ}
+  module _ {gates : List Gate} {fs : List Edge} {used : ℕ} {flags : List Bool} {leaves : ℕ} {answer : ReadAnswer} {g : ℕ} {l : GateLine} {i : ℕ}
       (h : AtFanin gates fs used flags leaves answer g l i) where
     abbrev pub number : FieldValue
     number = getD (l .numbers) (i + 2) zeroValue

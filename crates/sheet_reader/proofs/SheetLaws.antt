@@ -10,8 +10,8 @@ use lib.ListN.{length, drop, drop-of-length-le}
 use lib.Seq.{drop-cons}
 use borrow.Author.Tests.{ltb-true, ltb-false}
 use Rattle.sheet.specs.declared.Refusal.{Refusal}
-use Rattle.sheet.specs.declared.Answer.{Answer}
-use Rattle.sheet.specs.declared.Answer.the-variants.{Accepted, Refused}
+use Rattle.sheet.specs.declared.ReadAnswer.{ReadAnswer}
+use Rattle.sheet.specs.declared.ReadAnswer.the-variants.{Accepted, Refused}
 use Rattle.sheet_reader.specs.declared.Lines.{Lines}
 use Rattle.sheet.specs.declared.Next.{Next}
 use Rattle.sheet.specs.Trusted.Line.{line}
@@ -127,7 +127,7 @@ front-all text =
     then-step (require (empty (a .2)) 1 (head .count + 2)) _ _ alone (λ u.
     then-step (readUnread (from 1 (head .count - 1)) (a .1 .gates)) _ _ alone (λ v. refl)))))
 
-pub reading-alone : (a : Answer) (s : DrawnSheet) (rest : List ℕ) → reading (answerStep a (s, rest) >>= alone) ≡ answered a s
+pub reading-alone : (a : ReadAnswer) (s : DrawnSheet) (rest : List ℕ) → reading (answerStep a (s, rest) >>= alone) ≡ answered a s
 unfolding _>>=_
 reading-alone Accepted s rest = refl
 reading-alone (Refused why place) s rest = refl

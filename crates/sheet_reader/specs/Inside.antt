@@ -5,8 +5,8 @@ use mathlib.Core.Bool.{Bool, not, _&&_, _||_}
 use mathlib.Core.List.{List}
 use lib.Dec.{ltb}
 use lib.ListN.{length, drop}
-use Rattle.sheet.specs.declared.Answer.{Answer}
-use Rattle.sheet.specs.declared.Answer.the-variants.{Accepted, Refused}
+use Rattle.sheet.specs.declared.ReadAnswer.{ReadAnswer}
+use Rattle.sheet.specs.declared.ReadAnswer.the-variants.{Accepted, Refused}
 use Rattle.sheet_reader.specs.declared.Lines.{Lines}
 use Rattle.sheet_reader.specs.declared.Unread.{Unread}
 use Rattle.sheet.specs.declared.Next.{Next}
@@ -23,7 +23,7 @@ use Rattle.sheet.specs.Promise.{NextRead}
 -- ---- the lines of the gates
 
 -- the answer is the step's: it went on to something of which `P` holds, or was refused
-abbrev pub Comes : {A : Type 0} → Answer → (A → Type 0) → Step A → Type 0
+abbrev pub Comes : {A : Type 0} → ReadAnswer → (A → Type 0) → Step A → Type 0
 Comes {A} Accepted P m = (a : A) × (P a × (m ≡ good a))
 Comes (Refused why line) P m = m ≡ bad (numberOf why) line
 

@@ -6,13 +6,13 @@ ghost use Rattle.sheet.specs.Trusted.Cut.{readNext};
 ghost use Rattle.sheet.specs.Promise.{SheetRead, NextRead};
 ghost use Rattle.sheet.specs.Trusted.Answers.{noFanins, noGates, noSheet};
 ghost use Rattle.sheet_reader.specs.Inside.{GatesRead, UnreadFound, more, EndRead, readFront};
-use sheet::Answer;
 use sheet::Edge;
 use sheet::FANIN_ROOM;
 use sheet::Gate;
 use sheet::MOST_GATES;
 use sheet::Next;
-use sheet::Reading;
+use sheet::ReadAnswer;
+use sheet::ReadResult;
 use sheet::Refusal;
 use sheet::Sheet;
 use sheet::Source;
@@ -21,7 +21,7 @@ use sheet_line::Ending;
 use sheet_line::Fanin;
 use sheet_line::Fault;
 use sheet_line::GateLine;
-use sheet_line::Head;
+use sheet_line::LineHead;
 use sheet_line::line_end;
 use sheet_line::read_fanin;
 use sheet_line::read_fields;
@@ -33,7 +33,7 @@ use tree::Kind;
 // The lines of gates that were read: where they are accepted the gates, their fanins, the place after them, and a flag at each number
 // that was a fanin.
 struct Lines {
-    answer: Answer,
+    answer: ReadAnswer,
     end: usize,
     gates: [Gate; MOST_GATES],
     fanins: [Edge; FANIN_ROOM],
@@ -96,21 +96,21 @@ fn gate_lines(text: &[u8], start: usize, out: u16, count: u8) -> Lines
     let mut used: usize = 0;
     let mut seen = [false; CODES];
     let mut leaves: u16 = 0;
-    let mut answer = Answer::Accepted;
+    let mut answer = ReadAnswer::Accepted;
     let mut end = start;
     'lines: for g in 0..count as usize {
         let gate = g as u16 + 1;
         let line = read_gate_line(text, end);
         let fault = line.fault;
         if let Fault::Is(why) = fault {
-            answer = Answer::Refused(why, gate + 1);
+            answer = ReadAnswer::Refused(why, gate + 1);
             break 'lines;
         }
         for i in 0..line.count as usize {
             let x = line.numbers[i + 2];
             match read_fanin(&seen, leaves, out, gate, x.magnitude) {
                 Fanin::Bad(why) => {
-                    answer = Answer::Refused(why, gate + 1);
+                    answer = ReadAnswer::Refused(why, gate + 1);
                     break 'lines;
                 }
                 Fanin::Reads(source) => {
@@ -153,7 +153,7 @@ fn first_unread(seen: &[bool; CODES], count: u8) -> Unread
 }
 
 fn refused(why: Refusal, line: u16) -> Next
-    ensures { λ r. ⌜ r ≡ record { answer = Answer.Refused why line; end = 0; sheet = noSheet } ⌝ }
+    ensures { λ r. ⌜ r ≡ record { answer = ReadAnswer.Refused why line; end = 0; sheet = noSheet } ⌝ }
 {
     let gates = no_gates();
     let fanins = no_fanins();
@@ -165,7 +165,7 @@ fn refused(why: Refusal, line: u16) -> Next
         fanins,
     };
     Next {
-        answer: Answer::Refused(why, line),
+        answer: ReadAnswer::Refused(why, line),
         end: 0,
         sheet,
     }
@@ -186,7 +186,7 @@ fn read_end(text: &[u8], l: Lines, out: u16, inverted: bool, count: u8, last: bo
     ensures { λ r. ⌜ EndRead (now (text .entry)) l (record { out = out; inverted = inverted; count = count }) last r ⌝ }
 {
     let answer = l.answer;
-    if let Answer::Refused(why, line) = answer {
+    if let ReadAnswer::Refused(why, line) = answer {
         return refused(why, line);
     }
     if more(last, l.end, text.len()) {
@@ -206,7 +206,7 @@ fn read_end(text: &[u8], l: Lines, out: u16, inverted: bool, count: u8, last: bo
         fanins,
     };
     Next {
-        answer: Answer::Accepted,
+        answer: ReadAnswer::Accepted,
         end: l.end,
         sheet,
     }
@@ -221,8 +221,8 @@ fn read_front(text: &[u8], start: usize, last: bool) -> Next
     };
     let f = read_fields(&text[start..end]);
     match read_head(f) {
-        Head::Bad(why) => refused(why, 1),
-        Head::Good(out, inverted, count) => {
+        LineHead::Bad(why) => refused(why, 1),
+        LineHead::Good(out, inverted, count) => {
             let l = gate_lines(text, end + 1, out, count);
             read_end(text, l, out, inverted, count, last)
         }
@@ -230,13 +230,13 @@ fn read_front(text: &[u8], start: usize, last: bool) -> Next
 }
 
 // The sheet that a text is.
-pub fn read(text: &[u8]) -> Reading
+pub fn read(text: &[u8]) -> ReadResult
     ensures { λ r. ⌜ SheetRead (now (text .entry)) r ⌝ }
 {
     let next = read_front(text, 0, true);
     let answer = next.answer;
     let sheet = next.sheet;
-    Reading { answer, sheet }
+    ReadResult { answer, sheet }
 }
 
 // The sheet at a place of a text, and the place after it, from which the text may go on.

@@ -2,9 +2,9 @@
 // of a sheet, or one line with minus the number of the refusal and the line. A file whose name begins with "+" has two sheets, read
 // one after the other. Each number has a column for its sign, and six for its digits.
 use libc::STDOUT_FILENO;
-use sheet::Answer;
 use sheet::Edge;
 use sheet::Gate;
+use sheet::ReadAnswer;
 use sheet::Sheet;
 use sheet::Source;
 use tree::Kind;
@@ -57,10 +57,10 @@ fn print_next(text: &[u8], start: usize) -> usize {
     r.end
 }
 
-fn print_answer(answer: Answer, sheet: Sheet) {
+fn print_answer(answer: ReadAnswer, sheet: Sheet) {
     match answer {
-        Answer::Accepted => print_sheet(sheet),
-        Answer::Refused(why, line) => {
+        ReadAnswer::Accepted => print_sheet(sheet),
+        ReadAnswer::Refused(why, line) => {
             print_signed(true, sheet::number(why) as u32);
             print_number(line as u32);
             end_line();

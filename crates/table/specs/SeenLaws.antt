@@ -17,7 +17,7 @@ use Rattle.table.specs.Trusted.Records.{reads, blank}
 use Rattle.table.specs.Trusted.RecordTest.{isCode, padded, sized, sourced, clear, unclaimed, keeps}
 use Rattle.table.specs.SeenTest.{Stands, noneSeen, claimAll, seenAfter, sourcedIn, unclaimedIn, keepsIn}
 use Rattle.table.specs.declared.Table.{Table}
-use Rattle.table.specs.declared.Seen.{Seen}
+use Rattle.table.specs.declared.Prefix.{Prefix}
 
 pub stands-none : Stands noneSeen []
 unfolding noneSeen
@@ -74,8 +74,8 @@ none-of false true false = refl
 none-of false false true = refl
 none-of false false false = refl
 
-module _ (s : Seen) (before : List Table) (r : Table) (h : Stands s before) (l : length before < tableRoom) where
-  abbrev next : Seen
+module _ (s : Prefix) (before : List Table) (r : Table) (h : Stands s before) (l : length before < tableRoom) where
+  abbrev next : Prefix
   next = record { count = s .count + 1; claimed = claimAll (s .claimed) (r .net ∷ reads r); drives = set (s .drives) (s .count) (not (eqb (r .net) 0)) }
 
   next-claimed : (n : ℕ) → n ≤ greatestNet → not (getD (next .claimed) n false) ≡ all (clear n) (before ++ r ∷ [])
@@ -122,7 +122,7 @@ module _ (s : Seen) (before : List Table) (r : Table) (h : Stands s before) (l :
 
 -- ---- the rules
 
-module _ (s : Seen) (before : List Table) (h : Stands s before) where
+module _ (s : Prefix) (before : List Table) (h : Stands s before) where
   -- an input that names a table is one of the records where its number is at most theirs
   source-stands : (x : ℕ) → sourcedIn (s .drives) (s .count) x ≡ sourced before x
   source-stands x =

@@ -12,11 +12,11 @@ use Rattle.table.specs.Trusted.Limits.{tableBase, tableRoom}
 use Rattle.table.specs.Trusted.Records.{reads, blank}
 use Rattle.table.specs.Trusted.RecordTest.{padded, coded, sized, clear}
 use Rattle.table.specs.declared.Table.{Table}
-use Rattle.table.specs.declared.Seen.{Seen}
+use Rattle.table.specs.declared.Prefix.{Prefix}
 
 -- what is kept stands for the records: their number, for each net whether none of them drives or reads it, and for each of them
 -- whether it drives no net
-pub record Stands (s : Seen) (before : List Table) : Type 0 where
+pub record Stands (s : Prefix) (before : List Table) : Type 0 where
   pub room : length before ≤ tableRoom
   pub count : s .count ≡ length before
   pub nets : length (s .claimed) ≡ suc greatestNet
@@ -24,7 +24,7 @@ pub record Stands (s : Seen) (before : List Table) : Type 0 where
   pub claimed : (n : ℕ) → n ≤ greatestNet → not (getD (s .claimed) n false) ≡ all (clear n) before
   pub drives : (t : ℕ) → t < tableRoom → not (getD (s .drives) t true) ≡ eqb ((getD before t blank) .net) 0
 
-unfoldable pub noneSeen : Seen
+unfoldable pub noneSeen : Prefix
 noneSeen = record { count = 0; claimed = replicate (suc greatestNet) false; drives = replicate tableRoom false }
 
 -- the nets claimed, with these; what is no net claims none
@@ -33,7 +33,7 @@ claimAll c [] = c
 claimAll c (x ∷ xs) = claimAll (set c x true) xs
 
 -- one more record, where there is room for it
-abbrev pub seenAfter : Seen → Table → Seen
+abbrev pub seenAfter : Prefix → Table → Prefix
 seenAfter s r =
     cond (ltb (s .count) tableRoom)
     (record { count = s .count + 1; claimed = claimAll (s .claimed) (r .net ∷ reads r); drives = set (s .drives) (s .count) (not (eqb (r .net) 0)) })
@@ -46,5 +46,5 @@ sourcedIn drives count x = leb x tableBase || (leb x (tableBase + count) && not 
 abbrev pub unclaimedIn : List Bool → Table → Bool
 unclaimedIn claimed r = eqb (r .net) 0 || (not (getD claimed (r .net) false) && not (elem (r .net) (reads r)))
 
-abbrev pub keepsIn : ℕ → Seen → Table → Bool
+abbrev pub keepsIn : ℕ → Prefix → Table → Bool
 keepsIn k s r = padded r && (coded r && (sized k r && (all (sourcedIn (s .drives) (s .count)) (reads r) && unclaimedIn (s .claimed) r)))

@@ -19,7 +19,7 @@ pub struct Table {
 
 // What the rules need to know of the records seen so far: how many there are, which nets a record drives or reads, and which of
 // the records drive a net.
-pub struct Seen {
+pub struct Prefix {
     pub count: u16,
     pub claimed: [bool; 1000],
     pub drives: [bool; 800],

@@ -7,7 +7,7 @@ ghost use lib.ListN.{getD, set, take};
 ghost use Rattle.lists.specs.Trusted.Tests.{all};
 ghost use Rattle.table.specs.Trusted.RecordTest.{padded as isPadded, coded as isCoded, sized as isSized, isBlank};
 ghost use Rattle.table.specs.SeenTest.{claimAll, noneSeen, sourcedIn, unclaimedIn, keepsIn, seenAfter};
-use table::Seen;
+use table::Prefix;
 use table::Table;
 use table::in_use;
 use table_inputs::GREATEST_NET;
@@ -18,10 +18,10 @@ use table_inputs::rising;
 use table_inputs::zero_from;
 
 // No record seen.
-pub fn none_seen() -> Seen
+pub fn none_seen() -> Prefix
     ensures { λ r. ⌜ r ≡ noneSeen ⌝ }
 {
-    Seen {
+    Prefix {
         count: 0,
         claimed: [false; 1000],
         drives: [false; 800],
@@ -161,7 +161,7 @@ fn unclaimed(claimed: &[bool], r: Table) -> bool
 }
 
 // The record keeps the rules after the records seen.
-pub fn keeps(seen: Seen, k: u8, r: Table) -> bool
+pub fn keeps(seen: Prefix, k: u8, r: Table) -> bool
     ensures { λ b. ⌜ b ≡ keepsIn k seen r ⌝ }
 {
     let drives = seen.drives;
@@ -206,7 +206,7 @@ fn claim_all(claimed: &mut [bool], inputs: [u16; 6], n: usize)
 }
 
 // The records seen, with one more after them; unchanged where there is no room for it.
-pub fn after(seen: Seen, r: Table) -> Seen
+pub fn after(seen: Prefix, r: Table) -> Prefix
     ensures { λ s. ⌜ s ≡ seenAfter seen r ⌝ }
 {
     let count = seen.count;
@@ -219,7 +219,7 @@ pub fn after(seen: Seen, r: Table) -> Seen
     claim(&mut claimed, r.net);
     claim_all(&mut claimed, inputs, in_use(r.count));
     drives[count as usize] = r.net != 0;
-    Seen {
+    Prefix {
         count: count + 1,
         claimed,
         drives,

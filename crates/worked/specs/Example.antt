@@ -17,16 +17,16 @@ use Rattle.plan.specs.Least.{least-is}
 use Rattle.plan.specs.declared.Token.{Token}
 use Rattle.plan.specs.declared.Token.the-variants.{Push as push, Join as join}
 use Rattle.plan.specs.Plans.{fanin, binary, Planned, made, Runs, stop, pushed, joined}
-use Rattle.cover.specs.Trusted.Tables.{Table, numbered, settled}
+use Rattle.cover.specs.Trusted.Tables.{LookupTable, numbered, settled}
 use Rattle.cover.specs.Trusted.Placed.{records, records*}
 use Rattle.plan.specs.Placings.{placings}
-use Rattle.cover.specs.Trusted.CoverTables.{Sheet, AddedLeast}
+use Rattle.cover.specs.Trusted.CoverTables.{Circuit, LeastCoverTables}
 use Rattle.cover.specs.AddLaws.{added-met}
 
 abbrev edges : Edges
 edges = edge false (leaf 1) (edge false (leaf 4) (edge false (gate or (edge false (leaf 2) (edge true (leaf 3) none))) none))
 
-abbrev sheet : Sheet
+abbrev sheet : Circuit
 sheet = record { tree = gate and edges; out = 5; inverted = true }
 
 -- ---- the plan: 1 with 4, and then the OR gate with that, both placed
@@ -64,7 +64,7 @@ its-run = pushed (pushed (pushed (joined 0 0 refl refl (joined {l = true} {r = t
 abbrev cover : Cover
 cover = top 3 and body
 
-abbrev part : List Table
+abbrev part : List LookupTable
 part =
     record { drives = 0; inputs = 2 ∷ 3 ∷ []; truth = 0b1011 } ∷ record { drives = 0; inputs = 1 ∷ 4 ∷ []; truth = 0b1000 }
     ∷ record { drives = 5; inputs = 1001 ∷ 1002 ∷ []; truth = 0b0111 } ∷ []
@@ -85,7 +85,7 @@ its-values = (refl, refl)
 two : {A : Type 0} (P : A → Type 0) {x y : A} → P x → P y → Every P (x ∷ y ∷ [])
 two P p q = every-cons p (every-cons q (every-none _))
 
-added : AddedLeast 1000 2 [] part sheet
+added : LeastCoverTables 1000 2 [] part sheet
 unfolding pack better least-of
 added = record {
   added = record {

@@ -8,24 +8,24 @@ use lib.ListN.{length}
 use Rattle.lists.specs.Trusted.Lists.{_∈_, Every, Distinct, Permuted}
 use Rattle.tree.specs.Trusted.Tree.{Node, leaves}
 use Rattle.cover.specs.Trusted.Cover.{Cover, CoverOf, Least}
-use Rattle.cover.specs.Trusted.Tables.{Table, numbered}
+use Rattle.cover.specs.Trusted.Tables.{LookupTable, numbered}
 use Rattle.cover.specs.Trusted.Placed.{number, records}
 
 -- a drawn sheet: the net `out` is to have the value of the tree, turned over where `inverted`
-pub record Sheet : Type 0 where
+pub record Circuit : Type 0 where
   pub tree : Node
   pub out : ℕ
   pub inverted : Bool
 
 -- its nets lie from 1 to below the base, no net stands at two leaves, and it does not read the net that it drives
-pub record Legal (base : ℕ) (s : Sheet) : Type 0 where
+pub record Legal (base : ℕ) (s : Circuit) : Type 0 where
   pub out-net : (0 < s .out) × (s .out < base)
   pub leaf-nets : Every (λ x. (0 < x) × (x < base) × (x ≢ s .out)) (leaves (s .tree))
   pub leaf-once : Distinct (leaves (s .tree))
 
 -- The tables `new`, which follow the tables `old`, are those of one of the sheet's covers, each at the number that the
 -- cover gives to its gate, the root's last, and each reads only codes below its own, which is to say nets and earlier tables.
-pub record Added (base K : ℕ) (old new : List Table) (s : Sheet) : Type 0 where
+pub record CoverTables (base K : ℕ) (old new : List LookupTable) (s : Circuit) : Type 0 where
   pub legal : Legal base s
   pub cover : Cover
   pub covers : CoverOf K (s .tree) cover
@@ -34,10 +34,10 @@ pub record Added (base K : ℕ) (old new : List Table) (s : Sheet) : Type 0 wher
   pub last : number cover ≡ length old + length new
 
 -- and there are no more of them than there need be
-pub record AddedLeast (base K : ℕ) (old new : List Table) (s : Sheet) : Type 0 where
-  pub added : Added base K old new s
+pub record LeastCoverTables (base K : ℕ) (old new : List LookupTable) (s : Circuit) : Type 0 where
+  pub added : CoverTables base K old new s
   pub fewest : Least K (s .tree) (length new)
 
 -- no table drives or reads the sheet's output net
-abbrev pub Fresh : Sheet → List Table → Type 0
+abbrev pub Fresh : Circuit → List LookupTable → Type 0
 Fresh s = Every (λ r. (r .drives ≢ s .out) × (¬ (s .out ∈ r .inputs)))

@@ -7,7 +7,7 @@ use Rattle.lists.specs.Trusted.Lists.{sorted}
 use Rattle.tree.specs.declared.Kind.{Kind}
 use Rattle.tree.specs.Trusted.Tree.{turned, meet, unit}
 use Rattle.cover.specs.Trusted.Cover.{Cover, net, top, Fanins, end, old, new, pick}
-use Rattle.cover.specs.Trusted.Tables.{Table, Placed, tabled}
+use Rattle.cover.specs.Trusted.Tables.{LookupTable, Placed, tabled}
 
 -- the number of the root's table
 abbrev pub number : Cover → ℕ
@@ -15,7 +15,7 @@ number (net n) = 0
 number (top m k fs) = m
 
 -- the table with the gate's number, where the gate is chosen
-abbrev pub placed : ℕ → Table → List Placed
+abbrev pub placed : ℕ → LookupTable → List Placed
 placed m r = pick m [] ((m, r) ∷ [])
 
 module _ (base : ℕ) where
@@ -46,7 +46,7 @@ module _ (base : ℕ) where
     held* (new m s fs) k e = meet k (pick m (held* s k e) (e (base + m))) (held* fs k e)
 
   -- the table of a chosen gate of the kind k with the fanins `fs`: it drives n, and its value is inverted where v is true
-  abbrev pub tableOf : ℕ → Bool → Kind → Fanins → Table
+  abbrev pub tableOf : ℕ → Bool → Kind → Fanins → LookupTable
   tableOf n v k fs = tabled n (sorted (codes* fs)) (λ e. turned v (held* fs k e))
 
   -- the tables of the chosen gates with their numbers, each after those below it; the root's drives n, with its value

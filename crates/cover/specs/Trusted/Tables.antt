@@ -10,25 +10,25 @@ use Rattle.cover.specs.Trusted.Bits.{bit, truthOf, index, place}
 -- `drives` is the net that takes the table's value, or 0, which is no net. `inputs` are the codes of what it reads: a net's
 -- own number, or the base, which is above every net, plus a table's number, which is its place in the part, from 1.
 -- Bit i of `truth` is its value where each input, say the j-th from 0, has the value of bit j of i.
-pub record Table : Type 0 where
+pub record LookupTable : Type 0 where
   pub drives : ℕ
   pub inputs : List ℕ
   pub truth : ℕ
 
 -- its value, where `e` has the value of each code
-abbrev pub output : Table → (ℕ → Bool) → Bool
+abbrev pub output : LookupTable → (ℕ → Bool) → Bool
 output r e = bit (r .truth) (index (map e (r .inputs)))
 
 -- the table that drives n and reads the codes `xs`, of whose values its own is `f`
-abbrev pub tabled : ℕ → List ℕ → ((ℕ → Bool) → Bool) → Table
+abbrev pub tabled : ℕ → List ℕ → ((ℕ → Bool) → Bool) → LookupTable
 tabled n xs f = record { drives = n; inputs = xs; truth = truthOf (λ i. f (λ c. bit i (place c xs))) (2 ^ length xs) }
 
 -- a table and its number
 abbrev pub Placed : Type 0
-Placed = ℕ × Table
+Placed = ℕ × LookupTable
 
 -- the tables with their numbers, where n tables stand before them
-abbrev pub numbered : ℕ → List Table → List Placed
+abbrev pub numbered : ℕ → List LookupTable → List Placed
 numbered n [] = []
 numbered n (r ∷ rs) = (suc n, r) ∷ numbered (suc n) rs
 
@@ -57,5 +57,5 @@ module _ (base : ℕ) where
   run (p ∷ ps) e = run ps (step p e)
 
   -- the values of the codes in a part, where σ sets the nets that no table drives
-  abbrev pub settled : List Table → (ℕ → Bool) → ℕ → Bool
+  abbrev pub settled : List LookupTable → (ℕ → Bool) → ℕ → Bool
   settled rs σ = run (numbered 0 rs) σ

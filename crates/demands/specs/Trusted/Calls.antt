@@ -2,8 +2,8 @@
 -- 01, "Counting over a list of adds". Definitions only.
 use Prim.Native.Nat.{ℕ}
 use mathlib.Core.List.{List, [], _∷_, _++_}
-use Rattle.cover.specs.Trusted.CoverTables.{Sheet}
-use Rattle.part.specs.Trusted.Reading.{Reading, sheet, refused as unread, readOf}
+use Rattle.cover.specs.Trusted.CoverTables.{Circuit}
+use Rattle.part.specs.Trusted.Reading.{CircuitReading, sheet, refused as unread, readOf}
 use Rattle.part.specs.Trusted.Answers.{Answer, accepted, refused, Result}
 use Rattle.part.specs.Trusted.Add.{Add}
 use Rattle.part.specs.declared.Part.{Part}
@@ -18,12 +18,12 @@ final p [] = p
 final p (r ∷ rs) = final (r .part) rs
 
 -- the sheet that is read, if one is
-abbrev pub sheetsRead : Reading → List Sheet
+abbrev pub sheetsRead : CircuitReading → List Circuit
 sheetsRead (sheet s) = s ∷ []
 sheetsRead (unread number place) = []
 
 -- of a call's sheets, all are accepted or none
-abbrev pub ifAccepted : Answer → List Sheet → List Sheet
+abbrev pub ifAccepted : Answer → List Circuit → List Circuit
 ifAccepted accepted ss = ss
 ifAccepted (refused number place) ss = []
 
@@ -31,7 +31,7 @@ ifAccepted (refused number place) ss = []
 abbrev pub Promise : Part → Call → Part → Answer → Type 0
 Promise p (add text) q a = Add p text q a
 
-abbrev pub sheetsOf : Call → List Sheet
+abbrev pub sheetsOf : Call → List Circuit
 sheetsOf (add text) = sheetsRead (readOf text)
 
 -- the results of the calls, from the part p on
@@ -41,13 +41,13 @@ pub data Chain : Part → List Call → List Result → Type 0 where
       Chain (r .part) cs rs → Chain p (c ∷ cs) (r ∷ rs)
 
 -- the sheets that were accepted, in order
-abbrev pub acceptedIn : List Call → List Result → List Sheet
+abbrev pub acceptedIn : List Call → List Result → List Circuit
 acceptedIn [] rs = []
 acceptedIn (c ∷ cs) [] = []
 acceptedIn (c ∷ cs) (r ∷ rs) = ifAccepted (r .answer) (sheetsOf c) ++ acceptedIn cs rs
 
 -- in the calls from the part p on, the call d was given the part o and gave t, and the sheets `ss` were accepted before it
-pub data Link : Part → List Call → List Result → List Sheet → Part → Call → Result → Type 0 where
+pub data Link : Part → List Call → List Result → List Circuit → Part → Call → Result → Type 0 where
   here : {p : Part} {d : Call} {cs : List Call} {t : Result} {rs : List Result} → Link p (d ∷ cs) (t ∷ rs) [] p d t
-  next : {p o : Part} {c d : Call} {cs : List Call} {r t : Result} {rs : List Result} {ss : List Sheet} →
+  next : {p o : Part} {c d : Call} {cs : List Call} {r t : Result} {rs : List Result} {ss : List Circuit} →
       Link (r .part) cs rs ss o d t → Link p (c ∷ cs) (r ∷ rs) (ifAccepted (r .answer) (sheetsOf c) ++ ss) o d t

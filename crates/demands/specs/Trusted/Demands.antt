@@ -9,8 +9,8 @@ use mathlib.Core.List.{List, [], _∷_, _++_, map}
 use lib.ListN.{length}
 use Rattle.lists.specs.Trusted.Lists.{Every}
 use Rattle.cover.specs.Trusted.Cover.{Least}
-use Rattle.cover.specs.Trusted.Tables.{Table as LookupTable, settled}
-use Rattle.cover.specs.Trusted.CoverTables.{Sheet, Added, Fresh}
+use Rattle.cover.specs.Trusted.Tables.{LookupTable, settled}
+use Rattle.cover.specs.Trusted.CoverTables.{Circuit, CoverTables, Fresh}
 use Rattle.sheet.specs.Trusted.Sheet.{DrawnSheet, sheet as drew}
 use Rattle.sheet.specs.Trusted.Read.{readSheet}
 use Rattle.sheet.specs.Trusted.Values.{sheetValue}
@@ -50,14 +50,14 @@ pub record OpeningTold (k capacity : ℕ) (r : Result) : Type 0 where
 pub data AddCondition (p : Part) (text : List ℕ) : (number place : ℕ) → Type 0 where
   not-sound : ¬ (Sound p) → AddCondition p text 20 0
   not-read : (number place : ℕ) → Sound p → readOf text ≡ unread number place → AddCondition p text number place
-  out-driven : (s : Sheet) → Sound p → readOf text ≡ sheet s → Driven (s .out) (tablesOf p) → AddCondition p text 21 0
-  out-read : (s : Sheet) → Sound p → readOf text ≡ sheet s → ¬ (Driven (s .out) (tablesOf p)) → Read (s .out) (tablesOf p) → AddCondition p text 22 0
-  no-room : (s : Sheet) (n : ℕ) → Sound p → readOf text ≡ sheet s → Fresh s (tablesOf p) → Least (p .k) (s .tree) n → p .capacity - p .used < n →
+  out-driven : (s : Circuit) → Sound p → readOf text ≡ sheet s → Driven (s .out) (tablesOf p) → AddCondition p text 21 0
+  out-read : (s : Circuit) → Sound p → readOf text ≡ sheet s → ¬ (Driven (s .out) (tablesOf p)) → Read (s .out) (tablesOf p) → AddCondition p text 22 0
+  no-room : (s : Circuit) (n : ℕ) → Sound p → readOf text ≡ sheet s → Fresh s (tablesOf p) → Least (p .k) (s .tree) n → p .capacity - p .used < n →
       AddCondition p text 23 0
 
 -- none of them
 pub record Addable (p : Part) (text : List ℕ) : Type 0 where
-  pub drawn : Sheet
+  pub drawn : Circuit
   pub number : ℕ
   pub sound : Sound p
   pub read : readOf text ≡ sheet drawn
@@ -77,7 +77,7 @@ pub data WriteCondition (p : Part) (There : Type 0) (old : List ℕ) (at : ℕ) 
   not-there : Sound p → ¬ There → WriteCondition p There old at new 15 0
   too-short : Sound p → There → length old < at + length new → WriteCondition p There old at new 14 0
 
-pub record WriteTold (p : Part) (There : Type 0) (old : List ℕ) (at : ℕ) (new : List ℕ) (o : Writes.Outcome) : Type 0 where
+pub record WriteTold (p : Part) (There : Type 0) (old : List ℕ) (at : ℕ) (new : List ℕ) (o : Writes.WriteOutcome) : Type 0 where
   pub refuses : (number place : ℕ) → (o .result ≡ Writes.refused number place) ↔ WriteCondition p There old at new number place
   pub writes : (count : ℕ) → (o .result ≡ wrote count) ↔ (Sound p × There × (at + length new ≤ length old) × (count ≡ length new))
   pub stays : (number place : ℕ) → o .result ≡ Writes.refused number place → o .bytes ≡ old
@@ -121,7 +121,7 @@ pub record Demand2 (k capacity : ℕ) (cs : List Call) (rs : List Result) : Type
   pub free : (σ τ : ℕ → Bool) → ((n : ℕ) → IsNet n → ¬ (Driven n (tablesOf (lastPart k capacity rs))) → σ n ≡ τ n) → (n : ℕ) → IsNet n →
       valuesIn (lastPart k capacity rs) σ n ≡ valuesIn (lastPart k capacity rs) τ n
   -- "each accepted sheet's output net has the value its gates give"
-  pub each : (ss : List Sheet) (o : Part) (c : Call) (r : Result) → Link ((opened k capacity) .part) cs rs ss o c r →
+  pub each : (ss : List Circuit) (o : Part) (c : Call) (r : Result) → Link ((opened k capacity) .part) cs rs ss o c r →
       CallServed (lastPart k capacity rs) o c r
   -- "The list's lines say exactly those tables": the part is sound, so that demand 1 has its list written, and no other sound part has the
   -- same list, or the same lines
@@ -135,42 +135,42 @@ pub record Demand2 (k capacity : ℕ) (cs : List Call) (rs : List Result) : Type
 -- ---- left; the used count is the start's plus the sum of the least numbers."
 
 -- n is the sum of the sheets' least numbers; a sheet has one at most (`least-unique`), and so has the sum one value (`total-unique`)
-pub data Total (k : ℕ) : List Sheet → ℕ → Type 0 where
+pub data Total (k : ℕ) : List Circuit → ℕ → Type 0 where
   none : Total k [] 0
-  more : {s : Sheet} {ss : List Sheet} {n m : ℕ} → Least k (s .tree) n → Total k ss m → Total k (s ∷ ss) (n + m)
+  more : {s : Circuit} {ss : List Circuit} {n m : ℕ} → Least k (s .tree) n → Total k ss m → Total k (s ∷ ss) (n + m)
 
 -- the number left, from the start p on, after sheets whose least numbers have the sum n
 abbrev pub left : Part → ℕ → ℕ
 left p n = p .capacity - p .used - n
 
 -- no condition that an add tests before 23 holds, and the sheet is s
-pub record Passes (o : Part) (text : List ℕ) (s : Sheet) : Type 0 where
+pub record Passes (o : Part) (text : List ℕ) (s : Circuit) : Type 0 where
   pub sound : Sound o
   pub read : readOf text ≡ sheet s
   pub fresh : Fresh s (tablesOf o)
 
 -- the tables `new` were taken for the sheet s: the records put after the old ones are theirs, they "are those of one of its covers, and
 -- their number is its least number" and the used count handed back less the one handed in
-pub record Taken (k : ℕ) (o : Part) (text : List ℕ) (q : Part) (s : Sheet) (new : List LookupTable) : Type 0 where
+pub record Taken (k : ℕ) (o : Part) (text : List ℕ) (q : Part) (s : Circuit) (new : List LookupTable) : Type 0 where
   pub read : readOf text ≡ sheet s
   pub records : inUse q ≡ inUse o ++ map recordOf new
   pub tables : tablesOf q ≡ tablesOf o ++ new
-  pub cover : Added tableBase k (tablesOf o) new s
+  pub cover : CoverTables tableBase k (tablesOf o) new s
   pub least : Least k (s .tree) (length new)
   pub used : q .used ≡ o .used + length new
 
 -- a sheet that passes every other check has a least number, "23 is given exactly when the least number is above the number left", and it is
 -- accepted exactly when it is not
-pub record Room (k left : ℕ) (s : Sheet) (r : Result) : Type 0 where
+pub record RoomTold (k left : ℕ) (s : Circuit) (r : Result) : Type 0 where
   pub some : (n : ℕ) × Least k (s .tree) n
   pub refuses : (n : ℕ) → Least k (s .tree) n → (r .answer ≡ refused 23 0) ↔ (left < n)
   pub accepts : (n : ℕ) → Least k (s .tree) n → (r .answer ≡ accepted) ↔ (n ≤ left)
 
 -- an add on the part o, with the result r, where `left` tables are left; 23 is given to no sheet but one that passes every other check
 pub record Accounted (k left : ℕ) (o : Part) (text : List ℕ) (r : Result) : Type 0 where
-  pub taken : r .answer ≡ accepted → (s : Sheet) × (new : List LookupTable) × Taken k o text (r .part) s new
-  pub room : (s : Sheet) → Passes o text s → Room k left s r
-  pub only : r .answer ≡ refused 23 0 → (s : Sheet) × Passes o text s
+  pub taken : r .answer ≡ accepted → (s : Circuit) × (new : List LookupTable) × Taken k o text (r .part) s new
+  pub room : (s : Circuit) → Passes o text s → RoomTold k left s r
+  pub only : r .answer ≡ refused 23 0 → (s : Circuit) × Passes o text s
 
 -- by the kind of the call
 abbrev pub CallAccounted : ℕ → ℕ → Part → Call → Result → Type 0
@@ -179,7 +179,7 @@ CallAccounted k left o (add text) r = Accounted k left o text r
 -- DEMAND 3, of the calls `cs` from the part p on, with the results `rs`
 pub record Demand3 (p : Part) (cs : List Call) (rs : List Result) : Type 0 where
   -- each call, with the number left after the sheets `ss` that were accepted before it
-  pub each : (ss : List Sheet) (o : Part) (c : Call) (r : Result) → Link p cs rs ss o c r →
+  pub each : (ss : List Circuit) (o : Part) (c : Call) (r : Result) → Link p cs rs ss o c r →
       (n : ℕ) × Total (p .k) ss n × CallAccounted (p .k) (left p n) o c r
   -- "the used count is the start's plus the sum of the least numbers"
   pub used : (n : ℕ) × Total (p .k) (acceptedIn cs rs) n × ((final p rs) .used ≡ p .used + n)

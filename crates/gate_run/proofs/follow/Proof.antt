@@ -1,7 +1,7 @@
 use Prim.Native.Nat.{_-_}
 use mathlib.Core.Path.{_≡_, sym, _∙_}
 use lib.ListN.{length, length-map}
-use Rattle.plan.proofs.Step.{the-field}
+use Rattle.plan.proofs.PlanStep.{the-field}
 use borrow.Author.Needs.{needs}
 use Rattle.mapper_laws.specs.CodeRun.{Following}
 use Rattle.mapper_laws.specs.CodeRunLaws.{following-start, following-advances, following-next, following-end}

@@ -5,12 +5,12 @@ use lib.ListN.{length}
 use Rattle.decimal.specs.Trusted.Columns.{placed}
 
 -- so many bytes are written; or refused, with 01's number and place
-pub data Result : Type 0 where
-  wrote : ℕ → Result
-  refused : (number place : ℕ) → Result
+pub data WriteResult : Type 0 where
+  wrote : ℕ → WriteResult
+  refused : (number place : ℕ) → WriteResult
 
-pub record Outcome : Type 0 where
-  pub result : Result
+pub record WriteOutcome : Type 0 where
+  pub result : WriteResult
   pub bytes : List ℕ
 
 -- the new bytes stand from the place on, and all others are as they were

@@ -1,10 +1,10 @@
 -- What the answer of a write says: 01's number and place for each case. Definitions only.
-use Rattle.list_line.specs.Trusted.Writes.{Result, wrote, refused}
-use Rattle.listing.specs.declared.Answer.{Answer}
-use Rattle.listing.specs.declared.Answer.the-variants.{Wrote, NotSound, NoLine, NoRoom}
+use Rattle.list_line.specs.Trusted.Writes.{WriteResult, wrote, refused}
+use Rattle.listing.specs.declared.WriteAnswer.{WriteAnswer}
+use Rattle.listing.specs.declared.WriteAnswer.the-variants.{Wrote, NotSound, NoLine, NoRoom}
 
 -- 01's number for each refusal
-abbrev pub resultOf : Answer → Result
+abbrev pub resultOf : WriteAnswer → WriteResult
 resultOf (Wrote count) = wrote count
 resultOf NotSound = refused 20 0
 resultOf NoLine = refused 15 0

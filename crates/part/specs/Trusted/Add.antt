@@ -8,13 +8,13 @@ use lib.Dec.{leb, eqb}
 use lib.ListN.{length, drop}
 use Rattle.lists.specs.Trusted.Tests.{any, elem, within, either}
 use Rattle.cover.specs.Trusted.Cover.{Least}
-use Rattle.cover.specs.Trusted.Tables.{Table as LookupTable}
-use Rattle.cover.specs.Trusted.CoverTables.{Sheet, AddedLeast}
+use Rattle.cover.specs.Trusted.Tables.{LookupTable}
+use Rattle.cover.specs.Trusted.CoverTables.{Circuit, LeastCoverTables}
 use Rattle.table.specs.Trusted.Limits.{tableBase, inputRoom, tableRoom}
 use Rattle.table.specs.Trusted.Records.{recordOf}
 use Rattle.part.specs.Trusted.Parts.{inUse, tablesOf}
 use Rattle.part.specs.Trusted.SoundTest.{sound}
-use Rattle.part.specs.Trusted.Reading.{Reading, sheet, refused as unread, readOf}
+use Rattle.part.specs.Trusted.Reading.{CircuitReading, sheet, refused as unread, readOf}
 use Rattle.part.specs.Trusted.Answers.{Answer, accepted, refused, Result, empty}
 use Rattle.part.specs.declared.Part.{Part}
 
@@ -52,25 +52,25 @@ abbrev pub Refused : Part → ℕ → ℕ → Part → Answer → Type 0
 Refused p number place q a = (q ≡ p) × (a ≡ refused number place)
 
 -- taken: some least cover of the sheet, in some order of its tables, inputs before readers and the root's last, after the old ones
-pub record Accepted (p : Part) (s : Sheet) (q : Part) (a : Answer) : Type 0 where
+pub record Accepted (p : Part) (s : Circuit) (q : Part) (a : Answer) : Type 0 where
   pub new : List LookupTable
-  pub least : AddedLeast tableBase (p .k) (tablesOf p) new s
+  pub least : LeastCoverTables tableBase (p .k) (tablesOf p) new s
   pub part : q ≡ extended p new
   pub answer : a ≡ accepted
 
 -- 23, of a sheet whose least number is n
-abbrev pub Fill : Part → Sheet → ℕ → Part → Answer → Type 0
+abbrev pub Fill : Part → Circuit → ℕ → Part → Answer → Type 0
 Fill p s n q a = either (leb n (p .capacity - p .used)) (Accepted p s q a) (Refused p 23 0 q a)
 
 -- 21 and 22
-abbrev pub Offer : Part → Sheet → Part → Answer → Type 0
+abbrev pub Offer : Part → Circuit → Part → Answer → Type 0
 Offer p s q a =
     either (isDriven (s .out) (tablesOf p)) (Refused p 21 0 q a)
     (either (isRead (s .out) (tablesOf p)) (Refused p 22 0 q a)
     ((n : ℕ) × Least (p .k) (s .tree) n × Fill p s n q a))
 
 -- the sheet's own refusals
-abbrev pub Take : Part → Reading → Part → Answer → Type 0
+abbrev pub Take : Part → CircuitReading → Part → Answer → Type 0
 Take p (sheet s) q a = Offer p s q a
 Take p (unread number place) q a = Refused p number place q a
 

@@ -4,7 +4,7 @@ use mathlib.Core.Path.{_≡_}
 use mathlib.Core.List.{List, map}
 use lib.ListN.{length, take, replicate}
 use Rattle.lists.specs.Trusted.Lists.{Every}
-use Rattle.cover.specs.Trusted.Tables.{Table as LookupTable}
+use Rattle.cover.specs.Trusted.Tables.{LookupTable}
 use Rattle.table.specs.declared.Table.{Table}
 use Rattle.table.specs.Trusted.Limits.{inputRoom, tableRoom}
 use Rattle.table.specs.Trusted.Records.{tableOf, blank}

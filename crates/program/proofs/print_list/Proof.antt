@@ -3,7 +3,7 @@ use denote.Ref.{now}
 use Rattle.lists.specs.TestLaws.{reflects-true}
 use Rattle.part.specs.SoundLaws.{sound-reflects}
 use Rattle.part.specs.Trusted.Listing.{listOf}
-use Rattle.listing.specs.declared.Answer.{Answer}
+use Rattle.listing.specs.declared.WriteAnswer.{WriteAnswer}
 use Rattle.program.specs.Contracts.{WrittenAs}
 use Rattle.program.proofs.Printing.{printedOf, list-printed}
 use borrow.Author.Needs.{needs}
@@ -11,7 +11,7 @@ use Rattle.program.proofs.print_list.Statement.{statement}
 use Rattle.program.proofs.print_list.Tie as tie
 
 -- what is printed, by the answer
-printed : (c : tie.After-write-sound-list) {a : Answer} → c .write-sound-list .result ≡ a → let s = c .before .before .before in
+printed : (c : tie.After-write-sound-list) {a : WriteAnswer} → c .write-sound-list .result ≡ a → let s = c .before .before .before in
     WrittenAs (listOf (s .args .part)) (printedOf a) (c .write-sound-list .last .1 .0) (now (s .args .output))
 printed c e = let s = c .before .before .before in
     subst (λ a. WrittenAs (listOf (s .args .part)) (printedOf a) (c .write-sound-list .last .1 .0) (now (s .args .output))) e

@@ -2,7 +2,7 @@ use Prim.Native.Nat.{ℕ}
 use native.Mathlib.Nat.{pos-of-ne-zero}
 use mathlib.Core.List.{List}
 use lib.ListN.{drop}
-use Rattle.program.specs.Trusted.Program.{Mapped, Prints}
+use Rattle.program.specs.Trusted.Program.{SheetsPrint, Prints}
 use Rattle.program.specs.ProgramLaws.{opening-refused, opening-accepted, opening-sound, refused-line, accepted-list}
 use borrow.Author.Needs.{needs}
 use Rattle.program.proofs.run.Statement.{statement}
@@ -10,7 +10,7 @@ use Rattle.program.proofs.run.Tie as tie
 
 -- what comes of the sheets is what is printed
 mapped : (c : tie.After-add-sheets) {out : List ℕ} → let r = c .before .before .before .before .before in let input = r .before .before .before .args .input .now in
-    Mapped (r .read-opening .result .part) 0 (drop 13 input) out → Prints input out
+    SheetsPrint (r .read-opening .result .part) 0 (drop 13 input) out → Prints input out
 mapped c m =
     let r = c .before .before .before .before .before in
     opening-accepted (r .before .before .before .args .input .now) (r .read-opening .result) (r .read-opening .ensures) (c .before .before .if1 .left) _ m

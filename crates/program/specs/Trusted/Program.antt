@@ -20,16 +20,16 @@ refusalLine number sheet place = signedFieldOf columns (record { negative = true
 
 -- THE SHEETS of a text, added one after the other to the part p, where `n` were added before: each is as many lines as its gate count
 -- says, the first that is refused ends the reading, and where none is the list is printed
-pub data Mapped : Part → ℕ → List ℕ → List ℕ → Type 0 where
-  ended : {p : Part} {n : ℕ} → Mapped p n [] (listOf p)
+pub data SheetsPrint : Part → ℕ → List ℕ → List ℕ → Type 0 where
+  ended : {p : Part} {n : ℕ} → SheetsPrint p n [] (listOf p)
   stopped : {p : Part} {n : ℕ} {text : List ℕ} (q : Part) (number place : ℕ) → 0 < length text → Add p (sheetText text .0) q (refused number place) →
-      Mapped p n text (refusalLine number (suc n) place)
+      SheetsPrint p n text (refusalLine number (suc n) place)
   added : {p : Part} {n : ℕ} {text out : List ℕ} (q : Part) → 0 < length text → Add p (sheetText text .0) q accepted →
-      Mapped q (suc n) (sheetText text .1) out → Mapped p n text out
+      SheetsPrint q (suc n) (sheetText text .1) out → SheetsPrint p n text out
 
 -- WHAT IS PRINTED, after an opening: the refusal, or what comes of the text after the line
 abbrev pub After : Result → List ℕ → List ℕ → Type 0
-After r text out = elim (r .answer) [ accepted ↦ Mapped (r .part) 0 text out | refused number place ↦ out ≡ refusalLine number 0 place ]
+After r text out = elim (r .answer) [ accepted ↦ SheetsPrint (r .part) 0 text out | refused number place ↦ out ≡ refusalLine number 0 place ]
 
 abbrev pub Prints : List ℕ → List ℕ → Type 0
 Prints input out = After (openedBy (openingNumbers input)) (drop 13 input) out

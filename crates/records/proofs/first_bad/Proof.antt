@@ -1,5 +1,5 @@
 -- `records::first_bad` meets its contract: a walk of its MIR, by hand, with a loop. Each turn looks into the shared slice for one record, copies it out, shuts the slice, and calls `step`, of which it knows only the contract.
--- The loop's invariant is a walk w that is `Right` (RunLaws in specs/, which has all that is said of lists) and whose machine value is its fields'. The variant is how many records are left.
+-- The loop's invariant is a walk w that is `RunRight` (RunLaws in specs/, which has all that is said of lists) and whose machine value is its fields'. The variant is how many records are left.
 -- Assumes nothing.
 use mathlib.Core.Path.{_≡_, refl, sym, ap, subst, _∙_}
 use Prim.Native.Nat.{ℕ, _*_, _-_, _<_, _^_}
@@ -72,7 +72,7 @@ use Rattle.records.proofs.first_bad as me
 use Rattle.records.proofs.first_bad.Statement as stated
 use Rattle.records.proofs.first_bad.Code as code
 use Rattle.records.proofs.first_bad.Code.Mir as part
-use Rattle.records.specs.RunLaws.{by-cases, Right, begins, steps, nearer, ends}
+use Rattle.records.specs.RunLaws.{by-cases, RunRight, begins, steps, nearer, ends}
 
 -- nothing of the parameters is kept for the exit: a `&` and plain data owe nothing there
 abbrev stayed : Stays (me.ended .signature .params) (me.ended .kept)
@@ -166,7 +166,7 @@ module _ {M : Type 1} (𝓤 : URA M) (H : Heap 𝓤) (A : Atoms 𝓤) (W : Given
 
   -- ---- the loop: a walk that is sound, nearer to the end at each turn
   abbrev Upto : Type 0
-  Upto = (w : Walk) × (Fine w × Right xs k cap w)
+  Upto = (w : Walk) × (Fine w × RunRight xs k cap w)
 
   abbrev Nearer : Upto → Upto → Type 0
   Nearer j i = n - j .0 .at < n - i .0 .at
@@ -175,8 +175,8 @@ module _ {M : Type 1} (𝓤 : URA M) (H : Heap 𝓤) (A : Atoms 𝓤) (W : Given
   Nearer-wf = InvImage·wf (λ (i : Upto). n - i .0 .at) (Nat·lt-wfRel .wf)
 
   -- the walk that a call returned, at the machine value that its fields have
-  abbrev landed : (w r : Walk) (u : Val) → r ≡ w → Is S.the-row r (u ∷ []) → Right xs k cap w → Upto
-  landed w r u e is so = (r, (subst (Is S.the-row r) (S′.lowers .val-is r (u ∷ []) is) is, subst (Right xs k cap) (sym e) so))
+  abbrev landed : (w r : Walk) (u : Val) → r ≡ w → Is S.the-row r (u ∷ []) → RunRight xs k cap w → Upto
+  landed w r u e is so = (r, (subst (Is S.the-row r) (S′.lowers .val-is r (u ∷ []) is) is, subst (RunRight xs k cap) (sym e) so))
 
   module _ (𝓣 : Tables 𝓤 H) (fm : FmC 𝓤 H (W .laws) (𝓣 .C)) (known-begin : Triple 𝓤 (𝓣 .C #begin) (Begin 𝓤 H A mem run)) (known-step : Triple 𝓤 (𝓣 .C #step) (Step 𝓤 H A mem run)) (known-finish : Triple 𝓤 (𝓣 .C #finish) (Finish 𝓤 H A mem run)) where
     abbrev C : Calls 𝓤 H

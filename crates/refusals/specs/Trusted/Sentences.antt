@@ -50,13 +50,13 @@ abbrev pub refusalText : ℕ → List ℕ
 refusalText n = bytesOf (sentenceIn refusals n)
 
 -- how many bytes were written, and the buffer after that
-pub record Outcome : Type 0 where
+pub record FrontWrite : Type 0 where
   pub count : ℕ
   pub bytes : List ℕ
 
 -- a text at the front of a buffer; a buffer that is too short is as it was
-abbrev pub fitted : List ℕ → List ℕ → Outcome
-fitted text old =
+abbrev pub frontWrite : List ℕ → List ℕ → FrontWrite
+frontWrite text old =
     cond (leb (length text) (length old))
     (record { count = length text; bytes = text ++ drop (length text) old })
     (record { count = 0; bytes = old })

@@ -7,14 +7,14 @@ use lib.ListN.{length}
 use lib.Seq.{length-take-le}
 use borrow.Author.Needs.{needs}
 use Rattle.lists.specs.Cases.{if-leb}
-use Rattle.refusals.specs.Trusted.Sentences.{Outcome, refusalText, fitted}
+use Rattle.refusals.specs.Trusted.Sentences.{FrontWrite, refusalText, frontWrite}
 use Rattle.refusals_test.proofs.say.Statement.{statement}
 use Rattle.refusals_test.proofs.say.Tie as tie
 
 -- what a text takes of a buffer is at most all of it
-fitted-within : (text old new : List ℕ) (n : ℕ) → record { count = n; bytes = new } ≡ fitted text old → n ≤ length old
+fitted-within : (text old new : List ℕ) (n : ℕ) → record { count = n; bytes = new } ≡ frontWrite text old → n ≤ length old
 fitted-within text old new n e =
-    subst (λ (o : Outcome). o .count ≤ length old) (sym e) (if-leb (λ (o : Outcome). o .count ≤ length old) (length text) (length old) (λ h. h) (λ _. omega arith))
+    subst (λ (o : FrontWrite). o .count ≤ length old) (sym e) (if-leb (λ (o : FrontWrite). o .count ≤ length old) (length text) (length old) (λ h. h) (λ _. omega arith))
 
 within : (c : tie.After-say-number) → c .before .before .before .write .result ≤ length (c .before .before .before .write .last .1 .0)
 within c =

@@ -5,7 +5,7 @@ use Prim.Native.Nat.{_^_}
 use native.Mathlib.Omega.{arith}
 use borrow.Author.Tests.{not-true, not-false}
 use lib.ListN.{length, take}
-use Rattle.plan.specs.Entries.{Good}
+use Rattle.plan.specs.Entries.{GoodKeys}
 use Rattle.plan.specs.PlanOf.{goodInput}
 use Rattle.search.proofs.Planning.{whole-place, whole-writable, whole-answer, plan-keys, plan-refused, plan-found}
 use borrow.Author.Needs.{needs}
@@ -18,7 +18,7 @@ passed c = sym (c .before .is-good .ensures) ∙ not-false _ (c .if1 .left)
 
 found : (c : tie.Else1) →
     let a = c .before .before .args in
-    (length (take (a .count) (a .keys)) ≡ a .count) × Good (a .k) (take (a .count) (a .keys))
+    (length (take (a .count) (a .keys)) ≡ a .count) × GoodKeys (a .k) (take (a .count) (a .keys))
 found c =
     let d = c .before .before in
     plan-keys (d .args .k) (d .args .count) (d .args .keys) (d .good .1 .1 .0 .1 .0 .1) (passed c)

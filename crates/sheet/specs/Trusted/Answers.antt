@@ -10,11 +10,11 @@ use Rattle.sheet.specs.declared.Gate.{Gate}
 use Rattle.sheet.specs.declared.Sheet.{Sheet}
 use Rattle.sheet.specs.declared.Refusal.{Refusal}
 use Rattle.sheet.specs.declared.Refusal.the-variants.{Layout, OutputNet, GateCount, GateKind, FaninCount, NoSource, GateTwice, NetTwice, OutputLeaf, LeafCount, GateUnread}
-use Rattle.sheet.specs.declared.Answer.{Answer}
-use Rattle.sheet.specs.declared.Answer.the-variants.{Accepted, Refused}
-use Rattle.sheet.specs.declared.Reading.{Reading}
+use Rattle.sheet.specs.declared.ReadAnswer.{ReadAnswer}
+use Rattle.sheet.specs.declared.ReadAnswer.the-variants.{Accepted, Refused}
+use Rattle.sheet.specs.declared.ReadResult.{ReadResult}
 use Rattle.sheet.specs.Trusted.Limits.{mostGates, faninRoom}
-use Rattle.sheet.specs.Trusted.Sheet.{DrawnGate, DrawnSheet, Outcome, sheet, refused}
+use Rattle.sheet.specs.Trusted.Sheet.{DrawnGate, DrawnSheet, SheetReading, sheet, refused}
 
 -- 01, "Turned down because of the input"
 abbrev pub numberOf : Refusal → ℕ
@@ -40,11 +40,11 @@ drawnGates fs n gs = map (drawnGate fs) (take n gs)
 abbrev pub drawnSheet : Sheet → DrawnSheet
 drawnSheet s = record { out = s .out; inverted = s .inverted; gates = drawnGates (s .fanins) (s .count) (s .gates) }
 
-abbrev pub answered : Answer → DrawnSheet → Outcome
+abbrev pub answered : ReadAnswer → DrawnSheet → SheetReading
 answered Accepted s = sheet s
 answered (Refused why line) s = refused (numberOf why) line
 
-abbrev pub outcome : Reading → Outcome
+abbrev pub outcome : ReadResult → SheetReading
 outcome r = answered (r .answer) (drawnSheet (r .sheet))
 
 -- all zero: what stands past the counts, and for the sheet of a text that is refused

@@ -15,7 +15,7 @@ use Rattle.sheet.specs.Trusted.Line.{line, fields}
 use Rattle.sheet.specs.declared.Source.{Source}
 use Rattle.sheet.specs.declared.Source.the-variants.{Net as net, Gate as gate}
 use Rattle.sheet.specs.declared.Edge.{Edge as Fanin}
-use Rattle.sheet.specs.Trusted.Sheet.{DrawnGate, DrawnSheet, Outcome, sheet, refused, from}
+use Rattle.sheet.specs.Trusted.Sheet.{DrawnGate, DrawnSheet, SheetReading, sheet, refused, from}
 use Rattle.sheet.specs.Trusted.Step.{Step, good, bad, _>>=_, require, given}
 
 -- ---- tests
@@ -145,9 +145,9 @@ readAll text = do
   _ ← readUnread (from 1 (head .count - 1)) (seen .gates)
   good (record { out = head .out; inverted = head .inverted; gates = gates })
 
-abbrev pub reading : Step DrawnSheet → Outcome
+abbrev pub reading : Step DrawnSheet → SheetReading
 reading (good s) = sheet s
 reading (bad number place) = refused number place
 
-abbrev pub readSheet : List ℕ → Outcome
+abbrev pub readSheet : List ℕ → SheetReading
 readSheet text = reading (readAll text)

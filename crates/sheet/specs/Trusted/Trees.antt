@@ -41,5 +41,5 @@ abbrev mutual
   gateTrees* (Edges.edge i t es) = gateTrees t ++ gateTrees* es
 
 -- the sheet as the theory has it
-abbrev pub drawn : DrawnSheet → Added.Sheet
+abbrev pub drawn : DrawnSheet → Added.Circuit
 drawn s = record { tree = treeOf s; out = s .out; inverted = s .inverted }

@@ -1,7 +1,7 @@
 -- `sheet::refused` meets its contract. Assumes nothing.
 use mathlib.Core.Path.{ap₂}
 use mathlib.Core.Bool.{false}
-use Rattle.sheet.specs.declared.Answer.the-variants.{Refused}
+use Rattle.sheet.specs.declared.ReadAnswer.the-variants.{Refused}
 use borrow.Author.Needs.{needs}
 use Rattle.sheet_reader.proofs.refused.Statement.{statement}
 use Rattle.sheet_reader.proofs.refused.Tie as tie

@@ -3,7 +3,7 @@
 use Prim.Native.Nat.{ℕ, _-_}
 use mathlib.Core.List.{List, _++_}
 use lib.ListN.{length, take, replicate}
-use Rattle.cover.specs.Trusted.Tables.{Table as LookupTable}
+use Rattle.cover.specs.Trusted.Tables.{LookupTable}
 use Rattle.table.specs.Trusted.Limits.{inputRoom}
 use Rattle.table.specs.declared.Table.{Table}
 
