@@ -1,4 +1,4 @@
--- A part made by adding sheets one after the other, and the value that each is to have. Definitions only: the laws are in HistoryLaws.
+-- A part made by adding sheets one after the other, and the value that each is to have. Internal definitions: the laws are in HistoryLaws.
 use Prim.Native.Nat.{ℕ}
 use mathlib.Core.Path.{_≡_}
 use mathlib.Core.Bool.{Bool}

@@ -11,7 +11,7 @@ use Rattle.cover.specs.Trusted.Tables.{LookupTable, numbered, settled}
 use Rattle.cover.specs.Eval.{numbered-append, settled-append, ValuesHold, uses}
 use Rattle.cover.specs.Trusted.CoverTables.{Circuit}
 use Rattle.cover.specs.History.{History, start, Met, add}
-use Rattle.cover.specs.AddLaws.{new-low, new-holds, holds-met, old-holds}
+use Rattle.cover.specs.CoverValueLaws.{new-low, new-holds, holds-met, old-holds}
 
 module _ (base K : ℕ) where
   -- no table uses a later one

@@ -10,4 +10,4 @@ pub mod Whole
 pub mod History
 pub mod HistoryLaws
 pub mod CoverTableLaws
-pub mod AddLaws
+pub mod CoverValueLaws

@@ -1,5 +1,5 @@
 -- What reading a field answers: the value of the number in its columns, or that they hold none.
--- Definitions only: the laws are in ReadingLaws.
+-- Internal definitions: the laws are in ReadingLaws.
 use Prim.Native.Nat.{ℕ, _≤_}
 use mathlib.Core.Path.{_≡_}
 use mathlib.Core.Bool.{not, cond}

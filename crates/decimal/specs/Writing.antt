@@ -1,5 +1,5 @@
 -- What writing a number into a field does: the answer, and the bytes after it, for every width and every number.
--- Definitions only: the laws are in WritingLaws.
+-- Internal definitions: the laws are in WritingLaws.
 use Prim.Native.Nat.{ℕ, _+_, _-_, _%_, _^_, _≤_, _<_}
 use mathlib.Core.Bool.{Bool, true, false, not, cond, _&&_}
 use mathlib.Core.List.{List}

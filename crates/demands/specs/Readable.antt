@@ -1,4 +1,4 @@
--- What holds of every sheet that is read. Definitions only: that it does is in ReadingLaws.
+-- What holds of every sheet that is read. Internal definitions: that it does is in ReadingLaws.
 use mathlib.Core.Path.{_≡_}
 use lib.Dec.{T}
 use Rattle.tree.specs.declared.Kind.{Kind}

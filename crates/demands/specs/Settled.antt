@@ -1,5 +1,5 @@
 -- The answer of an add, computed: all that an add leaves free is which least cover is taken, and the order of its tables.
--- Definitions only: the laws are in SettledLaws.
+-- Internal definitions: the laws are in SettledLaws.
 use Prim.Native.Nat.{ℕ, _-_}
 use mathlib.Core.Path.{_≡_}
 use mathlib.Core.Bool.{cond}

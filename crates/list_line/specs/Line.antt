@@ -1,4 +1,4 @@
--- Line 0 by its three numbers, and how many bytes a table's line has. Definitions only: the laws are in FieldLaws.
+-- Line 0 by its three numbers, and how many bytes a table's line has. Internal definitions: the laws are in FieldLaws.
 use Prim.Native.Nat.{ℕ, _+_, _*_}
 use mathlib.Core.List.{List, [], _∷_, _++_}
 use lib.ListN.{length}

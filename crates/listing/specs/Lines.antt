@@ -1,5 +1,5 @@
 -- What writing a line of a part's list, or the whole list, into a buffer does: the answer, and the buffer's bytes after it.
--- 01, "List", with its refusals 14, 15 and 20 in their order. Definitions only: the laws are in LineLaws.
+-- 01, "List", with its refusals 14, 15 and 20 in their order. Internal definitions: the laws are in LineLaws.
 use Prim.Native.Nat.{ℕ, suc, _+_, _*_}
 use mathlib.Core.Bool.{cond}
 use mathlib.Core.List.{List}
@@ -11,7 +11,7 @@ use Rattle.table.specs.Trusted.Records.{blank}
 use Rattle.part.specs.declared.Part.{Part}
 use Rattle.part.specs.Trusted.SoundTest.{sound}
 use Rattle.part.specs.Trusted.Listing.{tableLine, lineOf, listOf}
-pub use Rattle.list_line.specs.Trusted.Writes.{WriteResult, wrote, refused, WriteOutcome, pasted}
+use Rattle.list_line.specs.Trusted.Writes.{wrote, refused, WriteOutcome, pasted}
 
 -- turned down: no byte is altered
 abbrev pub turnedDown : ℕ → List ℕ → WriteOutcome

@@ -16,7 +16,7 @@ use part::Part;
 // The bytes of line 0: three fields and the line feed.
 const TOP: usize = 19;
 
-// What a write answers: how many bytes were written, or why none was. Lines in specs/ gives the refusals' numbers.
+// What a write answers: how many bytes were written, or why none was. WriteAnswers in specs/Trusted gives the refusals' numbers.
 pub enum WriteAnswer {
     Wrote(usize),
     NotSound,

@@ -54,6 +54,8 @@ fn root_table(out: u16, flip: bool, table: Table) -> Table
 }
 
 // Maps a sheet to tables of at most k inputs, gate by gate, where so many tables stand before them.
+// `SheetMapped`: after any tables of that count, those in the first `count` records are the tables of a least cover of the sheet, inputs
+// before readers and the root's last, with zeros at the unused inputs.
 pub fn map(sheet: Sheet, k: u8, used: u16) -> Mapping
     requires { ⌜ Sheetable k used sheet ⌝ }
     ensures { λ r. ⌜ SheetMapped k used sheet r ⌝ }

@@ -1,4 +1,4 @@
--- The code's mapping of a sheet, as the mapping on lists. Definitions only: the laws are in CodeMapLaws.
+-- The code's mapping of a sheet, as the mapping on lists. Internal definitions: the laws are in CodeMapLaws.
 use Prim.Native.Nat.{ℕ, _+_, _<_, _≤_}
 use mathlib.Core.Path.{_≡_}
 use mathlib.Core.Bool.{Bool, true, false}

@@ -1,4 +1,4 @@
--- A gate of two fanins, which the code maps without a search: the run of a plan of three steps. Definitions only: the laws are in PairLaws.
+-- A gate of two fanins, which the code maps without a search: the run of a plan of three steps. Internal definitions: the laws are in PairLaws.
 use Prim.Native.Nat.{ℕ, _+_, _-_}
 use mathlib.Core.Bool.{Bool, true, false}
 use mathlib.Core.List.{List, [], _∷_}

@@ -1,4 +1,4 @@
--- The code's run of a plan, as the run on lists. Definitions only: the laws are in CodeRunLaws.
+-- The code's run of a plan, as the run on lists. Internal definitions: the laws are in CodeRunLaws.
 use Prim.Native.Nat.{ℕ, zero, suc, _+_, _-_, _<_, _≤_}
 use mathlib.Core.Bool.{Bool, true, false}
 use mathlib.Core.List.{List, [], _∷_, map}

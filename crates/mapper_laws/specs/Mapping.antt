@@ -1,5 +1,5 @@
 -- The mapping of a sheet, gate by gate: what is known of each gate that was mapped, and of the tables staged so far.
--- Definitions only: the laws are in MappingLaws.
+-- Internal definitions: the laws are in MappingLaws.
 use Prim.Native.Nat.{ℕ, _+_, _-_, _≤_, _<_}
 use mathlib.Core.Path.{_≡_}
 use mathlib.Core.Bool.{Bool, false}

@@ -1,5 +1,5 @@
 -- The run of a gate's plan on tables: operands are tables that are not placed yet, a join merges two of them into one, and placing
--- one puts its table after those that are there and leaves the table's code in its stead. Definitions only: the laws are in RunLaws.
+-- one puts its table after those that are there and leaves the table's code in its stead. Internal definitions: the laws are in RunLaws.
 use Prim.Native.Nat.{ℕ, suc, _+_, _≤_, _<_}
 use mathlib.Core.Bool.{Bool, true, false}
 use mathlib.Core.List.{List, [], _∷_, _++_}

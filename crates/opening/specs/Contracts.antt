@@ -1,4 +1,4 @@
--- What the code's values stand for: an answer as a number and a line, and the part that an opening line gives. Definitions only.
+-- What the code's values stand for: an answer as a number and a line, and the part that an opening line gives. Internal definitions.
 use mathlib.Core.Bool.{cond}
 use lib.Dec.{eqb}
 use Rattle.part.specs.Trusted.Answers.{Answer, accepted, refused, Result}

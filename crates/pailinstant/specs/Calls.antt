@@ -1,4 +1,4 @@
--- What the library's function promises. Definitions only.
+-- What the library's function promises. Internal definitions.
 use Prim.Native.Nat.{ℕ, _≤_}
 use mathlib.Core.Path.{_≡_}
 use mathlib.Core.List.{List}

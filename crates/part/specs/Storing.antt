@@ -1,4 +1,4 @@
--- What the functions of an add do: the tree of a sheet, what tables do with a net, and storing. Definitions only: the laws are in AddingLaws.
+-- What the functions of an add do: the tree of a sheet, what tables do with a net, and storing. Internal definitions: the laws are in StoringLaws.
 use Prim.Native.Nat.{ℕ, _+_}
 use mathlib.Core.Bool.{_||_}
 use lib.Dec.{eqb}

@@ -32,7 +32,7 @@ pub struct Part {
     pub tables: [Table; 800],
 }
 
-// What an opening answers. Openings in specs/ gives the refusals' numbers.
+// What an opening answers. OpenAnswers in specs/Trusted gives the refusals' numbers.
 pub enum Opening {
     Accepted,
     KOutOfRange,
@@ -45,7 +45,7 @@ pub struct Opened {
     pub answer: Opening,
 }
 
-// What an add answers. Adding in specs/ gives the refusals' numbers and places.
+// What an add answers. AddAnswers in specs/Trusted gives the refusals' numbers and places.
 pub enum Adding {
     Accepted,
     Unsound,

@@ -1,4 +1,4 @@
--- What the steps of a merge compute. Definitions only: the laws are in MergeLaws.
+-- What the steps of a merge compute. Internal definitions: the laws are in MergeLaws.
 use Prim.Native.Nat.{ℕ, _-_, _^_, _≤_, _<_}
 use mathlib.Core.Path.{_≡_}
 use mathlib.Core.Bool.{Bool, not}

@@ -1,4 +1,4 @@
--- Tables that are not placed yet, and what two of them are merged into. Definitions only: the laws are in MergeLaws.
+-- Tables that are not placed yet, and what two of them are merged into. Internal definitions: the laws are in MergeLaws.
 use Prim.Native.Nat.{ℕ}
 use mathlib.Core.Bool.{Bool}
 use mathlib.Core.List.{[], _∷_, _++_}

@@ -1,4 +1,4 @@
--- The code's pending tables as operands of a plan's run. Definitions only.
+-- The code's pending tables as operands of a plan's run. Internal definitions.
 use Prim.Native.Nat.{_+_, _≤_}
 use mathlib.Core.Path.{_≡_}
 use Rattle.lists.specs.Trusted.Lists.{Sorted}

@@ -1,5 +1,5 @@
 -- The arrays that the search for one gate fills, indexed by masks: tables below, inputs, the submask that a mask is split by,
--- and the sum of the selected fanins' volumes. Definitions only: the laws are in EntryLaws.
+-- and the sum of the selected fanins' volumes. Internal definitions: the laws are in EntryLaws.
 use Prim.Native.Nat.{ℕ, _+_, _-_, _^_, _≤_, _<_}
 use mathlib.Core.Path.{_≡_}
 use mathlib.Core.List.{List}

@@ -1,6 +1,6 @@
 -- What matters of a cover of a tree: how many tables stand below the one that holds the root, and how many inputs that one
 -- has. Such pairs are ordered lexicographically; `join` is the best that two of them
--- give under a gate of two fanins. Definitions only.
+-- give under a gate of two fanins. Internal definitions.
 use Prim.Native.Nat.{ℕ, suc, _+_, _≤_, min}
 use mathlib.Core.Path.{_≡_}
 use mathlib.Core.Bool.{Bool, true, false, cond}

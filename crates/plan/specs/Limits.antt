@@ -1,4 +1,4 @@
--- The numbers that bound the search for one gate, each named once; the code's are in src/lib.rt. Definitions only.
+-- The numbers that bound the search for one gate, each named once; the code's are in src/lib.rt. Internal definitions.
 use Prim.Native.Nat.{ℕ, _+_, _-_, _*_}
 
 -- a table has from 2 to 6 inputs, and a gate from 2 to 10 fanins

@@ -1,5 +1,5 @@
 -- Subsets as bit masks, for a search that fills an array indexed by masks.
--- Definitions only: the laws are in MaskLaws and MaskSearch; the array is in Entries.
+-- Internal definitions: the laws are in MaskLaws and MaskSearch; the array is in Entries.
 use Prim.Native.Nat.{ℕ, _/_, _%_}
 use mathlib.Core.Path.{_≡_}
 use mathlib.Core.List.{List, [], _∷_}

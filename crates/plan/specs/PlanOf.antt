@@ -1,4 +1,4 @@
--- What a plan for one gate has to be, from its fanins' keys: by cases on a test of the input. Definitions only.
+-- What a plan for one gate has to be, from its fanins' keys: by cases on a test of the input. Internal definitions.
 use Prim.Native.Nat.{ℕ, _+_, _*_}
 use mathlib.Core.Path.{_≡_}
 use mathlib.Core.Bool.{Bool, true, false, _&&_}

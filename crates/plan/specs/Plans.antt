@@ -1,5 +1,5 @@
 -- Plans: how a search says in which order a gate's fanins are joined, two at a time, and which of them are placed in tables of
--- their own (01: chosen); the run of a plan, which makes the fanins of the split gate; and what those are. Definitions only.
+-- their own (01: chosen); the run of a plan, which makes the fanins of the split gate; and what those are. Internal definitions.
 use Prim.Native.Nat.{ℕ, _≤_, _<_}
 use mathlib.Core.Path.{_≡_}
 use mathlib.Core.Bool.{Bool, true, false}

@@ -1,5 +1,5 @@
 -- The keys that binary trees of joins give over a list of keys, each used once, in any order; and the best key of a tree:
--- a leaf's, and of a gate the least that its fanins' best keys reach. Definitions only.
+-- a leaf's, and of a gate the least that its fanins' best keys reach. Internal definitions.
 use Prim.Native.Nat.{ℕ, _≤_}
 use mathlib.Core.Bool.{Bool}
 use mathlib.Core.List.{List, [], _∷_}

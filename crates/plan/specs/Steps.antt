@@ -1,4 +1,4 @@
--- The steps of a plan as the code holds it, and what writing them for a mask has to give. Definitions only.
+-- The steps of a plan as the code holds it, and what writing them for a mask has to give. Internal definitions.
 use Prim.Native.Nat.{ℕ, _+_, _*_, _^_, _≤_, _<_}
 use mathlib.Core.Path.{_≡_}
 use mathlib.Core.List.{List, _++_, map}

@@ -1,5 +1,5 @@
 -- The least key that a list of keys reaches, computed: `entries` has, for each part of the list, the least key that the part
--- reaches. Definitions only: that it is so is in SubsetLaws.
+-- reaches. Internal definitions: that it is so is in SubsetLaws.
 use Prim.Native.Nat.{ℕ}
 use mathlib.Core.List.{List, [], _∷_}
 use mathlib.Core.Option.{Option, some, none, Option·getD}

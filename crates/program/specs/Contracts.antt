@@ -1,4 +1,4 @@
--- What the code's values stand for, and what its functions promise. Definitions only: the laws are in ProgramLaws and RoomLaws.
+-- What the code's values stand for, and what its functions promise. Internal definitions: the laws are in ProgramLaws and RoomLaws.
 use Prim.Native.Nat.{ℕ, _≤_}
 use mathlib.Core.Path.{_≡_}
 use mathlib.Core.Bool.{cond}
@@ -8,15 +8,16 @@ use lib.ListN.{length, take, drop}
 use Rattle.part.specs.Trusted.Sound.{Sound}
 use Rattle.part.specs.Trusted.Listing.{listOf}
 use Rattle.part.specs.declared.Part.{Part}
+use Rattle.list_line.specs.Trusted.Writes as writes
 use Rattle.listing.specs.Lines as lines
 use Rattle.program.specs.Trusted.Program.{refusalLine, SheetsPrint, Prints}
 use Rattle.program.specs.declared.Printed.{Printed}
 use Rattle.program.specs.declared.Printed.the-variants.{Wrote, NoRoom}
 use Rattle.program.specs.declared.End.{End}
 
-abbrev pub printedResult : Printed → lines.Result
-printedResult (Wrote n) = lines.wrote n
-printedResult NoRoom = lines.refused 14 0
+abbrev pub printedResult : Printed → writes.WriteResult
+printedResult (Wrote n) = writes.wrote n
+printedResult NoRoom = writes.refused 14 0
 
 -- the line stands at the front of the buffer, or there is no room for it and no byte is altered
 abbrev pub WrittenAs : List ℕ → Printed → List ℕ → List ℕ → Type 0

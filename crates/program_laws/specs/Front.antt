@@ -1,4 +1,4 @@
--- How many bytes of an input decide what is printed for it. Definitions only: the law is `front-decides` in FrontLaws.
+-- How many bytes of an input decide what is printed for it. Internal definitions: the law is `front-decides` in FrontLaws.
 use Prim.Native.Nat.{ℕ}
 
 unfoldable pub room : ℕ

@@ -1,5 +1,5 @@
 -- The test of a run of records as a walk makes it, by what is kept of the records passed, and what its answer says.
--- Definitions only: RunLaws has the proof that the walk finds what RecordTest says.
+-- Internal definitions: RunLaws has the proof that the walk finds what RecordTest says.
 use Prim.Native.Nat.{ℕ, _+_}
 use mathlib.Core.Bool.{true, false, cond, _&&_}
 use lib.Dec.{ltb, eqb}

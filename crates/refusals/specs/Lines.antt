@@ -1,4 +1,4 @@
--- The lines of a text, each ended by a line feed, the byte 10. Definitions only: the laws are in LineLaws.
+-- The lines of a text, each ended by a line feed, the byte 10. Internal definitions: the laws are in LineLaws.
 use Prim.Native.Nat.{ℕ, suc, _-_}
 use mathlib.Core.Bool.{cond}
 use mathlib.Core.List.{List, [], _∷_, _++_}

@@ -35,8 +35,8 @@ pub struct Gate {
     pub first: u16,
 }
 
-// A sheet: its output net, whether the tree's value is inverted, how many gates it has, the gates, those past the count zero, and the
-// fanins of all gates, one gate's after the other's.
+// A sheet: its output net, whether the tree's value is inverted, how many gates it has, the gates, and the fanins of all gates, one
+// gate's after the other's. What stands past the counts is of no matter.
 pub struct Sheet {
     pub out: u16,
     pub inverted: bool,
@@ -45,7 +45,7 @@ pub struct Sheet {
     pub fanins: [Edge; FANIN_ROOM],
 }
 
-// Why a text is no sheet. Its number in 01 is `numberOf` in specs/Answers.
+// Why a text is no sheet. Its number in 01 is `numberOf` in specs/Trusted/Answers.
 pub enum Refusal {
     Layout,
     OutputNet,

@@ -57,7 +57,7 @@ fn sign_of(negative: bool) -> u32
     if negative { 1 } else { 0 }
 }
 
-// The fields of a line: whether it is laid out as a line is, and the numbers in them, those past the count zero.
+// The fields of a line: whether it is laid out as a line is, and the numbers in them. What stands past the count is of no matter.
 pub struct Fields {
     pub laid: bool,
     pub count: usize,

@@ -230,6 +230,7 @@ fn read_front(text: &[u8], start: usize, last: bool) -> Next
 }
 
 // The sheet that a text is.
+// `SheetRead`: the answer and the sheet are what 01's reading gives for the text (`readSheet`), and the sheet of a refused text is zero.
 pub fn read(text: &[u8]) -> ReadResult
     ensures { λ r. ⌜ SheetRead (now (text .entry)) r ⌝ }
 {
@@ -240,6 +241,7 @@ pub fn read(text: &[u8]) -> ReadResult
 }
 
 // The sheet at a place of a text, and the place after it, from which the text may go on.
+// `NextRead`: the same of the text from the place on (`readNext`), after whose sheet bytes may follow; of a refused text the place is 0.
 pub fn read_next(text: &[u8], start: usize) -> Next
     ensures { λ r. ⌜ NextRead (now (text .entry)) (readNext (drop start (now (text .entry)))) r ⌝ }
 {

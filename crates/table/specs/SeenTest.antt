@@ -1,5 +1,5 @@
 -- The rules of a record by what is kept of the records seen before it, in place of their list.
--- Definitions only: SeenLaws has the proof that the two say the same.
+-- Internal definitions: SeenLaws has the proof that the two say the same.
 use Prim.Native.Nat.{ℕ, suc, _+_, _-_, _≤_, _<_}
 use mathlib.Core.Path.{_≡_}
 use mathlib.Core.Bool.{Bool, true, false, cond, not, _&&_, _||_}

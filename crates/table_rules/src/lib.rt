@@ -1,4 +1,4 @@
-// The rules of one record, after the records before it: of each rule a test, equal to the test of that name in table/specs/RecordTest.
+// The rules of one record, after the records before it: of each rule a test, equal to the test of that name in table/specs/Trusted/RecordTest.
 ghost use mathlib.Core.Path.{_≡_};
 ghost use mathlib.Core.Bool.{true, false};
 ghost use Prim.Native.Nat.{_^_, _≤_};

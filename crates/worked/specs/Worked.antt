@@ -1,6 +1,6 @@
 -- The worked examples that 01 stars ("Panels worked by hand"): for each tree and K the least number of tables and, where it is
 -- given, the truth table.
--- Definitions only: that every row is right is in WorkedRight.
+-- Internal definitions: that every row is right is in WorkedRight.
 use Prim.Native.Nat.{ℕ, suc, zero, _+_}
 use mathlib.Core.Path.{_≡_}
 use mathlib.Core.Bool.{Bool, true, false}

@@ -1,4 +1,4 @@
--- What adding a sheet to a part leaves behind. Definitions only: the laws are in AddedTables and AddedLaws.
+-- What adding a sheet to a part leaves behind. Definitions only: the laws are in CoverTableLaws and CoverValueLaws.
 use Prim.Native.Nat.{ℕ, _+_, _<_}
 use mathlib.Core.Path.{_≡_}
 use mathlib.Core.Logic.{_≢_}

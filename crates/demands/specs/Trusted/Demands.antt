@@ -1,5 +1,5 @@
 -- THE USER'S THREE DEMANDS, in the user's order and words, as statements about what the contracts say of the code: `Part::open` gives
--- `opened`, `Part::add` keeps `Add` (part/specs/Adds), `write_line` and `write_list` give `lineWritten` and `listWritten`
+-- `opened`, `Part::add` keeps `Add` (part/specs/Trusted/Add), `write_line` and `write_list` give `lineWritten` and `listWritten`
 -- (listing/specs/Lines). Definitions only: that they hold is `demand-1`, `demand-2` and `demand-3` in Theorems.
 use Prim.Native.Nat.{ℕ, _+_, _-_, _≤_, _<_}
 use mathlib.Core.Path.{_≡_}

@@ -1,4 +1,4 @@
--- The numbers that the rules fix, each named once.
+-- The numbers that the rules fix, each named once. Definitions only.
 use Prim.Native.Nat.{ℕ, _≤_}
 use Rattle.tree.specs.Trusted.Limits.{codeBase}
 
