@@ -10,7 +10,7 @@ use Rattle.sheet.specs.Checks.{bytes}
 use Rattle.part.specs.Trusted.Parts.{blanks}
 use Rattle.part.specs.Trusted.SoundTest.{sound}
 use Rattle.part.specs.Trusted.Answers.{Answer, accepted, refused}
-use Rattle.demands.specs.Settled.{leastNumber, answerOf}
+use Rattle.demands.specs.Determined.{leastNumber, answerOf}
 use Rattle.part.specs.Trusted.Reading.{readOf}
 use Rattle.part.specs.Examples.{part}
 use Rattle.part.specs.declared.Part.{Part}

@@ -21,10 +21,10 @@ use Rattle.part.specs.Trusted.Reading.{CircuitReading, sheet, readOf}
 use Rattle.part.specs.Trusted.Answers.{Answer, accepted, refused}
 use Rattle.part.specs.Trusted.Add.{opened, isDriven, isRead, Add}
 use Rattle.demands.specs.AddLaws.{driven-reflects, read-reflects, opened-cases, AddCase, unsound, misread, driven, read, full, taken, outcome, not-refused, refused-stays}
-use Rattle.demands.specs.Settled as Settled
-use Rattle.demands.specs.Settled.{leastNumber, answerOf}
+use Rattle.demands.specs.Determined as Determined
+use Rattle.demands.specs.Determined.{leastNumber, answerOf}
 use Rattle.demands.specs.ReadingLaws.{reads-right}
-use Rattle.demands.specs.SettledLaws.{least-number, add-answer}
+use Rattle.demands.specs.DeterminedLaws.{least-number, add-answer}
 use Rattle.part.specs.Trusted.Listing.{lineOf, listOf}
 use Rattle.list_line.specs.Trusted.Writes as Writes
 use Rattle.list_line.specs.Trusted.Writes.{wrote, pasted}
@@ -85,8 +85,8 @@ module _ (p : Part) (text : List ℕ) where
       (reflects-le (leastNumber (p .k) s) (p .capacity - p .used))
 
   -- the answer of a sound part to what is read, and by the last three tests
-  read-answer : Sound p → {v : CircuitReading} → readOf text ≡ v → answerOf p (readOf text) ≡ Settled.taken p v
-  read-answer h e = ap (λ b. cond b (Settled.taken p (readOf text)) (refused 20 0)) (reflects-true (sound-reflects p) h) ∙ ap (Settled.taken p) e
+  read-answer : Sound p → {v : CircuitReading} → readOf text ≡ v → answerOf p (readOf text) ≡ Determined.taken p v
+  read-answer h e = ap (λ b. cond b (Determined.taken p (readOf text)) (refused 20 0)) (reflects-true (sound-reflects p) h) ∙ ap (Determined.taken p) e
 
   tests-answer : (s : Circuit) {d r f : Bool} → Sound p → readOf text ≡ sheet s → isDriven (s .out) (tablesOf p) ≡ d → isRead (s .out) (tablesOf p) ≡ r →
       fits s ≡ f → answerOf p (readOf text) ≡ cond d (refused 21 0) (cond r (refused 22 0) (cond f accepted (refused 23 0)))
@@ -99,7 +99,7 @@ module _ (p : Part) (text : List ℕ) where
       (reflects-false (read-reflects (s .out) (tablesOf p)) (λ r. g (r .0) (r .1) .1 (r .2)))
 
   condition-answer : {number place : ℕ} → AddCondition p text number place → answerOf p (readOf text) ≡ refused number place
-  condition-answer (not-sound n) = ap (λ b. cond b (Settled.taken p (readOf text)) (refused 20 0)) (reflects-false (sound-reflects p) n)
+  condition-answer (not-sound n) = ap (λ b. cond b (Determined.taken p (readOf text)) (refused 20 0)) (reflects-false (sound-reflects p) n)
   condition-answer (not-read number place h e) = read-answer h e
   condition-answer (out-driven s h e d) = tests-answer s h e (reflects-true (driven-reflects (s .out) (tablesOf p)) d) refl refl
   condition-answer (out-read s h e n r) =

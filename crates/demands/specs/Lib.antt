@@ -1,13 +1,11 @@
 pub mod Trusted
 pub mod Readable
-pub mod Settled
 pub mod ReadingLaws
 pub mod ExtendLaws
 pub mod AddLaws
 pub mod CountLaws
 pub mod ValueLaws
 pub mod LeafLaws
-pub mod SettledLaws
 pub mod PossibleLaws
 pub mod FreeLaws
 pub mod ListingLaws
@@ -15,3 +13,5 @@ pub mod ConditionLaws
 pub mod Theorems
 pub mod ChainExample
 pub mod AnswerExamples
+pub mod Determined
+pub mod DeterminedLaws

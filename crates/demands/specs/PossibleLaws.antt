@@ -30,8 +30,8 @@ use Rattle.part.specs.Trusted.Answers.{Answer, accepted, refused, Result}
 use Rattle.part.specs.Trusted.Add.{extended, isRead, Refused, Accepted, Fill, Offer, Take, Add}
 use Rattle.demands.specs.AddLaws.{driven-reflects, read-reflects}
 use Rattle.demands.specs.Trusted.Calls.{Call, add, Promise, Chain, call}
-use Rattle.demands.specs.Settled.{leastNumber}
-use Rattle.demands.specs.SettledLaws.{least-number}
+use Rattle.demands.specs.Determined.{leastNumber}
+use Rattle.demands.specs.DeterminedLaws.{least-number}
 use Rattle.part.specs.declared.Part.{Part}
 use Rattle.demands.specs.Trusted.Calls as calls
 

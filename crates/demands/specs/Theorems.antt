@@ -23,7 +23,7 @@ use Rattle.demands.specs.CountLaws.{call-kept, chain-kept, counted}
 use Rattle.demands.specs.ValueLaws.{sound-narrow, unsound-stays, opened-served}
 use Rattle.demands.specs.FreeLaws.{values-by-free-nets}
 use Rattle.demands.specs.ListingLaws.{list-says-all, same-lines}
-use Rattle.demands.specs.SettledLaws.{alike-refl, answers-settled}
+use Rattle.demands.specs.DeterminedLaws.{alike-refl, answers-determined}
 use Rattle.demands.specs.PossibleLaws.{chain-possible}
 
 -- ---- the demands
@@ -80,7 +80,7 @@ unsound-start p cs rs h = unsound-stays h
 -- all answers of a list are settled, whatever least covers were taken
 pub same-answers : (p : Part) → Shaped p → (cs : List Call) (rs ts : List Result) → Chain p cs rs → Chain p cs ts →
     map (λ r. r .answer) rs ≡ map (λ r. r .answer) ts
-same-answers p f cs rs ts h g = answers-settled h g f f (alike-refl p) .0
+same-answers p f cs rs ts h g = answers-determined h g f f (alike-refl p) .0
 
 -- and no promise is contradictory
 pub promises-possible : (p : Part) (cs : List Call) → (rs : List Result) × Chain p cs rs

@@ -1,5 +1,5 @@
 -- What the program prints, as a list of adds, of which demands 2 and 3 speak; and what of it the rules settle.
--- Definitions only: the laws are in ChainLaws and SettledLaws.
+-- Definitions only: the laws are in ChainLaws and DeterminedLaws.
 use Prim.Native.Nat.{ℕ, suc, _<_}
 use mathlib.Core.Path.{_≡_}
 use mathlib.Core.Option.{Option, none, some}
@@ -68,6 +68,6 @@ pub record Lists (k capacity : ℕ) (text a b : List ℕ) : Type 0 where
 
 -- WHAT THE RULES SETTLE of two outputs for one input: a refusal's line wholly; of a list K, the capacity, the used count and the number of
 -- tables for each sheet
-pub data Settled (input a b : List ℕ) : Type 0 where
-  refusal : (number sheet place : ℕ) → a ≡ refusalLine number sheet place → b ≡ refusalLine number sheet place → Settled input a b
-  lists : (x y : Number) → openingNumbers input ≡ some (x, y) → Lists (count x) (count y) (drop 13 input) a b → Settled input a b
+pub data Determined (input a b : List ℕ) : Type 0 where
+  refusal : (number sheet place : ℕ) → a ≡ refusalLine number sheet place → b ≡ refusalLine number sheet place → Determined input a b
+  lists : (x y : Number) → openingNumbers input ≡ some (x, y) → Lists (count x) (count y) (drop 13 input) a b → Determined input a b

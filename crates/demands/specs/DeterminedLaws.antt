@@ -31,7 +31,7 @@ use Rattle.demands.specs.Trusted.Calls.{Call, add, final, Promise, Chain
 use Rattle.demands.specs.Readable.{Readable}
 use Rattle.demands.specs.ReadingLaws.{reads-right}
 use Rattle.demands.specs.CountLaws.{same-sheet, call-kept}
-use Rattle.demands.specs.Settled.{leastNumber, Alike, offered, taken, answerOf}
+use Rattle.demands.specs.Determined.{leastNumber, Alike, offered, taken, answerOf}
 use Rattle.part.specs.declared.Part.{Part}
 
 -- the least number of a sheet that was read
@@ -171,10 +171,10 @@ call-alike p p′ f f′ g (add text) r r′ h h′ = (
     same = add-answer p text (r .part) (r .answer) h ∙ alike-answer p p′ text g ∙ sym (add-answer p′ text (r′ .part) (r′ .answer) h′)
 
 -- EVERY ANSWER of a list of calls is settled by the part at the start
-pub answers-settled : {p p′ : Part} {cs : List Call} {rs rs′ : List Result} → Chain p cs rs → Chain p′ cs rs′ →
+pub answers-determined : {p p′ : Part} {cs : List Call} {rs rs′ : List Result} → Chain p cs rs → Chain p′ cs rs′ →
     Shaped p → Shaped p′ → Alike p p′ → (map (λ r. r .answer) rs ≡ map (λ r. r .answer) rs′) × Alike (final p rs) (final p′ rs′)
-answers-settled done done f f′ g = (refl, g)
-answers-settled {p} {p′} (call {c = c} {r = r} h t) (call {r = r′} h′ t′) f f′ g =
+answers-determined done done f f′ g = (refl, g)
+answers-determined {p} {p′} (call {c = c} {r = r} h t) (call {r = r′} h′ t′) f f′ g =
     let x = call-alike p p′ f f′ g c r r′ h h′ in
-    let y = answers-settled t t′ (call-kept p f c (r .part) (r .answer) h .shaped) (call-kept p′ f′ c (r′ .part) (r′ .answer) h′ .shaped) (x .1) in
+    let y = answers-determined t t′ (call-kept p f c (r .part) (r .answer) h .shaped) (call-kept p′ f′ c (r′ .part) (r′ .answer) h′ .shaped) (x .1) in
     (ap₂ _∷_ (x .0) (y .0), y .1)

@@ -1,5 +1,5 @@
 -- The answer of an add, computed: all that an add leaves free is which least cover is taken, and the order of its tables.
--- Internal definitions: the laws are in SettledLaws.
+-- Internal definitions: the laws are in DeterminedLaws.
 use Prim.Native.Nat.{ℕ, _-_}
 use mathlib.Core.Path.{_≡_}
 use mathlib.Core.Bool.{cond}
@@ -14,7 +14,7 @@ use Rattle.part.specs.Trusted.Answers.{Answer, accepted, refused}
 use Rattle.part.specs.Trusted.Add.{isDriven, isRead}
 use Rattle.part.specs.declared.Part.{Part}
 
--- the number that the search finds, which is the least number of a sheet that was read (`least-number` in SettledLaws)
+-- the number that the search finds, which is the least number of a sheet that was read (`least-number` in DeterminedLaws)
 unfoldable pub leastNumber : ℕ → Circuit → ℕ
 leastNumber k s = least-tables k (s .tree)
 

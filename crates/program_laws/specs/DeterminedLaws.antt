@@ -1,4 +1,4 @@
--- What the program prints is settled by the rules, but for which least covers are taken: `prints-settled`.
+-- What the program prints is settled by the rules, but for which least covers are taken: `prints-determined`.
 use Prim.Native.Nat.{ℕ, _<_, _^_}
 use native.Mathlib.Omega.{arith}
 use mathlib.Core.Path.{_≡_, refl, sym, ap, ap₂, _∙_}
@@ -19,15 +19,15 @@ use Rattle.demands.specs.AddLaws.{kept, outcome, opened-shaped, opened-sound, n
 use Rattle.demands.specs.Trusted.Calls.{Call, add, final, Chain, done, call}
 use Rattle.demands.specs.CountLaws.{call-kept}
 use Rattle.part.specs.Trusted.Listing.{listOf}
-use Rattle.demands.specs.Settled.{Alike}
-use Rattle.demands.specs.SettledLaws.{alike-refl, answers-settled}
+use Rattle.demands.specs.Determined.{Alike}
+use Rattle.demands.specs.DeterminedLaws.{alike-refl, answers-determined}
 use Rattle.part.specs.declared.Part.{Part}
 use Rattle.list_line.specs.Line.{topLine}
 use Rattle.listing.specs.Lines.{tableLines}
 use Rattle.listing.specs.LineLaws.{list-is}
 use Rattle.opening.specs.Trusted.Opening.{openingNumbers, count, openedBy}
 use Rattle.program.specs.Trusted.Program.{refusalLine, After, Prints}
-use Rattle.program_laws.specs.Trusted.Runs.{Texts, end, stop, next, answers, usedCounts, firstRefusal, printedBy, Run, Settled, refusal, lists}
+use Rattle.program_laws.specs.Trusted.Runs.{Texts, end, stop, next, answers, usedCounts, firstRefusal, printedBy, Run, Determined, refusal, lists}
 use Rattle.program_laws.specs.ChainLaws.{mapped-run}
 
 -- ---- two runs of a text, from parts that differ in nothing that an answer depends on
@@ -35,7 +35,7 @@ use Rattle.program_laws.specs.ChainLaws.{mapped-run}
 add-alike : (p q : Part) → Shaped p → Shaped q → Alike p q → (text : List ℕ) (r t : Result) → Add p text (r .part) (r .answer) →
     Add q text (t .part) (t .answer) → (r .answer ≡ t .answer) × Alike (r .part) (t .part)
 add-alike p q f g l text r t h i =
-    let x = answers-settled {cs = add text ∷ []} {rs = r ∷ []} {rs′ = t ∷ []} (call h done) (call i done) f g l in
+    let x = answers-determined {cs = add text ∷ []} {rs = r ∷ []} {rs′ = t ∷ []} (call h done) (call i done) f g l in
     let e : r .answer ∷ [] ≡ t .answer ∷ [] = x .0 in
     (cc, x .1)
 
@@ -82,13 +82,13 @@ module _ (input a b : List ℕ) (u v : Number) (good : openingNumbers input ≡ 
   abbrev start : Part
   start = (opened (count u) (count v)) .part
 
-  runs-settled : (opened (count u) (count v)) .answer ≡ accepted → Run (count u) (count v) (drop 13 input) a → Run (count u) (count v) (drop 13 input) b → Settled input a b
+  runs-settled : (opened (count u) (count v)) .answer ≡ accepted → Run (count u) (count v) (drop 13 input) a → Run (count u) (count v) (drop 13 input) b → Determined input a b
   runs-settled c x y = of (firstRefusal 0 (answers (x .results))) refl
     where
       agree : Agree start start (x .calls) (y .calls) (x .results) (y .results)
       agree = texts-agree (x .texts) (y .texts) (x .chain) (y .chain) (opened-shaped (count u) (count v)) (opened-shaped (count u) (count v)) (alike-refl start)
 
-      of : (o : Option (ℕ × ℕ × ℕ)) → firstRefusal 0 (answers (x .results)) ≡ o → Settled input a b
+      of : (o : Option (ℕ × ℕ × ℕ)) → firstRefusal 0 (answers (x .results)) ≡ o → Determined input a b
       of none e =
           let f = printed-for start (x .results) (x .printed) e in
           let n = ap (firstRefusal 0) (sym (agree .same)) ∙ e in
@@ -110,15 +110,15 @@ module _ (input a b : List ℕ) (u v : Number) (good : openingNumbers input ≡ 
           (printed-for start (y .results) (y .printed) (ap (firstRefusal 0) (sym (agree .same)) ∙ e))
 
   opened-settled : (c : Answer) → (opened (count u) (count v)) .answer ≡ c → After (record { part = start; answer = c }) (drop 13 input) a →
-      After (record { part = start; answer = c }) (drop 13 input) b → Settled input a b
+      After (record { part = start; answer = c }) (drop 13 input) b → Determined input a b
   opened-settled accepted e h i = runs-settled e (mapped-run (count u) (count v) (drop 13 input) a e h) (mapped-run (count u) (count v) (drop 13 input) b e i)
   opened-settled (refused number place) e h i = refusal number 0 place h i
 
 -- WHAT IS PRINTED IS SETTLED, but for which least covers are taken
-pub prints-settled : (input a b : List ℕ) → Prints input a → Prints input b → Settled input a b
-prints-settled input a b = of (openingNumbers input) refl
+pub prints-determined : (input a b : List ℕ) → Prints input a → Prints input b → Determined input a b
+prints-determined input a b = of (openingNumbers input) refl
   where
-    of : (o : Option (Number × Number)) → openingNumbers input ≡ o → After (openedBy o) (drop 13 input) a → After (openedBy o) (drop 13 input) b → Settled input a b
+    of : (o : Option (Number × Number)) → openingNumbers input ≡ o → After (openedBy o) (drop 13 input) a → After (openedBy o) (drop 13 input) b → Determined input a b
     of none e h i = refusal 1 0 0 h i
     of (some z) e h i = opened-settled input a b (z .0) (z .1) e ((opened (count (z .0)) (count (z .1))) .answer) refl h i
 
@@ -142,10 +142,10 @@ list-no-refusal p s number sheet place h l e =
     (sym (signed-read m (record { size = omega arith; sign = λ n. (h, omega arith) })) ∙ ap fieldNumber f ∙ field-read (p .k) (omega (arith, s .k-range .1)))
 
 -- WHERE ONE OUTPUT IS A REFUSAL, EVERY OUTPUT IS IT. Its number, as all of 01's, leaves room for the sign.
-pub refusal-settled : (input b : List ℕ) (number sheet place : ℕ) → 0 < number → number < 10 ^ 5 → Prints input (refusalLine number sheet place) → Prints input b →
+pub refusal-determined : (input b : List ℕ) (number sheet place : ℕ) → 0 < number → number < 10 ^ 5 → Prints input (refusalLine number sheet place) → Prints input b →
     b ≡ refusalLine number sheet place
-refusal-settled input b number sheet place h l p q = of (prints-settled input (refusalLine number sheet place) b p q)
+refusal-determined input b number sheet place h l p q = of (prints-determined input (refusalLine number sheet place) b p q)
   where
-    of : Settled input (refusalLine number sheet place) b → b ≡ refusalLine number sheet place
+    of : Determined input (refusalLine number sheet place) b → b ≡ refusalLine number sheet place
     of (refusal m n o e f) = f ∙ sym e
     of (lists u v good x) = absurd (list-no-refusal (final ((opened (count u) (count v)) .part) (x .one .results)) (chain-last (x .one .chain) (opened-shaped (count u) (count v)) (opened-sound (count u) (count v) (x .good))) number sheet place h l (x .list-one))
