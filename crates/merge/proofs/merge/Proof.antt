@@ -1,8 +1,10 @@
 -- `merge::merge` meets its contract: the laws of the whole are in MergeLaws. Assumes nothing.
+use Prim.Native.Nat.{_+_}
 use mathlib.Core.Path.{_≡_}
 use lib.ListN.{length}
 use native.Mathlib.Omega.{arith}
 use Rattle.table.specs.Trusted.Limits.{inputRoom}
+use Rattle.pending.specs.Merging.{MergeRoom}
 use Rattle.pending.specs.MergeLaws.{ordered-right, ordered-shape, inputs-room, merged-is}
 use borrow.Author.Needs.{needs}
 use Rattle.merge.proofs.merge.Statement.{statement}
@@ -15,6 +17,12 @@ shape c = search needs
 -- where the function starts
 abbrev start : tie.After-union → tie.Start
 start c = c .before .before .before .before .before .before .before .before
+
+-- the inputs of both operands, which there is room for
+union-room : (u : tie.After-union) → let a = start u .args in MergeRoom (a .x .table .count + a .y .table .count) (u .union .result)
+union-room u =
+    let s = start u in
+    inputs-room (s .args .x) (s .args .y) (s .pre) (shape s) _ (u .union .ensures)
 
 cast-n : tie.Need-cast-n
 cast-n c = search needs
@@ -31,7 +39,10 @@ add-count : tie.Need-add-count
 add-count c = search needs
 
 values-requires : tie.Need-values-requires
-values-requires c κs = search needs
+values-requires c κs =
+    let u = c .before .before in
+    let s = start u in
+    (record { fits = omega (arith, s .pre .fits); shape = shape s }, union-room u)
 
 turn-requires : tie.Need-turn-requires
 turn-requires c κs = search needs
@@ -40,7 +51,7 @@ values-requires-2 : tie.Need-values-requires-2
 values-requires-2 c κs =
     let u = c .before .before .before .before .before .before in
     let s = start u in
-    (record { fits = s .pre .kept .fits; shape = ordered-shape (ordered-right (s .pre)) }, inputs-room (s .args .x) (s .args .y) (s .pre) (shape s) _ (u .union .ensures))
+    (record { fits = s .pre .kept .fits; shape = ordered-shape (ordered-right (s .pre)) }, union-room u)
 
 turn-requires-2 : tie.Need-turn-requires-2
 turn-requires-2 c κs = search needs

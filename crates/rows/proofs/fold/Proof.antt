@@ -1,11 +1,11 @@
--- `merge::fold` meets its contract. The invariant is `Folded`. The measure is the words left. Assumes nothing.
+-- `rows::fold` meets its contract. The invariant is `Folded`. The measure is the words left. Assumes nothing.
 use Prim.Native.Nat.{_-_, _≤_}
 use native.Mathlib.Omega.{arith}
 use mathlib.Core.Path.{_≡_}
 use denote.Ref.{now}
 use Rattle.pending.specs.MergeLaws.{Folded, folded-none, folded-next}
-use Rattle.merge.proofs.fold.Statement.{statement}
-use Rattle.merge.proofs.fold.Tie as tie
+use Rattle.rows.proofs.fold.Statement.{statement}
+use Rattle.rows.proofs.fold.Tie as tie
 
 abbrev Inv-loop : tie.InvT-loop
 Inv-loop words₀ size column j₀ words j = (j ≤ size) × Folded words₀ column words j

@@ -1,12 +1,12 @@
--- `merge::spread` meets its contract. The invariant is `Level`. The measure is the inputs left. Assumes nothing.
+-- `rows::spread` meets its contract. The invariant is `Level`. The measure is the inputs left. Assumes nothing.
 use lib.Pow.{pow-mono}
 use Prim.Native.Nat.{_-_, _≤_, _<_}
 use native.Mathlib.Omega.{arith}
 use denote.Ref.{now}
 use borrow.Author.Needs.{needs}
 use Rattle.pending.specs.MergeLaws.{Level, level-first, level-next, level-last, rows-low, rows-are}
-use Rattle.merge.proofs.spread.Statement.{statement}
-use Rattle.merge.proofs.spread.Tie as tie
+use Rattle.rows.proofs.spread.Statement.{statement}
+use Rattle.rows.proofs.spread.Tie as tie
 
 abbrev Inv-loop : tie.InvT-loop
 Inv-loop truth columns n words₀ i₀ words i = (0 < i) × (i - 1 ≤ n - 1) × Level truth columns n i words

@@ -1,9 +1,9 @@
--- `merge::ones` meets its contract. Assumes nothing.
+-- `rows::ones` meets its contract. Assumes nothing.
 use native.Mathlib.Omega.{arith}
 use Rattle.pending.specs.MergeLaws.{rows-low, rows-some, ones-are}
 use borrow.Author.Needs.{needs}
-use Rattle.merge.proofs.ones.Statement.{statement}
-use Rattle.merge.proofs.ones.Tie as tie
+use Rattle.rows.proofs.ones.Statement.{statement}
+use Rattle.rows.proofs.ones.Tie as tie
 
 shl-result : tie.Need-shl-result
 shl-result c = search needs

@@ -1,11 +1,11 @@
--- `merge::meet` meets its contract. Assumes nothing.
+-- `rows::meet` meets its contract. Assumes nothing.
 use Rattle.tree.specs.Trusted.Tree.{meet}
 use Rattle.cover.specs.Trusted.Bits.{bit}
 use mathlib.Core.Path.{sym, ap, _∙_}
 use Rattle.pending.specs.MergeLaws.{bit-and, bit-or}
 use borrow.Author.Needs.{needs}
-use Rattle.merge.proofs.meet.Statement.{statement}
-use Rattle.merge.proofs.meet.Tie as tie
+use Rattle.rows.proofs.meet.Statement.{statement}
+use Rattle.rows.proofs.meet.Tie as tie
 
 enum-told : tie.Need-enum-told
 enum-told c = search needs

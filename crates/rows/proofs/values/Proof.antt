@@ -1,12 +1,12 @@
--- `merge::values` meets its contract. Assumes nothing.
+-- `rows::values` meets its contract. Assumes nothing.
 use mathlib.Core.Path.{_≡_}
 use lib.ListN.{take}
 use denote.Ref.{now}
 use Rattle.pending.specs.Merging.{columnsOf, Filled}
 use Rattle.pending.specs.MergeLaws.{padded-filled, columns-length}
 use borrow.Author.Needs.{needs}
-use Rattle.merge.proofs.values.Statement.{statement}
-use Rattle.merge.proofs.values.Tie as tie
+use Rattle.rows.proofs.values.Statement.{statement}
+use Rattle.rows.proofs.values.Tie as tie
 
 -- the columns, with zeros after them
 filled : (c : tie.After-columns) → let a = c .before .args in

@@ -1,4 +1,4 @@
--- `merge::place` meets its contract. The invariant: the code is none of the inputs passed, so that its place is as many further
+-- `rows::place` meets its contract. The invariant: the code is none of the inputs passed, so that its place is as many further
 -- as were passed. The measure is the inputs left. Assumes nothing.
 use Prim.Native.Nat.{_+_, _-_, _≤_}
 use native.Mathlib.Omega.{arith}
@@ -9,8 +9,8 @@ use lib.ListN.{take}
 use lib.Seq.{slice}
 use Rattle.cover.specs.Trusted.Bits.{place}
 use Rattle.pending.specs.MergeLaws.{slice-none, place-here, place-later}
-use Rattle.merge.proofs.place.Statement.{statement}
-use Rattle.merge.proofs.place.Tie as tie
+use Rattle.rows.proofs.place.Statement.{statement}
+use Rattle.rows.proofs.place.Tie as tie
 
 abbrev Inv-loop : tie.InvT-loop
 Inv-loop code inputs count i₀ i = (i ≤ count) × (place code (take count inputs) ≡ i + place code (slice i count inputs))

@@ -1,12 +1,12 @@
--- `merge::turn` meets its contract. Assumes nothing.
+-- `rows::turn` meets its contract. Assumes nothing.
 use Rattle.tree.specs.Trusted.Tree.{turned}
 use Rattle.cover.specs.Trusted.Bits.{bit}
 use native.Mathlib.Omega.{arith}
 use mathlib.Core.Path.{sym, ap, _∙_}
 use Rattle.pending.specs.MergeLaws.{bit-turned}
 use borrow.Author.Needs.{needs}
-use Rattle.merge.proofs.turn.Statement.{statement}
-use Rattle.merge.proofs.turn.Tie as tie
+use Rattle.rows.proofs.turn.Statement.{statement}
+use Rattle.rows.proofs.turn.Tie as tie
 
 sub-result : tie.Need-sub-result
 sub-result c = search needs

@@ -1,12 +1,12 @@
--- `merge::pairs` meets its contract. The invariant: the words before j are made. The measure is the words left. Assumes nothing.
+-- `rows::pairs` meets its contract. The invariant: the words before j are made. The measure is the words left. Assumes nothing.
 use Prim.Native.Nat.{_-_, _≤_}
 use native.Mathlib.Omega.{arith}
 use mathlib.Core.Path.{_≡_}
 use Rattle.cover.specs.Trusted.Bits.{bit, digit}
 use Rattle.pending.specs.Merging.{Words}
 use Rattle.pending.specs.MergeLaws.{words-none, words-next, pair-bit}
-use Rattle.merge.proofs.pairs.Statement.{statement}
-use Rattle.merge.proofs.pairs.Tie as tie
+use Rattle.rows.proofs.pairs.Statement.{statement}
+use Rattle.rows.proofs.pairs.Tie as tie
 
 abbrev Inv-loop : tie.InvT-loop
 Inv-loop words₀ size truth column cases j₀ words j = (j ≤ size) × Words (λ k row. bit truth (digit (bit column row) k)) j words

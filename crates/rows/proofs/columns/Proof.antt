@@ -1,4 +1,4 @@
--- `merge::columns` meets its contract. The invariant: the columns before i are there. The measure is the codes left. Assumes nothing.
+-- `rows::columns` meets its contract. The invariant: the columns before i are there. The measure is the codes left. Assumes nothing.
 use Prim.Native.Nat.{_-_, _≤_}
 use native.Mathlib.Omega.{arith}
 use mathlib.Core.Path.{_≡_, ap, _∙_}
@@ -7,8 +7,8 @@ use denote.Ref.{now}
 use Rattle.table.specs.Trusted.Limits.{inputRoom}
 use Rattle.pending.specs.Merging.{padded, columnOf, columnsOf}
 use Rattle.pending.specs.MergeLaws.{place-low, column-is, columns-none, columns-next}
-use Rattle.merge.proofs.columns.Statement.{statement}
-use Rattle.merge.proofs.columns.Tie as tie
+use Rattle.rows.proofs.columns.Statement.{statement}
+use Rattle.rows.proofs.columns.Tie as tie
 
 abbrev Inv-loop : tie.InvT-loop
 Inv-loop codes n inputs count table out₀ i₀ out i = (i ≤ n) × (out ≡ padded (columnsOf (take i codes) (take count inputs)))
