@@ -13,16 +13,16 @@ ghost use Rattle.part.specs.Trusted.Add.{opened};
 ghost use Rattle.part.specs.Trusted.OpenAnswers.{openedResult};
 ghost use Rattle.part.specs.Trusted.Parts.{inUse};
 ghost use Rattle.part.specs.Trusted.SoundTest.{sound as isSound};
+use record_rules::is_blank;
 use sheet::Refusal;
 use table::INPUT_ROOM;
 use table::TABLE_ROOM;
 use table::Table;
 use table::blank;
 use table::within;
-use table_rules::after;
-use table_rules::is_blank;
+use table_prefix::after;
+use table_prefix::empty_prefix;
 use table_rules::keeps;
-use table_rules::none_seen;
 
 // A part of the row module: the most inputs of a table, how many tables it can hold, how many it holds, and the tables.
 pub struct Part {
@@ -80,14 +80,14 @@ fn rules_kept(p: Part) -> bool
 {
     let k = p.k;
     let used = p.used as usize;
-    let mut seen = none_seen();
+    let mut prefix = empty_prefix();
     let mut i = 0;
     while i < used {
         let r = p.tables[i];
-        if !keeps(seen, k, r) {
+        if !keeps(prefix, k, r) {
             return false;
         }
-        seen = after(seen, r);
+        prefix = after(prefix, r);
         i += 1;
     }
     true

@@ -13,8 +13,8 @@ use Rattle.lists.specs.TestLaws.{reflects-lt, reflects-within}
 use Rattle.table.specs.Trusted.Limits.{inputRoom, tableRoom}
 use Rattle.table.specs.ResultLaws.{says-true, says-false}
 use Rattle.table.specs.Trusted.RecordTest.{keeps, bad, refused, walk, tested}
-use Rattle.table.specs.SeenTest.{Stands, noneSeen, keepsIn, seenAfter}
-use Rattle.table.specs.SeenLaws.{stands-none, stands-after, keeps-stands}
+use Rattle.table.specs.PrefixTest.{Stands, emptyPrefix, keepsIn, prefixAfter}
+use Rattle.table.specs.PrefixLaws.{stands-none, stands-after, keeps-stands}
 use Rattle.table.specs.WalkLaws.{walk-ends, walk-full, walk-stops, walk-goes, before-next}
 use Rattle.records.specs.RunTest.{verdictOf, stoppedOf, startOf, beginOf, onOf, badOf, stepOf, finishOf}
 use Rattle.table.specs.declared.Table.{Table}
@@ -40,7 +40,7 @@ module _ (xs : List Table) (k capacity : ℕ) where
     pub same-capacity : w .capacity ≡ capacity
     pub room : capacity ≤ tableRoom
     pub refusal : w .refusal ≡ 0
-    pub seen : Stands (w .seen) (take (w .at) xs)
+    pub prefix : Stands (w .prefix) (take (w .at) xs)
     pub rest : walk k capacity (take (w .at) xs) (drop (w .at) (take (length xs) xs)) ≡ tested k capacity xs
 
   pub record RunRight (w : Walk) : Type 0 where
@@ -52,7 +52,7 @@ module _ (xs : List Table) (k capacity : ℕ) where
 
   -- after the records before i, all of them good
   abbrev here : Prefix → ℕ → Walk
-  here s i = record { seen = s; at = i; going = ltb i (length xs); bad = false; k = k; capacity = capacity; refusal = 0 }
+  here s i = record { prefix = s; at = i; going = ltb i (length xs); bad = false; k = k; capacity = capacity; refusal = 0 }
 
   abbrev Left : ℕ → Type 0
   Left i = walk k capacity (take i xs) (drop i (take (length xs) xs)) ≡ tested k capacity xs
@@ -65,7 +65,7 @@ module _ (xs : List Table) (k capacity : ℕ) where
       same-capacity = refl;
       room = c;
       refusal = refl;
-      seen = h;
+      prefix = h;
       rest = e;
     };
     found = λ g. sym (walk-ends k capacity xs (length xs) i (omega arith) (ltb-false i (length xs) g)) ∙ e;
@@ -97,7 +97,7 @@ module _ (xs : List Table) (k capacity : ℕ) where
       by-cases (within 2 inputRoom k)
       (λ e. by-cases (within 1 tableRoom capacity)
       (λ f. subst RunRight (sym (chosen-good start (stoppedOf 3) (stoppedOf 2) e f))
-      (here-right noneSeen 0 (says-true (reflects-within 1 tableRoom capacity) f .1) stands-none
+      (here-right emptyPrefix 0 (says-true (reflects-within 1 tableRoom capacity) f .1) stands-none
       (ap (walk k capacity []) (take-length xs) ∙ sym (chosen-good all (refused 3) (refused 2) e f))))
       (λ f. subst RunRight (sym (chosen-three start (stoppedOf 3) (stoppedOf 2) e f)) (stopped-right 3 (sym (chosen-three all (refused 3) (refused 2) e f)))))
       (λ e. subst RunRight (sym (chosen-two start (stoppedOf 3) (stoppedOf 2) e)) (stopped-right 2 (sym (chosen-two all (refused 3) (refused 2) e))))
@@ -109,7 +109,7 @@ module _ (xs : List Table) (k capacity : ℕ) where
 
   -- the walk after the record t, by the two tests
   abbrev after : Prefix → Table → ℕ → Bool → Bool → Walk
-  after s t i a b = cond (a && b) (onOf (seenAfter s t) i (length xs) k capacity 0) (badOf s i k capacity 0)
+  after s t i a b = cond (a && b) (onOf (prefixAfter s t) i (length xs) k capacity 0) (badOf s i k capacity 0)
 
   module _ (z : Table) (s : Prefix) (i : ℕ) (l : i < length xs) (c : capacity ≤ tableRoom) (h : Stands s (take i xs)) (e : Left i) where
     abbrev t : Table
@@ -123,7 +123,7 @@ module _ (xs : List Table) (k capacity : ℕ) where
         by-cases (keepsIn k s t)
         (λ y. let m : length (take i xs) < tableRoom = rw (length-take-le i xs (omega arith)) (omega (arith, ltb-true i capacity f, c)) in
         subst (λ b. RunRight (after s t i true b)) (sym y)
-        (here-right (seenAfter s t) (i + 1) c
+        (here-right (prefixAfter s t) (i + 1) c
         (rw (before-next k capacity xs (length xs) i (omega arith) z l) (stands-after s (take i xs) t h m))
         (sym (walk-goes k capacity xs (length xs) i (omega arith) z l f (sym kept ∙ y)) ∙ e)))
         (λ y. subst (λ b. RunRight (after s t i true b)) (sym y)
@@ -139,7 +139,7 @@ module _ (xs : List Table) (k capacity : ℕ) where
   -- the step by the walk's own numbers
   abbrev moved : Walk → Table → ℕ → ℕ → ℕ → Walk
   moved w t m c r =
-      cond (ltb (w .at) c && keepsIn m (w .seen) t) (onOf (seenAfter (w .seen) t) (w .at) (length xs) m c r) (badOf (w .seen) (w .at) m c r)
+      cond (ltb (w .at) c && keepsIn m (w .prefix) t) (onOf (prefixAfter (w .prefix) t) (w .at) (length xs) m c r) (badOf (w .prefix) (w .at) m c r)
 
   pub steps : (z : Table) (w : Walk) → RunRight w → w .going ≡ true → RunRight (stepOf w (getD xs (w .at) z) (length xs))
   steps z w h e =
@@ -148,16 +148,16 @@ module _ (xs : List Table) (k capacity : ℕ) where
       subst (λ m. RunRight (moved w t m (w .capacity) (w .refusal))) (sym (g .same-k))
       (subst (λ c. RunRight (moved w t k c (w .refusal))) (sym (g .same-capacity))
       (subst (λ r. RunRight (moved w t k capacity r)) (sym (g .refusal))
-      (step-right z (w .seen) (w .at) (g .within) (g .room) (g .seen) (g .rest))))
+      (step-right z (w .prefix) (w .at) (g .within) (g .room) (g .prefix) (g .rest))))
 
   one-on : (w : Walk) (t : Table) (n : ℕ) (b : Bool) →
-      cond b (onOf (seenAfter (w .seen) t) (w .at) n (w .k) (w .capacity) (w .refusal)) (badOf (w .seen) (w .at) (w .k) (w .capacity) (w .refusal)) .at ≡ w .at + 1
+      cond b (onOf (prefixAfter (w .prefix) t) (w .at) n (w .k) (w .capacity) (w .refusal)) (badOf (w .prefix) (w .at) (w .k) (w .capacity) (w .refusal)) .at ≡ w .at + 1
   one-on w t n true = refl
   one-on w t n false = refl
 
   pub nearer : (z : Table) (w : Walk) → w .at < length xs → length xs - stepOf w (getD xs (w .at) z) (length xs) .at < length xs - w .at
   nearer z w l =
-      let e = one-on w (getD xs (w .at) z) (length xs) (ltb (w .at) (w .capacity) && keepsIn (w .k) (w .seen) (getD xs (w .at) z)) in
+      let e = one-on w (getD xs (w .at) z) (length xs) (ltb (w .at) (w .capacity) && keepsIn (w .k) (w .prefix) (getD xs (w .at) z)) in
       omega (arith, e)
 
   pub ends : (w : Walk) → RunRight w → w .going ≡ false → verdictOf (finishOf w) ≡ tested k capacity xs

@@ -6,7 +6,7 @@ use lib.Dec.{ltb, eqb}
 use Rattle.lists.specs.Trusted.Tests.{within}
 use Rattle.table.specs.Trusted.Limits.{inputRoom, tableRoom}
 use Rattle.table.specs.Trusted.RecordTest.{Verdict, none, bad, refused}
-use Rattle.table.specs.SeenTest.{noneSeen, seenAfter, keepsIn}
+use Rattle.table.specs.PrefixTest.{emptyPrefix, prefixAfter, keepsIn}
 use Rattle.table.specs.declared.Table.{Table}
 use Rattle.table.specs.declared.Prefix.{Prefix}
 use Rattle.records.specs.declared.Walk.{Walk}
@@ -21,25 +21,25 @@ verdictOf KOutOfRange = refused 2
 verdictOf CapacityOutOfRange = refused 3
 
 abbrev pub stoppedOf : ℕ → Walk
-stoppedOf number = record { seen = noneSeen; at = 0; going = false; bad = false; k = 0; capacity = 0; refusal = number }
+stoppedOf number = record { prefix = emptyPrefix; at = 0; going = false; bad = false; k = 0; capacity = 0; refusal = number }
 
 abbrev pub startOf : ℕ → ℕ → ℕ → Walk
-startOf n k capacity = record { seen = noneSeen; at = 0; going = ltb 0 n; bad = false; k = k; capacity = capacity; refusal = 0 }
+startOf n k capacity = record { prefix = emptyPrefix; at = 0; going = ltb 0 n; bad = false; k = k; capacity = capacity; refusal = 0 }
 
 abbrev pub beginOf : ℕ → ℕ → ℕ → Walk
 beginOf n k capacity = cond (within 2 inputRoom k) (cond (within 1 tableRoom capacity) (startOf n k capacity) (stoppedOf 3)) (stoppedOf 2)
 
 -- past a good record, and past a bad one
 abbrev pub onOf : Prefix → ℕ → ℕ → ℕ → ℕ → ℕ → Walk
-onOf s at n k capacity refusal = record { seen = s; at = at + 1; going = ltb (at + 1) n; bad = false; k = k; capacity = capacity; refusal = refusal }
+onOf s at n k capacity refusal = record { prefix = s; at = at + 1; going = ltb (at + 1) n; bad = false; k = k; capacity = capacity; refusal = refusal }
 
 abbrev pub badOf : Prefix → ℕ → ℕ → ℕ → ℕ → Walk
-badOf s at k capacity refusal = record { seen = s; at = at + 1; going = false; bad = true; k = k; capacity = capacity; refusal = refusal }
+badOf s at k capacity refusal = record { prefix = s; at = at + 1; going = false; bad = true; k = k; capacity = capacity; refusal = refusal }
 
 abbrev pub stepOf : Walk → Table → ℕ → Walk
 stepOf w t n =
-    cond (ltb (w .at) (w .capacity) && keepsIn (w .k) (w .seen) t) (onOf (seenAfter (w .seen) t) (w .at) n (w .k) (w .capacity) (w .refusal))
-    (badOf (w .seen) (w .at) (w .k) (w .capacity) (w .refusal))
+    cond (ltb (w .at) (w .capacity) && keepsIn (w .k) (w .prefix) t) (onOf (prefixAfter (w .prefix) t) (w .at) n (w .k) (w .capacity) (w .refusal))
+    (badOf (w .prefix) (w .at) (w .k) (w .capacity) (w .refusal))
 
 abbrev pub finishOf : Walk → Found
 finishOf w = cond (eqb (w .refusal) 2) KOutOfRange (cond (eqb (w .refusal) 3) CapacityOutOfRange (cond (w .bad) (At (w .at)) Nothing))

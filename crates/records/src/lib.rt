@@ -11,9 +11,9 @@ use table::Prefix;
 use table::TABLE_ROOM;
 use table::Table;
 use table::within;
-use table_rules::after;
+use table_prefix::after;
+use table_prefix::empty_prefix;
 use table_rules::keeps;
-use table_rules::none_seen;
 
 // What the test of a run finds: no bad record, the first bad one counted from 1, or that K or the capacity is out of range.
 // RunTest in specs/ gives the refusals' numbers.
@@ -27,7 +27,7 @@ pub enum Found {
 // The walk between two records: what is kept of those passed, how many they are, whether another is to be read, whether the last
 // was bad, K and the capacity, and the number of a refusal, or 0.
 pub struct Walk {
-    pub seen: Prefix,
+    pub prefix: Prefix,
     pub at: usize,
     pub going: bool,
     pub bad: bool,
@@ -40,9 +40,9 @@ pub struct Walk {
 fn stopped(refusal: u8) -> Walk
     ensures { λ w. ⌜ w ≡ stoppedOf refusal ⌝ }
 {
-    let seen = none_seen();
+    let prefix = empty_prefix();
     Walk {
-        seen,
+        prefix,
         at: 0,
         going: false,
         bad: false,
@@ -58,9 +58,9 @@ pub fn begin(n: usize, k: u32, capacity: u32) -> Walk
 {
     if within(2, INPUT_ROOM, k) {
         if within(1, TABLE_ROOM, capacity) {
-            let seen = none_seen();
+            let prefix = empty_prefix();
             Walk {
-                seen,
+                prefix,
                 at: 0,
                 going: 0 < n,
                 bad: false,
@@ -81,14 +81,14 @@ pub fn step(w: Walk, t: Table, n: usize) -> Walk
     requires { ⌜ w .at < n ⌝ }
     ensures { λ r. ⌜ r ≡ stepOf w t n ⌝ }
 {
-    let seen = w.seen;
+    let prefix = w.prefix;
     let at = w.at;
     let next = at + 1;
     if at < w.capacity as usize {
-        if keeps(seen, w.k, t) {
-            let more = after(seen, t);
+        if keeps(prefix, w.k, t) {
+            let more = after(prefix, t);
             return Walk {
-                seen: more,
+                prefix: more,
                 at: next,
                 going: next < n,
                 bad: false,
@@ -99,7 +99,7 @@ pub fn step(w: Walk, t: Table, n: usize) -> Walk
         }
     }
     Walk {
-        seen,
+        prefix,
         at: next,
         going: false,
         bad: true,

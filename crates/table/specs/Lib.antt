@@ -1,9 +1,9 @@
 pub mod Trusted
 pub mod ResultLaws
 pub mod LoopLaws
-pub mod SeenTest
+pub mod PrefixTest
 pub mod RecordLaws
 pub mod RuleLaws
 pub mod TestedLaws
-pub mod SeenLaws
+pub mod PrefixLaws
 pub mod WalkLaws

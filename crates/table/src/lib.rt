@@ -17,7 +17,7 @@ pub struct Table {
     pub truth: u64,
 }
 
-// What the rules need to know of the records seen so far: how many there are, which nets a record drives or reads, and which of
+// What the rules need to know of the records so far: how many there are, which nets a record drives or reads, and which of
 // the records drive a net.
 pub struct Prefix {
     pub count: u16,

@@ -9,8 +9,8 @@ use lib.ListN.{length, getD, take, drop}
 use lib.Seq.{length-take-le}
 use Rattle.table.specs.Trusted.Limits.{tableRoom}
 use Rattle.table.specs.Trusted.RecordTest.{keeps, walk, isNone}
-use Rattle.table.specs.SeenTest.{Stands}
-use Rattle.table.specs.SeenLaws.{stands-none, stands-after, keeps-stands}
+use Rattle.table.specs.PrefixTest.{Stands}
+use Rattle.table.specs.PrefixLaws.{stands-none, stands-after, keeps-stands}
 use Rattle.table.specs.WalkLaws.{walk-ends, walk-stops, walk-goes, before-next}
 use Rattle.part.specs.Trusted.Parts.{inUse}
 use Rattle.part.proofs.Shape.{shaped, past}
@@ -18,23 +18,23 @@ use Rattle.part.proofs.rules_kept.Statement.{statement}
 use Rattle.part.proofs.rules_kept.Tie as tie
 
 abbrev Inv-loop : tie.InvT-loop
-Inv-loop p k used seen₀ i₀ seen i =
-    (i ≤ p .used) × (length (p .tables) ≡ tableRoom) × Stands seen (take i (p .tables))
+Inv-loop p k used prefix₀ i₀ prefix i =
+    (i ≤ p .used) × (length (p .tables) ≡ tableRoom) × Stands prefix (take i (p .tables))
     × (walk (p .k) (p .capacity) [] (inUse p) ≡ walk (p .k) (p .capacity) (take i (p .tables)) (drop i (inUse p)))
 
 abbrev μ-loop : tie.MeasureT-loop
-μ-loop p k used seen₀ i₀ seen i = p .used - i
+μ-loop p k used prefix₀ i₀ prefix i = p .used - i
 
 cast-used : tie.Need-cast-used Inv-loop μ-loop
 cast-used c = search needs
 
-none-seen-requires : tie.Need-none-seen-requires Inv-loop μ-loop
-none-seen-requires c κs = search needs
+empty-prefix-requires : tie.Need-empty-prefix-requires Inv-loop μ-loop
+empty-prefix-requires c κs = search needs
 
 loop-holds : tie.Need-loop-holds Inv-loop μ-loop
 loop-holds c =
     let t = c .before .good .0 .1 .1 .1 .1 .1 .0 in
-    (omega arith, shaped (c .before .args .t1) (t .0) (t .1 .0 .1) (t .1 .1) .records, subst (λ s. Stands s []) (sym (c .none-seen .ensures)) stands-none, refl)
+    (omega arith, shaped (c .before .args .t1) (t .0) (t .1 .0 .1) (t .1 .1) .records, subst (λ s. Stands s []) (sym (c .empty-prefix .ensures)) stands-none, refl)
 
 mul-r : tie.Need-mul-r Inv-loop μ-loop
 mul-r c = omega arith
@@ -51,7 +51,7 @@ returns c =
     let l = c .before .before .before .before .loop in
     let r = getD (p .tables) (l .i) past in
     let e : keeps (p .k) (take (l .i) (p .tables)) r ≡ false =
-    sym (keeps-stands (l .seen) (take (l .i) (p .tables)) (l .inv .2) (p .k) r) ∙ sym (c .before .keeps .ensures) ∙ not-true _ (c .if1 .taken) in
+    sym (keeps-stands (l .prefix) (take (l .i) (p .tables)) (l .inv .2) (p .k) r) ∙ sym (c .before .keeps .ensures) ∙ not-true _ (c .if1 .taken) in
     sym (ap isNone (l .inv .3 ∙ walk-stops (p .k) (p .capacity) (p .tables) (p .used) (l .i) (omega arith) past (omega arith) (lt-ltb (l .i) (p .capacity) (omega arith)) e))
 
 after-requires : tie.Need-after-requires Inv-loop μ-loop
@@ -69,12 +69,12 @@ loop-again c =
     let l = c .before .before .before .before .before .loop in
     let r = getD (p .tables) (l .i) past in
     let b = take (l .i) (p .tables) in
-    let e : keeps (p .k) b r ≡ true = sym (keeps-stands (l .seen) b (l .inv .2) (p .k) r) ∙ sym (c .before .before .keeps .ensures) ∙ not-false _ (c .before .if1 .left) in
+    let e : keeps (p .k) b r ≡ true = sym (keeps-stands (l .prefix) b (l .inv .2) (p .k) r) ∙ sym (c .before .before .keeps .ensures) ∙ not-false _ (c .before .if1 .left) in
     let n : length b < tableRoom = rw (length-take-le (l .i) (p .tables) (omega arith)) (omega arith) in (
       omega arith,
       l .inv .1,
       subst (λ s. Stands s (take (l .i + 1) (p .tables))) (sym (c .after .ensures))
-          (rw (before-next (p .k) (p .capacity) (p .tables) (p .used) (l .i) (omega arith) past (omega arith)) (stands-after (l .seen) b r (l .inv .2) n)),
+          (rw (before-next (p .k) (p .capacity) (p .tables) (p .used) (l .i) (omega arith) past (omega arith)) (stands-after (l .prefix) b r (l .inv .2) n)),
       l .inv .3 ∙ walk-goes (p .k) (p .capacity) (p .tables) (p .used) (l .i) (omega arith) past (omega arith) (lt-ltb (l .i) (p .capacity) (omega arith)) e,
     )
 
@@ -91,7 +91,7 @@ rules-kept-spec =
     Inv-loop
     μ-loop
     cast-used
-    none-seen-requires
+    empty-prefix-requires
     loop-holds
     mul-r
     element-copy-out-r

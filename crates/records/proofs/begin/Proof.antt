@@ -14,8 +14,8 @@ within-requires c κs = search needs
 within-requires-2 : tie.Need-within-requires-2
 within-requires-2 c κs = search needs
 
-none-seen-requires : tie.Need-none-seen-requires
-none-seen-requires c κs = search needs
+empty-prefix-requires : tie.Need-empty-prefix-requires
+empty-prefix-requires c κs = search needs
 
 cast-t10 : tie.Need-cast-t10
 cast-t10 c = omega (arith, says-true (reflects-within 2 6 (c .before .before .before .before .before .args .k)) (sym (c .before .before .before .before .within .ensures) ∙ c .before .before .before .if1 .taken))
@@ -33,7 +33,7 @@ returns : tie.Need-returns
 returns c =
     let a = c .before .before .before .before .before .args in
     rw (sym (c .before .before .before .before .within .ensures) ∙ c .before .before .before .if1 .taken, sym (c .before .before .within2 .ensures) ∙ c .before .if2 .taken)
-    (ap (λ s. record { seen = s; at = 0; going = ltb 0 (a .n); bad = false; k = a .k; capacity = a .capacity; refusal = 0 }) (c .none-seen .ensures))
+    (ap (λ s. record { prefix = s; at = 0; going = ltb 0 (a .n); bad = false; k = a .k; capacity = a .capacity; refusal = 0 }) (c .empty-prefix .ensures))
 
 returns-2 : tie.Need-returns-2
 returns-2 c = rw (sym (c .before .before .before .before .within .ensures) ∙ c .before .before .before .if1 .taken, sym (c .before .before .within2 .ensures) ∙ c .before .if2 .left) (c .stopped .ensures)
@@ -47,7 +47,7 @@ begin-spec =
     (tie.spec
     within-requires
     within-requires-2
-    none-seen-requires
+    empty-prefix-requires
     cast-t10
     cast-t11
     stopped-requires

@@ -6,7 +6,7 @@ use borrow.Author.Tests.{not-true, not-false}
 use denote.Ref.{now}
 use lib.ListN.{length, take, drop}
 use Rattle.lists.specs.Trusted.Tests.{all}
-use Rattle.table.specs.SeenTest.{sourcedIn}
+use Rattle.table.specs.PrefixTest.{sourcedIn}
 use Rattle.table.specs.LoopLaws.{all-take-stops, all-take-goes, all-take-ends}
 use Rattle.table_rules.proofs.all_sourced.Statement.{statement}
 use Rattle.table_rules.proofs.all_sourced.Tie as tie

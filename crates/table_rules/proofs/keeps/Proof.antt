@@ -3,7 +3,7 @@ use borrow.Author.Needs.{needs}
 use borrow.Author.Tests.{not-true, not-false}
 use lib.ListN.{take}
 use Rattle.lists.specs.Trusted.Tests.{all}
-use Rattle.table.specs.SeenTest.{sourcedIn}
+use Rattle.table.specs.PrefixTest.{sourcedIn}
 use Rattle.table.proofs.Shape.{room, take-room}
 use Rattle.table_rules.proofs.keeps.Statement.{statement}
 use Rattle.table_rules.proofs.keeps.Tie as tie
@@ -46,7 +46,7 @@ returns-4 : tie.Need-returns-4
 returns-4 c =
     let s = c .before .before .before .before .before .before .before .before .before .before .before .before .before .before .before in
     let r = s .args .r in
-    let f = sourcedIn (s .args .seen .drives) (s .args .seen .count) in
+    let f = sourcedIn (s .args .prefix .drives) (s .args .prefix .count) in
     let e = sym (c .before .before .before .all-sourced .ensures ∙ ap (λ n. all f (take n (r .inputs))) (c .before .before .before .before .in-use .ensures)
     ∙ ap (all f) (take-room (r .inputs) (r .count) (room r (s .good .1 .1 .0 .1 .1 .1 .1 .0 .1 .0 .1)))) ∙ c .before .before .if4 .taken in
     rw (
@@ -60,7 +60,7 @@ returns-5 : tie.Need-returns-5
 returns-5 c =
     let s = c .before .before .before .before .before .before .before .before .before .before .before .before .before in
     let r = s .args .r in
-    let f = sourcedIn (s .args .seen .drives) (s .args .seen .count) in
+    let f = sourcedIn (s .args .prefix .drives) (s .args .prefix .count) in
     let e = sym (c .before .all-sourced .ensures ∙ ap (λ n. all f (take n (r .inputs))) (c .before .before .in-use .ensures)
     ∙ ap (all f) (take-room (r .inputs) (r .count) (room r (s .good .1 .1 .0 .1 .1 .1 .1 .0 .1 .0 .1)))) ∙ c .if4 .left in
     rw (

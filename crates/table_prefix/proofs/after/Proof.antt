@@ -6,10 +6,10 @@ use borrow.Author.Tests.{lt-ltb, le-ltb}
 use lib.Dec.{eqb}
 use lib.ListN.{set, take}
 use Rattle.table.specs.Trusted.Records.{reads}
-use Rattle.table.specs.SeenTest.{claimAll}
+use Rattle.table.specs.PrefixTest.{claimAll}
 use Rattle.table.proofs.Shape.{room, take-room}
-use Rattle.table_rules.proofs.after.Statement.{statement}
-use Rattle.table_rules.proofs.after.Tie as tie
+use Rattle.table_prefix.proofs.after.Statement.{statement}
+use Rattle.table_prefix.proofs.after.Tie as tie
 
 returns : tie.Need-returns
 returns c = rw (le-ltb _ _ (c .if1 .taken))
@@ -42,7 +42,7 @@ returns-2 : tie.Need-returns-2
 returns-2 c =
     let s = c .before .before .before .before .before .before .before .before .before .before .before .before in
     let r = s .args .r in
-    let q = s .args .seen in
+    let q = s .args .prefix in
     let m = c .before .before .before .before .before .before .claim .last .0 in
     rw (lt-ltb _ _ (c .before .before .before .before .before .before .before .before .before .before .before .if1 .left))
     (ap (λ l. record { count = q .count + 1; claimed = l; drives = set (q .drives) (q .count) (not (eqb (r .net) 0)) })

@@ -4,10 +4,10 @@ use mathlib.Core.Path.{_≡_, refl, sym, ap, _∙_}
 use mathlib.Core.Bool.{true}
 use borrow.Author.Needs.{needs}
 use lib.ListN.{length, getD, take, drop, length-set}
-use Rattle.table.specs.SeenTest.{claimAll}
+use Rattle.table.specs.PrefixTest.{claimAll}
 use Rattle.table.specs.LoopLaws.{take-next, take-none}
-use Rattle.table_rules.proofs.claim_all.Statement.{statement}
-use Rattle.table_rules.proofs.claim_all.Tie as tie
+use Rattle.table_prefix.proofs.claim_all.Statement.{statement}
+use Rattle.table_prefix.proofs.claim_all.Tie as tie
 
 abbrev Inv-loop : tie.InvT-loop
 Inv-loop claimed₀ n inputs i₀ claimed i =

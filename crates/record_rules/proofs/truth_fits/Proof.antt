@@ -3,8 +3,8 @@ use native.Mathlib.Nat.{pow-le-pow-right}
 use native.Mathlib.Omega.{arith}
 use mathlib.Core.Path.{sym}
 use borrow.Author.Tests.{lt-ltb}
-use Rattle.table_rules.proofs.truth_fits.Statement.{statement}
-use Rattle.table_rules.proofs.truth_fits.Tie as tie
+use Rattle.record_rules.proofs.truth_fits.Statement.{statement}
+use Rattle.record_rules.proofs.truth_fits.Tie as tie
 
 returns : tie.Need-returns
 returns c = rw (c .match .keys1)

@@ -5,8 +5,8 @@ use lib.Dec.{ltb}
 use lib.ListN.{take}
 use Rattle.lists.specs.Trusted.Tests.{pairwise}
 use Rattle.table.proofs.Shape.{room, take-room}
-use Rattle.table_rules.proofs.sized.Statement.{statement}
-use Rattle.table_rules.proofs.sized.Tie as tie
+use Rattle.record_rules.proofs.sized.Statement.{statement}
+use Rattle.record_rules.proofs.sized.Tie as tie
 
 returns : tie.Need-returns
 returns c = rw (lt-leb _ _ (c .if1 .taken))

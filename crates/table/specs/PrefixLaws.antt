@@ -1,4 +1,4 @@
--- What is kept of the records seen stands for their list: after none, after one more, and in the rules' tests.
+-- What is kept of the records stands for their list: after none, after one more, and in the rules' tests.
 use Prim.Native.Nat.{ℕ, suc, _+_, _-_, _≤_, _<_}
 use native.Mathlib.Omega.{arith}
 use mathlib.Core.Path.{_≡_, refl, sym, ap, ap₂, _∙_}
@@ -15,12 +15,12 @@ use Rattle.tree.specs.Trusted.Limits.{greatestNet}
 use Rattle.table.specs.Trusted.Limits.{tableBase, tableRoom}
 use Rattle.table.specs.Trusted.Records.{reads, blank}
 use Rattle.table.specs.Trusted.RecordTest.{isCode, padded, sized, sourced, clear, unclaimed, keeps}
-use Rattle.table.specs.SeenTest.{Stands, noneSeen, claimAll, seenAfter, sourcedIn, unclaimedIn, keepsIn}
+use Rattle.table.specs.PrefixTest.{Stands, emptyPrefix, claimAll, prefixAfter, sourcedIn, unclaimedIn, keepsIn}
 use Rattle.table.specs.declared.Table.{Table}
 use Rattle.table.specs.declared.Prefix.{Prefix}
 
-pub stands-none : Stands noneSeen []
-unfolding noneSeen
+pub stands-none : Stands emptyPrefix []
+unfolding emptyPrefix
 stands-none = record {
   room = omega arith;
   count = refl;
@@ -117,7 +117,7 @@ module _ (s : Prefix) (before : List Table) (r : Table) (h : Stands s before) (l
     drives = next-drives;
   }
 
-  pub stands-after : Stands (seenAfter s r) (before ++ r ∷ [])
+  pub stands-after : Stands (prefixAfter s r) (before ++ r ∷ [])
   stands-after = let e = reflects-true (reflects-lt (s .count) tableRoom) (omega (arith, h .count)) in rw e stands-next
 
 -- ---- the rules

@@ -5,8 +5,8 @@ use lib.ListN.{take}
 use Rattle.lists.specs.Trusted.Tests.{all}
 use Rattle.table.specs.Trusted.RecordTest.{isCode}
 use Rattle.table.proofs.Shape.{room, take-room}
-use Rattle.table_rules.proofs.coded.Statement.{statement}
-use Rattle.table_rules.proofs.coded.Tie as tie
+use Rattle.record_rules.proofs.coded.Statement.{statement}
+use Rattle.record_rules.proofs.coded.Tie as tie
 
 in-use-requires : tie.Need-in-use-requires
 in-use-requires c κs = search needs

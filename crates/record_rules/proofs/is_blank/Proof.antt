@@ -1,8 +1,8 @@
 use mathlib.Core.Path.{sym, _∙_}
 use borrow.Author.Needs.{needs}
 use borrow.Author.Tests.{eq-eqb, ne-eqb}
-use Rattle.table_rules.proofs.is_blank.Statement.{statement}
-use Rattle.table_rules.proofs.is_blank.Tie as tie
+use Rattle.record_rules.proofs.is_blank.Statement.{statement}
+use Rattle.record_rules.proofs.is_blank.Tie as tie
 
 returns : tie.Need-returns
 returns c = rw (ne-eqb _ _ (c .if1 .taken))

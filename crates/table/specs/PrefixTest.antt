@@ -1,5 +1,5 @@
--- The rules of a record by what is kept of the records seen before it, in place of their list.
--- Internal definitions: SeenLaws has the proof that the two say the same.
+-- The rules of a record by what is kept of the records before it, in place of their list.
+-- Internal definitions: PrefixLaws has the proof that the two say the same.
 use Prim.Native.Nat.{ℕ, suc, _+_, _-_, _≤_, _<_}
 use mathlib.Core.Path.{_≡_}
 use mathlib.Core.Bool.{Bool, true, false, cond, not, _&&_, _||_}
@@ -24,8 +24,8 @@ pub record Stands (s : Prefix) (before : List Table) : Type 0 where
   pub claimed : (n : ℕ) → n ≤ greatestNet → not (getD (s .claimed) n false) ≡ all (clear n) before
   pub drives : (t : ℕ) → t < tableRoom → not (getD (s .drives) t true) ≡ eqb ((getD before t blank) .net) 0
 
-unfoldable pub noneSeen : Prefix
-noneSeen = record { count = 0; claimed = replicate (suc greatestNet) false; drives = replicate tableRoom false }
+unfoldable pub emptyPrefix : Prefix
+emptyPrefix = record { count = 0; claimed = replicate (suc greatestNet) false; drives = replicate tableRoom false }
 
 -- the nets claimed, with these; what is no net claims none
 abbrev pub claimAll : List Bool → List ℕ → List Bool
@@ -33,8 +33,8 @@ claimAll c [] = c
 claimAll c (x ∷ xs) = claimAll (set c x true) xs
 
 -- one more record, where there is room for it
-abbrev pub seenAfter : Prefix → Table → Prefix
-seenAfter s r =
+abbrev pub prefixAfter : Prefix → Table → Prefix
+prefixAfter s r =
     cond (ltb (s .count) tableRoom)
     (record { count = s .count + 1; claimed = claimAll (s .claimed) (r .net ∷ reads r); drives = set (s .drives) (s .count) (not (eqb (r .net) 0)) })
     s

@@ -3,8 +3,8 @@ use borrow.Author.Needs.{needs}
 use lib.ListN.{drop}
 use Rattle.table.specs.Trusted.RecordTest.{allZero}
 use Rattle.table.proofs.Shape.{room, drop-room}
-use Rattle.table_rules.proofs.padded.Statement.{statement}
-use Rattle.table_rules.proofs.padded.Tie as tie
+use Rattle.record_rules.proofs.padded.Statement.{statement}
+use Rattle.record_rules.proofs.padded.Tie as tie
 
 in-use-requires : tie.Need-in-use-requires
 in-use-requires c κs = search needs

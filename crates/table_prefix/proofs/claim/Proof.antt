@@ -1,8 +1,8 @@
 use mathlib.Core.Path.{sym}
 use borrow.Author.Needs.{needs}
 use lib.Seq.{set-out}
-use Rattle.table_rules.proofs.claim.Statement.{statement}
-use Rattle.table_rules.proofs.claim.Tie as tie
+use Rattle.table_prefix.proofs.claim.Statement.{statement}
+use Rattle.table_prefix.proofs.claim.Tie as tie
 
 slice-write-claimed : tie.Need-slice-write-claimed
 slice-write-claimed c = search needs

@@ -1,0 +1,64 @@
+// What is kept of the records so far: of none, and of one more after others.
+// table/specs/PrefixTest defines it, and table/specs/PrefixLaws has the proof that it stands for the records.
+ghost use mathlib.Core.Path.{_≡_};
+ghost use mathlib.Core.Bool.{true, false};
+ghost use Prim.Native.Nat.{_≤_};
+ghost use lib.ListN.{set, take};
+ghost use Rattle.table.specs.PrefixTest.{claimAll, emptyPrefix, prefixAfter};
+use table::Prefix;
+use table::Table;
+use table::in_use;
+
+// Of no record.
+pub fn empty_prefix() -> Prefix
+    ensures { λ r. ⌜ r ≡ emptyPrefix ⌝ }
+{
+    Prefix {
+        count: 0,
+        claimed: [false; 1000],
+        drives: [false; 800],
+    }
+}
+
+// The net is claimed; what is no net is not looked at.
+fn claim(claimed: &mut [bool], x: u16)
+    ensures { λ _. ⌜ now (claimed .exit) ≡ set (now (claimed .entry)) x true ⌝ }
+{
+    let at = x as usize;
+    if at < claimed.len() {
+        claimed[at] = true;
+    }
+}
+
+// So for the first n inputs.
+fn claim_all(claimed: &mut [bool], inputs: [u16; 6], n: usize)
+    requires { ⌜ n ≤ 6 ⌝ }
+    ensures { λ _. ⌜ now (claimed .exit) ≡ claimAll (now (claimed .entry)) (take n inputs) ⌝ }
+{
+    let mut i = 0;
+    while i < n {
+        claim(claimed, inputs[i]);
+        i += 1;
+    }
+}
+
+// Of one more record, after the others; unchanged where there is no room for it.
+pub fn after(prefix: Prefix, r: Table) -> Prefix
+    ensures { λ s. ⌜ s ≡ prefixAfter prefix r ⌝ }
+{
+    let count = prefix.count;
+    if count >= 800 {
+        return prefix;
+    }
+    let mut claimed = prefix.claimed;
+    let mut drives = prefix.drives;
+    let inputs = r.inputs;
+    claim(&mut claimed, r.net);
+    claim_all(&mut claimed, inputs, in_use(r.count));
+    drives[count as usize] = r.net != 0;
+    Prefix {
+        count: count + 1,
+        claimed,
+        drives,
+    }
+}
