@@ -4,8 +4,8 @@ use mathlib.Core.Path.{_≡_}
 use mathlib.Core.List.{List}
 use lib.ListN.{length}
 use Rattle.listing.specs.Lines.{longest}
-use Rattle.program.specs.declared.Printed.{Printed as Outcome}
-use Rattle.program.specs.declared.Printed.the-variants.{Wrote, NoRoom}
+use Rattle.printing.specs.declared.Printed.{Printed as Outcome}
+use Rattle.printing.specs.declared.Printed.the-variants.{Wrote, NoRoom}
 use Rattle.program.specs.Contracts.{Answered, AtFront}
 
 -- how many bytes were printed: none where the buffer is too short

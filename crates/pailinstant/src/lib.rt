@@ -2,7 +2,7 @@
 ghost use mathlib.Core.Path.{_≡_};
 ghost use Rattle.refusals.specs.Trusted.Sentences.{refusalText, frontWrite};
 ghost use Rattle.pailinstant.specs.Calls.{PrintedInto};
-use program::Printed;
+use printing::Printed;
 use program::run;
 
 // Maps a whole input, as the mapping program does, and gives how many bytes it printed into the buffer: the list, or the line of the

@@ -16,11 +16,13 @@ use Rattle.listing.specs.Lines.{longest}
 use Rattle.list_line.specs.PasteLaws.{paste-length}
 use Rattle.listing.specs.LineLaws.{list-short, fitted-in}
 use Rattle.opening.specs.Trusted.Opening.{openingNumbers, openedBy}
-use Rattle.program.specs.Trusted.Program.{SheetsPrint, ended, stopped, added, After, Prints}
-use Rattle.program.specs.Contracts.{WrittenAs, Answered, AtFront}
+use Rattle.printing.specs.Contracts.{WrittenAs}
+use Rattle.sheets.specs.Trusted.Sheets.{SheetsPrint, ended, stopped, added}
+use Rattle.program.specs.Trusted.Program.{After, Prints}
+use Rattle.program.specs.Contracts.{Answered, AtFront}
 use Rattle.program.specs.ProgramLaws.{opened-good}
-use Rattle.program.specs.declared.Printed.{Printed}
-use Rattle.program.specs.declared.Printed.the-variants.{Wrote, NoRoom}
+use Rattle.printing.specs.declared.Printed.{Printed}
+use Rattle.printing.specs.declared.Printed.the-variants.{Wrote, NoRoom}
 
 -- a refusal's line has 19 bytes
 refusal-short : 19 ≤ longest

@@ -13,7 +13,9 @@ use Rattle.demands.specs.Trusted.Calls.{Call, Chain, done, call}
 use Rattle.demands.specs.Theorems.{demand-2, demand-3}
 use Rattle.part.specs.declared.Part.{Part}
 use Rattle.opening.specs.Trusted.Opening.{openingNumbers, count, openedBy}
-use Rattle.program.specs.Trusted.Program.{refusalLine, SheetsPrint, ended, stopped, added, After, Prints}
+use Rattle.printing.specs.Trusted.RefusalLine.{refusalLine}
+use Rattle.sheets.specs.Trusted.Sheets.{SheetsPrint, ended, stopped, added}
+use Rattle.program.specs.Trusted.Program.{After, Prints}
 use Rattle.program_laws.specs.Trusted.Runs.{Texts, end, stop, next, printedBy, Run}
 
 -- a text that is not empty has a call

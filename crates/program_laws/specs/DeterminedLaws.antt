@@ -26,7 +26,8 @@ use Rattle.list_line.specs.Line.{topLine}
 use Rattle.listing.specs.Lines.{tableLines}
 use Rattle.listing.specs.LineLaws.{list-is}
 use Rattle.opening.specs.Trusted.Opening.{openingNumbers, count, openedBy}
-use Rattle.program.specs.Trusted.Program.{refusalLine, After, Prints}
+use Rattle.printing.specs.Trusted.RefusalLine.{refusalLine}
+use Rattle.program.specs.Trusted.Program.{After, Prints}
 use Rattle.program_laws.specs.Trusted.Runs.{Texts, end, stop, next, answers, usedCounts, firstRefusal, printedBy, Run, Determined, refusal, lists}
 use Rattle.program_laws.specs.ChainLaws.{mapped-run}
 

@@ -12,7 +12,7 @@ use Rattle.part.specs.Trusted.Answers.{accepted, refused}
 use Rattle.demands.specs.Trusted.Calls.{add}
 use Rattle.part.specs.declared.Part.{Part}
 use Rattle.opening.specs.Trusted.Opening.{openingNumbers, openedBy}
-use Rattle.program.specs.Trusted.Program.{refusalLine}
+use Rattle.printing.specs.Trusted.RefusalLine.{refusalLine}
 use Rattle.program_laws.specs.Trusted.Runs.{firstRefusal, Texts, end, stop, next}
 
 -- 01's example

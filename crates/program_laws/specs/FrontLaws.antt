@@ -30,8 +30,10 @@ use Rattle.demands.specs.Theorems.{demand-3}
 use Rattle.demands.specs.ReadingLaws.{drawn-back}
 use Rattle.part.specs.declared.Part.{Part}
 use Rattle.opening.specs.Trusted.Opening.{openingNumbers, openedBy}
-use Rattle.program.specs.Trusted.Program.{SheetsPrint, ended, stopped, added, After, Prints}
-use Rattle.program.specs.ProgramLaws.{grown, opened-good}
+use Rattle.sheets.specs.Trusted.Sheets.{SheetsPrint, ended, stopped, added}
+use Rattle.program.specs.Trusted.Program.{After, Prints}
+use Rattle.sheets.specs.SheetsLaws.{grown}
+use Rattle.program.specs.ProgramLaws.{opened-good}
 use Rattle.program_laws.specs.Front.{room}
 
 -- the most bytes of an accepted sheet for each of its tables

@@ -2,8 +2,10 @@ use Prim.Native.Nat.{ℕ}
 use native.Mathlib.Nat.{pos-of-ne-zero}
 use mathlib.Core.List.{List}
 use lib.ListN.{drop}
-use Rattle.program.specs.Trusted.Program.{SheetsPrint, Prints}
-use Rattle.program.specs.ProgramLaws.{opening-refused, opening-accepted, opening-sound, refused-line, accepted-list}
+use Rattle.sheets.specs.Trusted.Sheets.{SheetsPrint}
+use Rattle.sheets.specs.SheetsLaws.{refused-line, accepted-list}
+use Rattle.program.specs.Trusted.Program.{Prints}
+use Rattle.program.specs.ProgramLaws.{opening-refused, opening-accepted, opening-sound}
 use borrow.Author.Needs.{needs}
 use Rattle.program.proofs.run.Statement.{statement}
 use Rattle.program.proofs.run.Tie as tie

@@ -14,7 +14,7 @@ use Rattle.demands.specs.Trusted.Demands.{Demand2, Demand3}
 use Rattle.part.specs.Trusted.Listing.{listOf}
 use Rattle.part.specs.declared.Part.{Part}
 use Rattle.opening.specs.Trusted.Opening.{openingNumbers, count}
-use Rattle.program.specs.Trusted.Program.{refusalLine}
+use Rattle.printing.specs.Trusted.RefusalLine.{refusalLine}
 
 -- THE CALLS OF A TEXT, with their results: each adds the next sheet, up to the text's end or to the first that is refused
 pub data Texts : List ℕ → List Call → List Result → Type 0 where

@@ -5,9 +5,9 @@ use lib.ListN.{length}
 use Rattle.sheet.specs.Trusted.Answers.{drawnSheet}
 use Rattle.sheet.specs.Trusted.Formed.{WellFormed}
 use Rattle.part.proofs.Shape.{shaped}
-use Rattle.program.specs.ProgramLaws.{number-some, SoFar, so-far-start, so-far-more, few-sheets, on-the-way, ended-stop, ended-all, Stepped, next-formed, stepped-refused, stepped-offered}
-use Rattle.program.proofs.add_sheets.Statement.{statement}
-use Rattle.program.proofs.add_sheets.Tie as tie
+use Rattle.sheets.specs.SheetsLaws.{number-some, SoFar, so-far-start, so-far-more, few-sheets, on-the-way, ended-stop, ended-all, Stepped, next-formed, stepped-refused, stepped-offered}
+use Rattle.sheets.proofs.add_sheets.Statement.{statement}
+use Rattle.sheets.proofs.add_sheets.Tie as tie
 
 abbrev Inv-loop : tie.InvT-loop
 Inv-loop input start added₀ at₀ sheet₀ added at sheet = SoFar input (added₀ .part) start (added .part) at sheet

@@ -31,10 +31,10 @@ use Rattle.listing.specs.LineLaws.{fitted-out, fitted-in, list-there}
 use Rattle.listing.specs.declared.WriteAnswer.{WriteAnswer}
 use Rattle.listing.specs.declared.WriteAnswer.the-variants.{Wrote, NotSound, NoLine, NoRoom}
 use Rattle.list_line.proofs.Written.{number-written}
-use Rattle.program.specs.Trusted.Program.{refusalLine}
-use Rattle.program.specs.Contracts.{WrittenAs}
-use Rattle.program.specs.declared.Printed.{Printed}
-use Rattle.program.specs.declared.Printed.the-variants.{Wrote as Printed-Wrote, NoRoom as Printed-NoRoom}
+use Rattle.printing.specs.Trusted.RefusalLine.{refusalLine}
+use Rattle.printing.specs.Contracts.{WrittenAs}
+use Rattle.printing.specs.declared.Printed.{Printed}
+use Rattle.printing.specs.declared.Printed.the-variants.{Wrote as Printed-Wrote, NoRoom as Printed-NoRoom}
 
 -- ---- the list
 

@@ -1,9 +1,9 @@
 use mathlib.Core.Path.{sym, ap, _∙_}
 use Rattle.part.specs.Trusted.AddAnswers.{addingAnswer}
-use Rattle.program.specs.ProgramLaws.{told-misread}
+use Rattle.sheets.specs.SheetsLaws.{told-misread}
 use borrow.Author.Needs.{needs}
-use Rattle.program.proofs.tell_adding.Statement.{statement}
-use Rattle.program.proofs.tell_adding.Tie as tie
+use Rattle.sheets.proofs.tell_adding.Statement.{statement}
+use Rattle.sheets.proofs.tell_adding.Tie as tie
 
 enum-told : tie.Need-enum-told
 enum-told c = search needs

@@ -4,11 +4,11 @@ use Rattle.lists.specs.TestLaws.{reflects-true}
 use Rattle.part.specs.SoundLaws.{sound-reflects}
 use Rattle.part.specs.Trusted.Listing.{listOf}
 use Rattle.listing.specs.declared.WriteAnswer.{WriteAnswer}
-use Rattle.program.specs.Contracts.{WrittenAs}
-use Rattle.program.proofs.Printing.{printedOf, list-printed}
+use Rattle.printing.specs.Contracts.{WrittenAs}
+use Rattle.printing.proofs.Printing.{printedOf, list-printed}
 use borrow.Author.Needs.{needs}
-use Rattle.program.proofs.print_list.Statement.{statement}
-use Rattle.program.proofs.print_list.Tie as tie
+use Rattle.printing.proofs.print_list.Statement.{statement}
+use Rattle.printing.proofs.print_list.Tie as tie
 
 -- what is printed, by the answer
 printed : (c : tie.After-write-sound-list) {a : WriteAnswer} → c .write-sound-list .result ≡ a → let s = c .before .before .before in

@@ -3,10 +3,10 @@ use mathlib.Core.Path.{ap, _∙_}
 use denote.Ref.{now}
 use Rattle.decimal.specs.Writing.{signedWrittenAt}
 use lib.ListN.{length-set}
-use Rattle.program.proofs.Printing.{minus-held, minus-number, refusal-out, refusal-in}
+use Rattle.printing.proofs.Printing.{minus-held, minus-number, refusal-out, refusal-in}
 use borrow.Author.Needs.{needs}
-use Rattle.program.proofs.print_refusal.Statement.{statement}
-use Rattle.program.proofs.print_refusal.Tie as tie
+use Rattle.printing.proofs.print_refusal.Statement.{statement}
+use Rattle.printing.proofs.print_refusal.Tie as tie
 
 returns : tie.Need-returns
 returns c = let a = c .before .before .args in refusal-out (now (a .output)) (a .number) (a .sheet) (a .place) (omega arith)

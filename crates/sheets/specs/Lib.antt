@@ -1,0 +1,3 @@
+pub mod Trusted
+pub mod Contracts
+pub mod SheetsLaws
