@@ -7,7 +7,7 @@ lexicographically least key over all trees and all choices.
 
 `reached` keeps the set of ALL keys of every group of fanins, through every partition of the group into two or more blocks; it
 takes no key to be better than another before the end. `by_hand` lists the nested partitions of a group one by one, with every
-choice, and is held against it on small gates. Nothing here is shared with the search in crates/cover.
+choice, and is held against it on small gates. Nothing here is shared with the search in crates/search.
 
 Run: python3 tests/cover/exhaustive.py > crates/search_test/stdout
 """
