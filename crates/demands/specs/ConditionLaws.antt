@@ -29,7 +29,7 @@ use Rattle.part.specs.Trusted.Listing.{lineOf, listOf}
 use Rattle.list_line.specs.Trusted.Writes as Writes
 use Rattle.list_line.specs.Trusted.Writes.{wrote, pasted}
 use Rattle.listing.specs.Lines.{turnedDown, fitted, lineWritten, listWritten}
-use Rattle.demands.specs.Trusted.Demands.{OpeningCondition, bad-k, bad-capacity, OpeningTold, AddCondition, not-sound, out-driven, out-read, no-room, not-read, AddTold}
+use Rattle.demands.specs.Trusted.Demands.{OpeningCondition, bad-k, bad-capacity, OpeningTold, AddCondition, not-sound, out-driven, out-read, no-room, not-read, Addable, AddTold}
 use Rattle.demands.specs.Trusted.Demands.{WriteCondition, part-unsound, not-there, too-short, WriteTold}
 
 reflects-false : {b : Bool} {P : Type 0} → Reflects b P → ¬ P → b ≡ false
@@ -106,6 +106,11 @@ module _ (p : Part) (text : List ℕ) where
       tests-answer s h e (reflects-false (driven-reflects (s .out) (tablesOf p)) n) (reflects-true (read-reflects (s .out) (tablesOf p)) r) refl
   condition-answer (no-room s n h e f l m) = fresh-answer s h e f (reflects-false (fits-reflects s n h e l) (λ x. omega (arith, m, x)))
 
+  addable-answer : Addable p text → answerOf p (readOf text) ≡ accepted
+  addable-answer g =
+      fresh-answer (g .drawn) (g .sound) (g .read) (g .fresh)
+      (reflects-true (fits-reflects (g .drawn) (g .number) (g .sound) (g .read) (g .least)) (g .room))
+
   told : {a : Answer} {m l number place : ℕ} → a ≡ refused m l → a ≡ refused number place → AddCondition p text m l → AddCondition p text number place
   told e f c = moved (AddCondition p text) c (cc) (cc)
 
@@ -117,10 +122,21 @@ module _ (p : Part) (text : List ℕ) where
   found (full s n h g f l m r) e = told (r .1) e (no-room s n h g f l m)
   found (taken s h g f t room) e = absurd (not-refused e (t .answer))
 
-  -- an answer that no condition leads to is acceptance
-  passed : (a : Answer) → ((number place : ℕ) → ¬ (a ≡ refused number place)) → a ≡ accepted
-  passed accepted n = refl
-  passed (refused number place) n = absurd (n number place refl)
+  passed : {q : Part} {a : Answer} → AddCase p text q a → a ≡ accepted → Addable p text
+  passed (unsound n r) e = absurd (not-refused (r .1) e)
+  passed (misread m l h g r) e = absurd (not-refused (r .1) e)
+  passed (driven s h g d r) e = absurd (not-refused (r .1) e)
+  passed (read s h g d i r) e = absurd (not-refused (r .1) e)
+  passed (full s n h g f l m r) e = absurd (not-refused (r .1) e)
+  passed (taken s h g f t room) e = record {
+    drawn = s;
+    number = length (t .new);
+    sound = h;
+    read = g;
+    fresh = f;
+    least = t .least .fewest;
+    room = omega (arith, room);
+  }
 
   pub add-told : (q : Part) (a : Answer) → Add p text q a → AddTold p text q a
   add-told q a h =
@@ -128,7 +144,7 @@ module _ (p : Part) (text : List ℕ) where
       let e = add-answer p text q a h in
       record {
         refuses = λ m l. (found o, λ c. e ∙ condition-answer c);
-        accepts = (λ f m l c. not-refused (e ∙ condition-answer c) f, λ n. passed a (λ m l f. n m l (found o f)));
+        accepts = (passed o, λ g. e ∙ addable-answer g);
         stays = λ m l r. refused-stays p text q a m l h r;
       }
 

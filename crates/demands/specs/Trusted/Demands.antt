@@ -55,9 +55,19 @@ pub data AddCondition (p : Part) (text : List ℕ) : (number place : ℕ) → Ty
   no-room : (s : Circuit) (n : ℕ) → Sound p → readOf text ≡ sheet s → Fresh s (tablesOf p) → Least (p .k) (s .tree) n → p .capacity - p .used < n →
       AddCondition p text 23 0
 
+-- none of them
+pub record Addable (p : Part) (text : List ℕ) : Type 0 where
+  pub drawn : Circuit
+  pub number : ℕ
+  pub sound : Sound p
+  pub read : readOf text ≡ sheet drawn
+  pub fresh : Fresh drawn (tablesOf p)
+  pub least : Least (p .k) (drawn .tree) number
+  pub room : number ≤ p .capacity - p .used
+
 pub record AddTold (p : Part) (text : List ℕ) (q : Part) (a : Answer) : Type 0 where
   pub refuses : (number place : ℕ) → (a ≡ refused number place) ↔ AddCondition p text number place
-  pub accepts : (a ≡ accepted) ↔ ((number place : ℕ) → ¬ (AddCondition p text number place))
+  pub accepts : (a ≡ accepted) ↔ Addable p text
   pub stays : (number place : ℕ) → a ≡ refused number place → q ≡ p
 
 -- writing a line, and the list: 20, then 15 where what is to be written is not there, then 14 where the bytes `new` do not fit from the
