@@ -20,7 +20,7 @@ use Rattle.part.specs.Trusted.Reading.{sheet, readOf}
 use Rattle.part.specs.Trusted.Answers.{accepted, Result}
 use Rattle.part.specs.Trusted.Add.{opened, extended, Add}
 use Rattle.demands.specs.Trusted.Calls.{add, final, Chain, call}
-use Rattle.part.specs.Examples.{part}
+use Rattle.demands.specs.PartExamples.{part}
 use Rattle.part.specs.declared.Part.{Part}
 use Rattle.demands.specs.Trusted.Calls as calls
 use Rattle.demands.specs.Trusted.Demands as Demands

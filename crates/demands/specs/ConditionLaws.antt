@@ -10,7 +10,7 @@ use lib.ListN.{length}
 use Rattle.lists.specs.TestLaws.{Reflects, reflects-le, reflects-true, by-reflects}
 use Rattle.cover.specs.Trusted.Cover.{Least}
 use Rattle.plan.specs.Least.{least-unique}
-use Rattle.cover.specs.Trusted.CoverTables.{Circuit, Fresh}
+use Rattle.cover.specs.Trusted.CoverTables.{Circuit}
 use Rattle.table.specs.Trusted.Limits.{KRange, CapacityRange}
 use Rattle.part.specs.declared.Part.{Part}
 use Rattle.part.specs.Trusted.Parts.{tablesOf}
@@ -25,11 +25,11 @@ use Rattle.demands.specs.Determined as Determined
 use Rattle.demands.specs.Determined.{leastNumber, answerOf}
 use Rattle.demands.specs.ReadingLaws.{reads-right}
 use Rattle.demands.specs.DeterminedLaws.{least-number, add-answer}
-use Rattle.part.specs.Trusted.Listing.{lineOf, listOf}
+use Rattle.listing.specs.Trusted.Listing.{lineOf, listOf}
 use Rattle.list_line.specs.Trusted.Writes as Writes
 use Rattle.list_line.specs.Trusted.Writes.{wrote, pasted}
 use Rattle.listing.specs.Lines.{turnedDown, fitted, lineWritten, listWritten}
-use Rattle.demands.specs.Trusted.Demands.{OpeningCondition, bad-k, bad-capacity, OpeningTold, AddCondition, not-sound, out-driven, out-read, no-room, not-read, Addable, AddTold}
+use Rattle.demands.specs.Trusted.Demands.{OpeningCondition, bad-k, bad-capacity, OpeningTold, AddCondition, not-sound, out-driven, out-read, no-room, not-read, Passes, AddTold}
 use Rattle.demands.specs.Trusted.Demands.{WriteCondition, part-unsound, not-there, too-short, WriteTold}
 
 reflects-false : {b : Bool} {P : Type 0} → Reflects b P → ¬ P → b ≡ false
@@ -92,11 +92,10 @@ module _ (p : Part) (text : List ℕ) where
       fits s ≡ f → answerOf p (readOf text) ≡ cond d (refused 21 0) (cond r (refused 22 0) (cond f accepted (refused 23 0)))
   tests-answer s h e x y z = read-answer h e ∙ (λ i. cond (x i) (refused 21 0) (cond (y i) (refused 22 0) (cond (z i) accepted (refused 23 0))))
 
-  fresh-answer : (s : Circuit) {f : Bool} → Sound p → readOf text ≡ sheet s → Fresh s (tablesOf p) → fits s ≡ f →
-      answerOf p (readOf text) ≡ cond f accepted (refused 23 0)
-  fresh-answer s h e g =
-      tests-answer s h e (reflects-false (driven-reflects (s .out) (tablesOf p)) (λ d. g (d .0) (d .1) .0 (d .2)))
-      (reflects-false (read-reflects (s .out) (tablesOf p)) (λ r. g (r .0) (r .1) .1 (r .2)))
+  passes-answer : (s : Circuit) {f : Bool} → Passes p text s → fits s ≡ f → answerOf p (readOf text) ≡ cond f accepted (refused 23 0)
+  passes-answer s g =
+      tests-answer s (g .sound) (g .read) (reflects-false (driven-reflects (s .out) (tablesOf p)) (λ d. g .fresh (d .0) (d .1) .0 (d .2)))
+      (reflects-false (read-reflects (s .out) (tablesOf p)) (λ r. g .fresh (r .0) (r .1) .1 (r .2)))
 
   condition-answer : {number place : ℕ} → AddCondition p text number place → answerOf p (readOf text) ≡ refused number place
   condition-answer (not-sound n) = ap (λ b. cond b (Determined.taken p (readOf text)) (refused 20 0)) (reflects-false (sound-reflects p) n)
@@ -104,12 +103,7 @@ module _ (p : Part) (text : List ℕ) where
   condition-answer (out-driven s h e d) = tests-answer s h e (reflects-true (driven-reflects (s .out) (tablesOf p)) d) refl refl
   condition-answer (out-read s h e n r) =
       tests-answer s h e (reflects-false (driven-reflects (s .out) (tablesOf p)) n) (reflects-true (read-reflects (s .out) (tablesOf p)) r) refl
-  condition-answer (no-room s n h e f l m) = fresh-answer s h e f (reflects-false (fits-reflects s n h e l) (λ x. omega (arith, m, x)))
-
-  addable-answer : Addable p text → answerOf p (readOf text) ≡ accepted
-  addable-answer g =
-      fresh-answer (g .drawn) (g .sound) (g .read) (g .fresh)
-      (reflects-true (fits-reflects (g .drawn) (g .number) (g .sound) (g .read) (g .least)) (g .room))
+  condition-answer (no-room s n g l m) = passes-answer s g (reflects-false (fits-reflects s n (g .sound) (g .read) l) (λ x. omega (arith, m, x)))
 
   told : {a : Answer} {m l number place : ℕ} → a ≡ refused m l → a ≡ refused number place → AddCondition p text m l → AddCondition p text number place
   told e f c = moved (AddCondition p text) c (cc) (cc)
@@ -119,24 +113,17 @@ module _ (p : Part) (text : List ℕ) where
   found (misread m l h g r) e = told (r .1) e (not-read m l h g)
   found (driven s h g d r) e = told (r .1) e (out-driven s h g d)
   found (read s h g d i r) e = told (r .1) e (out-read s h g d i)
-  found (full s n h g f l m r) e = told (r .1) e (no-room s n h g f l m)
+  found (full s n h g f l m r) e = told (r .1) e (no-room s n (record { sound = h; read = g; fresh = f }) l m)
   found (taken s h g f t room) e = absurd (not-refused e (t .answer))
 
-  passed : {q : Part} {a : Answer} → AddCase p text q a → a ≡ accepted → Addable p text
+  passed : {q : Part} {a : Answer} → AddCase p text q a → a ≡ accepted →
+      (s : Circuit) × (n : ℕ) × Passes p text s × Least (p .k) (s .tree) n × (n ≤ p .capacity - p .used)
   passed (unsound n r) e = absurd (not-refused (r .1) e)
   passed (misread m l h g r) e = absurd (not-refused (r .1) e)
   passed (driven s h g d r) e = absurd (not-refused (r .1) e)
   passed (read s h g d i r) e = absurd (not-refused (r .1) e)
   passed (full s n h g f l m r) e = absurd (not-refused (r .1) e)
-  passed (taken s h g f t room) e = record {
-    drawn = s;
-    number = length (t .new);
-    sound = h;
-    read = g;
-    fresh = f;
-    least = t .least .fewest;
-    room = omega (arith, room);
-  }
+  passed (taken s h g f t room) e = (s, length (t .new), record { sound = h; read = g; fresh = f }, t .least .fewest, omega (arith, room))
 
   pub add-told : (q : Part) (a : Answer) → Add p text q a → AddTold p text q a
   add-told q a h =
@@ -144,7 +131,7 @@ module _ (p : Part) (text : List ℕ) where
       let e = add-answer p text q a h in
       record {
         refuses = λ m l. (found o, λ c. e ∙ condition-answer c);
-        accepts = (passed o, λ g. e ∙ addable-answer g);
+        accepts = (passed o, λ g. e ∙ passes-answer (g .0) (g .2) (reflects-true (fits-reflects (g .0) (g .1) (g .2 .sound) (g .2 .read) (g .3)) (g .4)));
         stays = λ m l r. refused-stays p text q a m l h r;
       }
 

@@ -11,6 +11,7 @@ pub mod FreeLaws
 pub mod ListingLaws
 pub mod ConditionLaws
 pub mod Theorems
+pub mod PartExamples
 pub mod ChainExample
 pub mod AnswerExamples
 pub mod Determined

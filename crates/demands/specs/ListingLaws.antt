@@ -21,7 +21,8 @@ use Rattle.part.specs.Trusted.Parts.{inUse, Shaped}
 use Rattle.part.specs.Trusted.Sound.{Sound}
 use Rattle.part.specs.SoundLaws.{used-count}
 use Rattle.demands.specs.ExtendLaws.{every-take, every-drop}
-use Rattle.part.specs.Trusted.Listing.{tableLine, lineOf, listOf}
+use Rattle.list_line.specs.Trusted.TableLine.{tableLine}
+use Rattle.listing.specs.Trusted.Listing.{lineOf, listOf}
 use Rattle.table.specs.declared.Table.{Table}
 use Rattle.part.specs.declared.Part.{Part}
 

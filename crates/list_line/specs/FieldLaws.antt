@@ -11,7 +11,7 @@ use Rattle.decimal.specs.Trusted.Columns.{fieldOf, fieldsOf}
 use Rattle.decimal.specs.ColumnLaws.{field-length}
 use Rattle.table.specs.declared.Table.{Table}
 use Rattle.table.specs.Trusted.Records.{reads}
-use Rattle.part.specs.Trusted.Listing.{tableLine}
+use Rattle.list_line.specs.Trusted.TableLine.{tableLine}
 use Rattle.list_line.specs.Line.{tableWidth}
 
 pub fields-length : (ns : List ℕ) → length (fieldsOf ns) ≡ 6 * length ns

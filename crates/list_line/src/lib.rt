@@ -5,7 +5,7 @@ ghost use Prim.Native.Nat.{_+_, _*_, _≤_};
 ghost use lib.Dec.{leb};
 ghost use lib.ListN.{length, take};
 ghost use Rattle.decimal.specs.Trusted.Columns.{fieldOf, fieldsOf};
-ghost use Rattle.part.specs.Trusted.Listing.{tableLine};
+ghost use Rattle.list_line.specs.Trusted.TableLine.{tableLine};
 ghost use Rattle.list_line.specs.Trusted.Writes.{pasted};
 ghost use Rattle.list_line.specs.Line.{topLine, tableWidth};
 use table::Table;

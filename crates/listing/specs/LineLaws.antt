@@ -19,7 +19,8 @@ use Rattle.part.specs.Trusted.Parts.{inUse}
 use Rattle.part.specs.Trusted.Sound.{Sound}
 use Rattle.part.specs.Trusted.SoundTest.{sound}
 use Rattle.part.specs.SoundLaws.{sound-reflects}
-use Rattle.part.specs.Trusted.Listing.{tableLine, lineOf, listOf}
+use Rattle.list_line.specs.Trusted.TableLine.{tableLine}
+use Rattle.listing.specs.Trusted.Listing.{lineOf, listOf}
 use Rattle.list_line.specs.Trusted.Writes.{wrote, pasted}
 use Rattle.list_line.specs.FieldLaws.{table-length}
 use Rattle.list_line.specs.Line.{tableWidth, topLine}

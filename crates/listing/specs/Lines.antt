@@ -10,7 +10,8 @@ use Rattle.table.specs.Trusted.Limits.{inputRoom, tableRoom}
 use Rattle.table.specs.Trusted.Records.{blank}
 use Rattle.part.specs.declared.Part.{Part}
 use Rattle.part.specs.Trusted.SoundTest.{sound}
-use Rattle.part.specs.Trusted.Listing.{tableLine, lineOf, listOf}
+use Rattle.list_line.specs.Trusted.TableLine.{tableLine}
+use Rattle.listing.specs.Trusted.Listing.{lineOf, listOf}
 use Rattle.list_line.specs.Trusted.Writes.{wrote, refused, WriteOutcome, pasted}
 
 -- turned down: no byte is altered

@@ -3,7 +3,6 @@ pub mod Sound
 pub mod Reading
 pub mod Answers
 pub mod OpenAnswers
-pub mod Listing
 pub mod Add
 pub mod AddAnswers
 pub mod SoundTest

@@ -10,7 +10,7 @@ ghost use Rattle.table.specs.Trusted.Limits.{tableRoom};
 ghost use Rattle.table.specs.Trusted.RecordTest.{isBlank, isNone, walk};
 ghost use Rattle.part.specs.Trusted.Answers.{empty as emptyPart};
 ghost use Rattle.part.specs.Trusted.Add.{opened};
-ghost use Rattle.part.specs.Trusted.OpenAnswers.{openedResult};
+ghost use Rattle.part.specs.Trusted.OpenAnswers.{openingAnswer};
 ghost use Rattle.part.specs.Trusted.Parts.{inUse};
 ghost use Rattle.part.specs.Trusted.SoundTest.{sound as isSound};
 use record_rules::is_blank;
@@ -112,7 +112,7 @@ fn rest_blank(p: Part) -> bool
 impl Part {
     // A part of no tables. K is tested before the capacity.
     pub fn open(k: u32, capacity: u32) -> Opened
-        ensures { λ r. ⌜ openedResult r ≡ opened k capacity ⌝ }
+        ensures { λ r. ⌜ record { part = r .part; answer = openingAnswer (r .answer) } ≡ opened k capacity ⌝ }
     {
         if within(2, INPUT_ROOM, k) {
             if within(1, TABLE_ROOM, capacity) {

@@ -21,7 +21,7 @@ use Rattle.decimal.proofs.SignLaws.{minus-bits, negated-fits}
 use Rattle.decimal.specs.declared.Written.{Written}
 use Rattle.part.specs.Trusted.Sound.{Sound}
 use Rattle.part.specs.SoundLaws.{sound-reflects}
-use Rattle.part.specs.Trusted.Listing.{listOf}
+use Rattle.listing.specs.Trusted.Listing.{listOf}
 use Rattle.part.specs.declared.Part.{Part}
 use Rattle.list_line.specs.Trusted.Writes.{WriteOutcome, wrote, refused, pasted}
 use Rattle.listing.specs.Trusted.WriteAnswers.{resultOf}

@@ -2,7 +2,7 @@
 // `program` alone calls these, and proves what they ask for.
 ghost use Prim.Native.Nat.{_<_};
 ghost use Rattle.part.specs.Trusted.Sound.{Sound};
-ghost use Rattle.part.specs.Trusted.Listing.{listOf};
+ghost use Rattle.listing.specs.Trusted.Listing.{listOf};
 ghost use Rattle.printing.specs.Trusted.RefusalLine.{refusalLine};
 ghost use Rattle.printing.specs.Contracts.{WrittenAs};
 use part::Part;

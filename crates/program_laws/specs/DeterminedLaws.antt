@@ -18,7 +18,7 @@ use Rattle.part.specs.Trusted.Add.{opened, Add}
 use Rattle.demands.specs.AddLaws.{kept, outcome, opened-shaped, opened-sound, not-refused}
 use Rattle.demands.specs.Trusted.Calls.{Call, add, final, Chain, done, call}
 use Rattle.demands.specs.CountLaws.{call-kept}
-use Rattle.part.specs.Trusted.Listing.{listOf}
+use Rattle.listing.specs.Trusted.Listing.{listOf}
 use Rattle.demands.specs.Determined.{Alike}
 use Rattle.demands.specs.DeterminedLaws.{alike-refl, answers-determined}
 use Rattle.part.specs.declared.Part.{Part}

@@ -29,7 +29,7 @@ use Rattle.part.specs.Trusted.Add.{Offer, Add}
 use Rattle.demands.specs.AddLaws.{AddCase, unsound, misread, driven, read, full, taken, outcome, kept, not-refused}
 use Rattle.part.specs.Storing.{sheetOf}
 use Rattle.part.specs.StoringLaws.{add-misread, add-offered}
-use Rattle.part.specs.Trusted.Listing.{listOf}
+use Rattle.listing.specs.Trusted.Listing.{listOf}
 use Rattle.part.specs.declared.Part.{Part}
 use Rattle.opening.specs.Contracts.{told}
 use Rattle.opening.specs.declared.Told.{Told}

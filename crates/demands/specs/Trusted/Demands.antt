@@ -22,7 +22,7 @@ use Rattle.part.specs.Trusted.Sound.{Sound}
 use Rattle.part.specs.Trusted.Reading.{sheet, refused as unread, readOf}
 use Rattle.part.specs.Trusted.Answers.{Answer, accepted, refused, Result, empty}
 use Rattle.part.specs.Trusted.Add.{opened, Add}
-use Rattle.part.specs.Trusted.Listing.{lineOf, listOf}
+use Rattle.listing.specs.Trusted.Listing.{lineOf, listOf}
 use Rattle.part.specs.declared.Part.{Part}
 use Rattle.list_line.specs.Trusted.Writes as Writes
 use Rattle.list_line.specs.Trusted.Writes.{wrote, pasted}
@@ -46,28 +46,24 @@ pub record OpeningTold (k capacity : ℕ) (r : Result) : Type 0 where
   pub accepts : (r .answer ≡ accepted) ↔ (KRange k × CapacityRange capacity)
   pub zeros : (number place : ℕ) → r .answer ≡ refused number place → r .part ≡ empty 0 0
 
+-- no condition that an add tests before 23 holds, and the sheet is s
+pub record Passes (o : Part) (text : List ℕ) (s : Circuit) : Type 0 where
+  pub sound : Sound o
+  pub read : readOf text ≡ sheet s
+  pub fresh : Fresh s (tablesOf o)
+
 -- adding: 20, then those of the sheet, which `readOf` states in 01's order, then 21, 22 and 23
 pub data AddCondition (p : Part) (text : List ℕ) : (number place : ℕ) → Type 0 where
   not-sound : ¬ (Sound p) → AddCondition p text 20 0
   not-read : (number place : ℕ) → Sound p → readOf text ≡ unread number place → AddCondition p text number place
   out-driven : (s : Circuit) → Sound p → readOf text ≡ sheet s → Driven (s .out) (tablesOf p) → AddCondition p text 21 0
   out-read : (s : Circuit) → Sound p → readOf text ≡ sheet s → ¬ (Driven (s .out) (tablesOf p)) → Read (s .out) (tablesOf p) → AddCondition p text 22 0
-  no-room : (s : Circuit) (n : ℕ) → Sound p → readOf text ≡ sheet s → Fresh s (tablesOf p) → Least (p .k) (s .tree) n → p .capacity - p .used < n →
-      AddCondition p text 23 0
+  no-room : (s : Circuit) (n : ℕ) → Passes p text s → Least (p .k) (s .tree) n → p .capacity - p .used < n → AddCondition p text 23 0
 
--- none of them
-pub record Addable (p : Part) (text : List ℕ) : Type 0 where
-  pub drawn : Circuit
-  pub number : ℕ
-  pub sound : Sound p
-  pub read : readOf text ≡ sheet drawn
-  pub fresh : Fresh drawn (tablesOf p)
-  pub least : Least (p .k) (drawn .tree) number
-  pub room : number ≤ p .capacity - p .used
-
+-- accepted is what passes, with a least number that is not above the number left
 pub record AddTold (p : Part) (text : List ℕ) (q : Part) (a : Answer) : Type 0 where
   pub refuses : (number place : ℕ) → (a ≡ refused number place) ↔ AddCondition p text number place
-  pub accepts : (a ≡ accepted) ↔ Addable p text
+  pub accepts : (a ≡ accepted) ↔ ((s : Circuit) × (n : ℕ) × Passes p text s × Least (p .k) (s .tree) n × (n ≤ p .capacity - p .used))
   pub stays : (number place : ℕ) → a ≡ refused number place → q ≡ p
 
 -- writing a line, and the list: 20, then 15 where what is to be written is not there, then 14 where the bytes `new` do not fit from the
@@ -142,12 +138,6 @@ pub data Total (k : ℕ) : List Circuit → ℕ → Type 0 where
 -- the number left, from the start p on, after sheets whose least numbers have the sum n
 abbrev pub left : Part → ℕ → ℕ
 left p n = p .capacity - p .used - n
-
--- no condition that an add tests before 23 holds, and the sheet is s
-pub record Passes (o : Part) (text : List ℕ) (s : Circuit) : Type 0 where
-  pub sound : Sound o
-  pub read : readOf text ≡ sheet s
-  pub fresh : Fresh s (tablesOf o)
 
 -- the tables `new` were taken for the sheet s: the records put after the old ones are theirs, they "are those of one of its covers, and
 -- their number is its least number" and the used count handed back less the one handed in

@@ -1,8 +1,7 @@
 -- What a write into a buffer comes to: its result, and the buffer's bytes after it. Definitions only.
-use Prim.Native.Nat.{ℕ}
-use mathlib.Core.List.{List}
-use lib.ListN.{length}
-use Rattle.decimal.specs.Trusted.Columns.{placed}
+use Prim.Native.Nat.{ℕ, _+_}
+use mathlib.Core.List.{List, _++_}
+use lib.ListN.{length, take, drop}
 
 -- so many bytes are written; or refused, with 01's number and place
 pub data WriteResult : Type 0 where
@@ -15,4 +14,4 @@ pub record WriteOutcome : Type 0 where
 
 -- the new bytes stand from the place on, and all others are as they were
 abbrev pub pasted : List ℕ → ℕ → List ℕ → List ℕ
-pasted old at new = placed old at (length new) new
+pasted old at new = take at old ++ (new ++ drop (at + length new) old)

@@ -7,7 +7,7 @@ use lib.ListN.{length, getD}
 use Rattle.table.specs.LoopLaws.{getD-any}
 use Rattle.table.specs.Trusted.Records.{blank}
 use Rattle.part.proofs.Shape.{shaped, past}
-use Rattle.part.specs.Trusted.Listing.{tableLine}
+use Rattle.list_line.specs.Trusted.TableLine.{tableLine}
 use Rattle.list_line.specs.Trusted.Writes.{pasted}
 use Rattle.list_line.specs.Line.{tableWidth}
 use Rattle.listing.specs.Lines.{tableLines}

@@ -9,7 +9,8 @@ use Rattle.table.specs.LoopLaws.{getD-any}
 use Rattle.table.specs.Trusted.Records.{blank}
 use mathlib.Core.Bool.{true}
 use Rattle.part.specs.Trusted.SoundTest.{sound}
-use Rattle.part.specs.Trusted.Listing.{tableLine, lineOf}
+use Rattle.list_line.specs.Trusted.TableLine.{tableLine}
+use Rattle.listing.specs.Trusted.Listing.{lineOf}
 use Rattle.part.proofs.Shape.{shaped, past}
 use Rattle.list_line.specs.Trusted.Writes.{wrote, pasted}
 use Rattle.list_line.specs.Line.{tableWidth}

@@ -11,7 +11,7 @@ use Rattle.part.specs.Trusted.Answers.{Answer, accepted, refused, Result}
 use Rattle.part.specs.Trusted.Add.{opened}
 use Rattle.demands.specs.Trusted.Calls.{Call, add, final, Chain}
 use Rattle.demands.specs.Trusted.Demands.{Demand2, Demand3}
-use Rattle.part.specs.Trusted.Listing.{listOf}
+use Rattle.listing.specs.Trusted.Listing.{listOf}
 use Rattle.part.specs.declared.Part.{Part}
 use Rattle.opening.specs.Trusted.Opening.{openingNumbers, count}
 use Rattle.printing.specs.Trusted.RefusalLine.{refusalLine}

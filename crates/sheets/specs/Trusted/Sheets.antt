@@ -6,7 +6,7 @@ use lib.ListN.{length}
 use Rattle.sheet.specs.Trusted.Cut.{sheetText}
 use Rattle.part.specs.Trusted.Answers.{accepted, refused}
 use Rattle.part.specs.Trusted.Add.{Add}
-use Rattle.part.specs.Trusted.Listing.{listOf}
+use Rattle.listing.specs.Trusted.Listing.{listOf}
 use Rattle.part.specs.declared.Part.{Part}
 use Rattle.printing.specs.Trusted.RefusalLine.{refusalLine}
 

@@ -3,14 +3,10 @@ use Prim.Native.Nat.{ℕ, zero, suc}
 use mathlib.Core.List.{List, [], _∷_, _++_}
 use lib.ListN.{getD}
 use Rattle.lists.specs.Trusted.Lists.{gather, upto}
-use Rattle.decimal.specs.Trusted.Columns.{fieldOf, fieldsOf}
-use Rattle.table.specs.Trusted.Records.{reads, blank}
-use Rattle.table.specs.declared.Table.{Table}
+use Rattle.decimal.specs.Trusted.Columns.{fieldsOf}
+use Rattle.table.specs.Trusted.Records.{blank}
 use Rattle.part.specs.declared.Part.{Part}
-
--- the line of table t
-abbrev pub tableLine : ℕ → Table → List ℕ
-tableLine t r = fieldsOf (t ∷ r .net ∷ r .count ∷ reads r) ++ (fieldOf 21 (r .truth) ++ 10 ∷ [])
+use Rattle.list_line.specs.Trusted.TableLine.{tableLine}
 
 abbrev pub lineOf : Part → ℕ → List ℕ
 lineOf p zero = fieldsOf (p .k ∷ p .capacity ∷ p .used ∷ []) ++ 10 ∷ []
