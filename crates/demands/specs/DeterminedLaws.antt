@@ -130,7 +130,8 @@ module _ (p : Part) (shape : Shaped p) (text : List ℕ) where
     k = ap (λ q. q .k) (t .part);
     capacity = ap (λ q. q .capacity) (t .part);
     used = ap (λ q. q .used) (t .part) ∙ ap (λ n. p .used + n) (least-unique (t .least .fewest) (least-number (p .k) (h .k-range .0) s (reads-right text s e)));
-    sound = reflects-true (sound-reflects q) (subst Sound (sym (t .part)) (extended-sound p shape h (t .new) s (t .least .added) f room));
+    sound = reflects-true (sound-reflects q)
+        (subst Sound (sym (t .part)) (extended-sound p shape h (t .new) s (reads-right text s e .legal) (t .least .added) f room));
     driven = λ n l. reflects-same (driven-reflects n (tablesOf q)) (reflects-or (driven-reflects n (tablesOf p)) (reflects-eq (s .out) n))
         (λ d. drives-after tableBase (p .k) (tablesOf p) (t .new) s (t .least .added) n (l .0) (subst (λ ts. Driven n ts) grown d))
         (λ d. subst (λ ts. Driven n ts) (sym grown) (drives-still tableBase (p .k) (tablesOf p) (t .new) s (t .least .added) n d));
