@@ -10,7 +10,8 @@ use lib.Dec.{T, leb, eqb}
 use lib.ListN.{length}
 use Rattle.lists.specs.Trusted.Tests.{elem, either}
 use Rattle.lists.specs.TestLaws.{reflects-le, reflects-eq, reflects-or, reflects-elem, by-reflects, reflects-same, reflects-true}
-use Rattle.tree.specs.Trusted.Tree.{proper, leaves}
+use Rattle.tree.specs.Trusted.Tree.{proper}
+use Rattle.tree.specs.Leaves.{leaves}
 use Rattle.cover.specs.Trusted.Cover.{Least}
 use Rattle.plan.specs.Least.{least-unique, least-tables, least-is}
 use Rattle.cover.specs.Trusted.CoverTables.{Circuit, Fresh}

@@ -11,7 +11,8 @@ use Rattle.lists.specs.ListLaws.{every-none, every-cons, every-head, every-at, 
 use Rattle.lists.specs.MixLaws.{paired-append}
 use Rattle.lists.specs.NumberLaws.{sum-append, sum-same, sum-none}
 use Rattle.tree.specs.declared.Kind.{Kind}
-use Rattle.tree.specs.Trusted.Tree.{Node, leaf, gate, leaves, leaves*}
+use Rattle.tree.specs.Trusted.Tree.{Node, leaf, gate}
+use Rattle.tree.specs.Leaves.{leaves, leaves*}
 use Rattle.plan.specs.declared.Key.{Key}
 use Rattle.plan.specs.declared.Token.{Token}
 use Rattle.cover.specs.Trusted.Cover.{Cover, net, top, tables, split}

@@ -10,7 +10,8 @@ use lib.Dec.{T}
 use Rattle.lists.specs.Trusted.Lists.{Every, Inserted, here, there, Permuted, empty, more, gather}
 use Rattle.lists.specs.ListLaws.{every-none, every-cons, every-head, every-tail, every-append, gather-append, permuted-refl, permuted-insert, permuted-sym, permuted-trans, permuted-append, permuted-swap, permuted-to, permuted-length, gather-permuted, gather-same, interchange}
 use Rattle.tree.specs.declared.Kind.{Kind}
-use Rattle.tree.specs.Trusted.Tree.{Node, leaf, Edges, leaves, leaves*, many, proper, propers}
+use Rattle.tree.specs.Trusted.Tree.{Node, leaf, Edges, many, proper, propers}
+use Rattle.tree.specs.Leaves.{leaves, leaves*}
 use Rattle.sheet.specs.Trusted.Limits.{gateBase, mostLeaves}
 use Rattle.sheet.specs.declared.Source.{Source}
 use Rattle.sheet.specs.declared.Source.the-variants.{Net as net, Gate as gate}
