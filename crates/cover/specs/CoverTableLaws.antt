@@ -8,7 +8,7 @@ use mathlib.Core.List.{List}
 use lib.ListN.{length}
 use Rattle.lists.specs.Trusted.Lists.{_∈_, Every, Rising}
 use Rattle.lists.specs.ListLaws.{permuted-to, permuted-from}
-use Rattle.tree.specs.Trusted.Tree.{leaves}
+use Rattle.tree.specs.Leaves.{leaves}
 use Rattle.cover.specs.Trusted.Tables.{LookupTable, numbered}
 use Rattle.cover.specs.Eval.{numbered-is, numbered-one}
 use Rattle.cover.specs.Trusted.Placed.{number}
@@ -16,15 +16,16 @@ use Rattle.cover.specs.Size.{SizedTable, fits-sized}
 use Rattle.cover.specs.Rising.{records-rising}
 use Rattle.cover.specs.Inputs.{Tidy, root-reads, root-in}
 use Rattle.cover.specs.Trusted.CoverTables.{Circuit, CoverTables}
+use Rattle.cover.specs.Legal.{Legal}
 
 module _ (base K : ℕ) (old new : List LookupTable) (s : Circuit) (a : CoverTables base K old new s) where
   pub added-sized : Every (SizedTable K) (numbered (length old) new)
   added-sized = permuted-from (a .taken) (fits-sized base K (a .cover) (s .out) (s .inverted) (a .covers .fits) .1)
 
-  pub added-rising : Every (λ p. Rising (p .1 .inputs)) (numbered (length old) new)
-  added-rising =
+  pub added-rising : Legal base s → Every (λ p. Rising (p .1 .inputs)) (numbered (length old) new)
+  added-rising legal =
       permuted-from (a .taken)
-      (records-rising base (s .out) (length old) (s .inverted) new (a .covers .split) (λ x m. a .legal .leaf-nets x m .1) (a .legal .leaf-once) (a .taken))
+      (records-rising base (s .out) (length old) (s .inverted) new (a .covers .split) (λ x m. legal .leaf-nets x m .1) (legal .leaf-once) (a .taken))
 
   -- a leaf of the sheet, or a new table
   abbrev pub CodeSource : ℕ → Type 0

@@ -10,7 +10,8 @@ use lib.ListN.{length}
 use Rattle.lists.specs.Trusted.Lists.{Every}
 use Rattle.lists.specs.ListLaws.{every-cons, every-head, every-append, every-left, every-right, permuted-to}
 use Rattle.tree.specs.declared.Kind.{Kind}
-use Rattle.tree.specs.Trusted.Tree.{Node, leaf, gate, Edges, none, edge, leaves, leaves*, turned, meet, value, values}
+use Rattle.tree.specs.Trusted.Tree.{Node, leaf, gate, Edges, none, edge, turned, meet, value, values}
+use Rattle.tree.specs.Leaves.{leaves, leaves*}
 use Rattle.cover.specs.Trusted.Tables.{LookupTable, Placed, numbered, writes, run, settled}
 use Rattle.cover.specs.Eval.{Agree, driven-in, numbered-is, settled-append, ValuesHold, uses, Untouched, holds-on, run-holds}
 use Rattle.cover.specs.Trusted.Placed.{number}
@@ -18,6 +19,7 @@ use Rattle.cover.specs.Value.{root-value}
 use Rattle.cover.specs.Inputs.{Tidy}
 use Rattle.cover.specs.CoverTableLaws.{added-tidy}
 use Rattle.cover.specs.Trusted.CoverTables.{Circuit, CoverTables, Fresh}
+use Rattle.cover.specs.Legal.{Legal}
 use Rattle.cover.specs.History.{Met}
 
 -- a tree looks at nothing but its leaves
@@ -32,12 +34,12 @@ mutual
       ap₂ (λ a b. meet k (turned i a) b) (value-same t d e (every-left (leaves t) (leaves* es) h))
       (values-same es k d e (every-right (leaves t) (leaves* es) h))
 
-module _ (base K : ℕ) (old new : List LookupTable) (s : Circuit) (a : CoverTables base K old new s) where
+module _ (base K : ℕ) (old new : List LookupTable) (s : Circuit) (legal : Legal base s) (a : CoverTables base K old new s) where
   -- the new tables do not read the output net, and only the root's drives it
   new-tidy : Every (Tidy (s .out) (number (a .cover)) (λ x. x ≢ s .out)) (numbered (length old) new)
   new-tidy p m =
       let t = added-tidy base K old new s a p m in
-      (t .0, λ x i. ⊎-elim (λ l. a .legal .leaf-nets x l .2) (λ r. omega (arith, r .1, a .legal .out-net)) (t .1 x i))
+      (t .0, λ x i. ⊎-elim (λ l. legal .leaf-nets x l .2) (λ r. omega (arith, r .1, legal .out-net)) (t .1 x i))
 
   -- a new table writes its own code and, if it is the root's, the output net
   new-writes : Every (λ p. Every (λ c. (c ≡ base + p .0) ⊎ ((c ≡ s .out) × (p .0 ≡ number (a .cover)))) (writes base p)) (numbered (length old) new)
@@ -51,7 +53,7 @@ module _ (base K : ℕ) (old new : List LookupTable) (s : Circuit) (a : CoverTab
 
   pub new-low : Every LowCodes (numbered (length old) new)
   new-low p m =
-      let o = a .legal .out-net in
+      let o = legal .out-net in
       every-append (writes base p) (p .1 .inputs)
       (λ c i. ⊎-elim (λ e. (omega arith, λ q. omega arith)) (λ f. (omega arith, λ q. omega arith)) (new-writes p m c i))
       (λ c i. (let l = a .earlier p m c i in omega arith, λ q. absurd (new-tidy p m .1 c i q)))
@@ -68,7 +70,7 @@ module _ (base K : ℕ) (old new : List LookupTable) (s : Circuit) (a : CoverTab
 
   -- wherever its tables hold, the sheet is met
   pub holds-met : (e : ℕ → Bool) → Every (ValuesHold base e) (numbered (length old) new) → Met e s
-  holds-met e h = root-value base e (s .out) (s .inverted) (a .covers .split) (a .covers .root) (a .legal .out-net .0) (permuted-to (a .taken) h)
+  holds-met e h = root-value base e (s .out) (s .inverted) (a .covers .split) (a .covers .root) (legal .out-net .0) (permuted-to (a .taken) h)
 
   -- a table of the part goes on holding, where it uses no later one, and not the output net
   pub old-holds : Fresh s old → Every (λ p. Every (λ c. c ≤ base + p .0) (uses base p)) (numbered 0 old) → (e : ℕ → Bool) →
@@ -78,7 +80,7 @@ module _ (base K : ℕ) (old new : List LookupTable) (s : Circuit) (a : CoverTab
       let g = f (p .1) (r .2) in
       let u : Every (λ c. c ≢ s .out) (uses base p) =
       every-append (writes base p) (p .1 .inputs)
-      (every-cons (omega (arith, a .legal .out-net)) (λ c i e. g .0 (sym (driven-in (p .1 .drives) c i .0) ∙ e)))
+      (every-cons (omega (arith, legal .out-net)) (λ c i e. g .0 (sym (driven-in (p .1 .drives) c i .0) ∙ e)))
       (λ c i e. g .1 (Memᴰ·cast (sym e) i)) in
       holds-on base p (numbered (length old) new) e
       (λ q n. new-clear p (λ c i. (l p m c i, λ e. absurd (u c i e))) q n (omega (arith, numbered-is (length old) new q n .0))) (h p m)

@@ -9,7 +9,8 @@ use Rattle.lists.specs.Trusted.Lists.{_∈_, first, Every}
 use Rattle.lists.specs.ListLaws.{every-none, every-cons, every-head, every-append, every-left, every-right, permuted-to, permuted-from}
 use Rattle.lists.specs.NumberLaws.{sorted-permuted}
 use Rattle.tree.specs.declared.Kind.{Kind}
-use Rattle.tree.specs.Trusted.Tree.{Node, leaves}
+use Rattle.tree.specs.Trusted.Tree.{Node}
+use Rattle.tree.specs.Leaves.{leaves}
 use Rattle.cover.specs.Trusted.Cover.{Cover, net, top, Fanins, end, old, new, SplitOf, Rooted, rooted}
 use Rattle.cover.specs.Nets.{nets, nets*, split-nets}
 use Rattle.cover.specs.Trusted.Tables.{LookupTable, Placed}

@@ -7,6 +7,7 @@ pub mod Inputs
 pub mod Size
 pub mod Rising
 pub mod Whole
+pub mod Legal
 pub mod History
 pub mod HistoryLaws
 pub mod CoverTableLaws

@@ -12,7 +12,8 @@ use Rattle.lists.specs.Trusted.Lists.{Every, Sorted, Rising, Distinct, Permuted
 use Rattle.lists.specs.ListLaws.{every-none, every-cons, every-append}
 use Rattle.lists.specs.NumberLaws.{sum-append, sum-permuted, one-if, is, times, sorted-permuted, sorted-sorted, no-times, distinct-times, sorted-rising}
 use Rattle.tree.specs.declared.Kind.{Kind}
-use Rattle.tree.specs.Trusted.Tree.{Node, leaves}
+use Rattle.tree.specs.Trusted.Tree.{Node}
+use Rattle.tree.specs.Leaves.{leaves}
 use Rattle.cover.specs.Trusted.Cover.{Cover, net, top, Fanins, end, old, new, SplitOf}
 use Rattle.cover.specs.Trusted.Tables.{LookupTable, Placed, numbered}
 use Rattle.cover.specs.Trusted.Placed.{code, codes, codes*, tableOf, placed, records, records*}

@@ -26,6 +26,7 @@ use Rattle.part.specs.Trusted.Reading.{CircuitReading, sheet, refused as unread
 use Rattle.part.specs.Trusted.Answers.{Answer, accepted, refused, Result, empty}
 use Rattle.part.specs.Trusted.Add.{opened, isDriven, isRead, Refused, Accepted, Take, Add}
 use Rattle.demands.specs.Trusted.Nets.{Driven, Read}
+use Rattle.demands.specs.ReadingLaws.{reads-right}
 use Rattle.demands.specs.ExtendLaws.{every-replicate, every-numbered, extended-shaped, extended-sound}
 use Rattle.part.specs.declared.Part.{Part}
 
@@ -138,11 +139,11 @@ module _ (p : Part) (shape : Shaped p) where
   kept (driven s h e d r) = same-kept _ (r .0)
   kept (read s h e d i r) = same-kept _ (r .0)
   kept (full s n h e f l m r) = same-kept _ (r .0)
-  kept (taken s h e f t room) = subst (λ q. Kept p q) (sym (t .part)) (record {
+  kept {text} (taken s h e f t room) = subst (λ q. Kept p q) (sym (t .part)) (record {
     same-k = refl;
     same-capacity = refl;
     shaped = extended-shaped p shape h (t .new) room narrow;
-    sound = λ g. extended-sound p shape h (t .new) s (t .least .added) f room;
+    sound = λ g. extended-sound p shape h (t .new) s (reads-right text s e .legal) (t .least .added) f room;
   })
     where
       narrow : Every (λ u. length (u .inputs) ≤ inputRoom) (t .new)

@@ -93,14 +93,6 @@ least-2 = record { some = (_, cover-2, refl); none-fewer = λ c h. one-table c (
 added-1 : LeastCoverTables 1000 4 [] table-1 first
 added-1 = record {
   added = record {
-    legal = record {
-      out-net = omega arith;
-      leaf-nets = every-cons (omega arith) (every-cons (omega arith) (two _ (omega arith) (omega arith)));
-      leaf-once = (
-        every-cons (omega arith) (two _ (omega arith) (omega arith)),
-        (two _ (omega arith) (omega arith), (every-cons (omega arith) (every-none _), (every-none _, tt))),
-      );
-    };
     cover = _;
     covers = cover-1;
     taken = permuted-refl _;
@@ -113,11 +105,6 @@ added-1 = record {
 added-2 : LeastCoverTables 1000 4 table-1 table-2 second
 added-2 = record {
   added = record {
-    legal = record {
-      out-net = omega arith;
-      leaf-nets = two _ (omega arith) (omega arith);
-      leaf-once = (every-cons (omega arith) (every-none _), (every-none _, tt));
-    };
     cover = _;
     covers = cover-2;
     taken = permuted-refl _;

@@ -10,7 +10,8 @@ use lib.Dec.{T, leb, eqb}
 use lib.ListN.{length}
 use Rattle.lists.specs.Trusted.Tests.{elem, either}
 use Rattle.lists.specs.TestLaws.{reflects-le, reflects-eq, reflects-or, reflects-elem, by-reflects, reflects-same, reflects-true}
-use Rattle.tree.specs.Trusted.Tree.{proper, leaves}
+use Rattle.tree.specs.Trusted.Tree.{proper}
+use Rattle.tree.specs.Leaves.{leaves}
 use Rattle.cover.specs.Trusted.Cover.{Least}
 use Rattle.plan.specs.Least.{least-unique, least-tables, least-is}
 use Rattle.cover.specs.Trusted.CoverTables.{Circuit, Fresh}
@@ -130,7 +131,8 @@ module _ (p : Part) (shape : Shaped p) (text : List ℕ) where
     k = ap (λ q. q .k) (t .part);
     capacity = ap (λ q. q .capacity) (t .part);
     used = ap (λ q. q .used) (t .part) ∙ ap (λ n. p .used + n) (least-unique (t .least .fewest) (least-number (p .k) (h .k-range .0) s (reads-right text s e)));
-    sound = reflects-true (sound-reflects q) (subst Sound (sym (t .part)) (extended-sound p shape h (t .new) s (t .least .added) f room));
+    sound = reflects-true (sound-reflects q)
+        (subst Sound (sym (t .part)) (extended-sound p shape h (t .new) s (reads-right text s e .legal) (t .least .added) f room));
     driven = λ n l. reflects-same (driven-reflects n (tablesOf q)) (reflects-or (driven-reflects n (tablesOf p)) (reflects-eq (s .out) n))
         (λ d. drives-after tableBase (p .k) (tablesOf p) (t .new) s (t .least .added) n (l .0) (subst (λ ts. Driven n ts) grown d))
         (λ d. subst (λ ts. Driven n ts) (sym grown) (drives-still tableBase (p .k) (tablesOf p) (t .new) s (t .least .added) n d));

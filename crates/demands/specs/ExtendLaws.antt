@@ -12,6 +12,7 @@ use Rattle.cover.specs.Trusted.Tables.{LookupTable, Placed, numbered}
 use Rattle.cover.specs.Eval.{numbered-is}
 use Rattle.cover.specs.Trusted.Placed.{number}
 use Rattle.cover.specs.Trusted.CoverTables.{Circuit, CoverTables, Fresh}
+use Rattle.cover.specs.Legal.{Legal}
 use Rattle.cover.specs.CoverTableLaws.{added-sized, added-rising, added-tidy, added-inputs, added-drives}
 use Rattle.table.specs.Trusted.Limits.{tableBase, inputRoom}
 use Rattle.table.specs.Trusted.Records.{tableOf, recordOf}
@@ -69,7 +70,8 @@ record-room t h = simp (length-append, length-replicate) (omega arith)
 
 -- ---- the tables of a sheet, after the records of a part
 
-module _ (k : ℕ) (old : List Table) (new : List LookupTable) (s : Circuit) (a : CoverTables tableBase k (map tableOf old) new s) where
+module _ (k : ℕ) (old : List Table) (new : List LookupTable) (s : Circuit) (legal : Legal tableBase s)
+    (a : CoverTables tableBase k (map tableOf old) new s) where
   ps : List Placed
   ps = numbered (length (map tableOf old)) new
 
@@ -81,7 +83,7 @@ module _ (k : ℕ) (old : List Table) (new : List LookupTable) (s : Circuit) (a 
   input-cases : (Z : Type 0) (p : Placed) → p ∈ ps → (x : ℕ) → x ∈ p .1 .inputs → ((0 < x) × (x < tableBase) × (x ≢ s .out) → Z) →
       ((t : ℕ) × (x ≡ tableBase + t) × (length (map tableOf old) < t) × (t < p .0) → Z) → Z
   unfolding ps
-  input-cases Z p m x i f g = ⊎-elim (λ l. f (a .legal .leaf-nets x l)) g (added-inputs tableBase k (map tableOf old) new s a p m x i)
+  input-cases Z p m x i f g = ⊎-elim (λ l. f (legal .leaf-nets x l)) g (added-inputs tableBase k (map tableOf old) new s a p m x i)
 
   -- what is driven is the output net, by one table
   drive-cases : (p : Placed) → p ∈ ps → (p .1 .drives ≡ 0) ⊎ ((p .1 .drives ≡ s .out) × (p .0 ≡ number (a .cover)))
@@ -91,7 +93,7 @@ module _ (k : ℕ) (old : List Table) (new : List LookupTable) (s : Circuit) (a 
   new-coded : Every (λ t. Coded (recordOf t)) new
   unfolding ps
   new-coded = every-numbered (λ t. Coded (recordOf t)) (length (map tableOf old)) new (λ p m. (
-    ⊎-elim (λ e. omega arith) (λ e. omega (arith, e .0, a .legal .out-net)) (drive-cases p m),
+    ⊎-elim (λ e. omega arith) (λ e. omega (arith, e .0, legal .out-net)) (drive-cases p m),
     rw (ap (λ t. t .inputs) (read-back (p .1))) (λ x i. input-cases _ p m x i (λ l. inl (omega (arith, l))) (λ t. inr (omega (arith, t .1, t .2)))),
   ))
 
@@ -99,7 +101,7 @@ module _ (k : ℕ) (old : List Table) (new : List LookupTable) (s : Circuit) (a 
   unfolding ps
   new-sized = every-numbered (λ t. Sized k (recordOf t)) (length (map tableOf old)) new (λ p m.
       let z = added-sized tableBase k (map tableOf old) new s a p m in
-      (z .least, z .most, rw (ap (λ t. t .inputs) (read-back (p .1))) (added-rising tableBase k (map tableOf old) new s a p m), z .bits))
+      (z .least, z .most, rw (ap (λ t. t .inputs) (read-back (p .1))) (added-rising tableBase k (map tableOf old) new s a legal p m), z .bits))
 
   new-sourced : Every (Sourced (places old ++ ps)) ps
   unfolding ps
@@ -125,7 +127,7 @@ module _ (k : ℕ) (old : List Table) (new : List LookupTable) (s : Circuit) (a 
   new-after : EveryTwo ReadAfter ps
   new-after p m q j l i =
       ⊎-elim (λ z. absurd (omega arith))
-      (λ f. input-cases _ q j (p .1 .drives) i (λ n. absurd (n .2 (f .0))) (λ t. absurd (omega (arith, f .0, t .1, a .legal .out-net))))
+      (λ f. input-cases _ q j (p .1 .drives) i (λ n. absurd (n .2 (f .0))) (λ t. absurd (omega (arith, f .0, t .1, legal .out-net))))
       (drive-cases p m)
 
   new-fresh : Fresh s (map tableOf old) →
@@ -173,12 +175,12 @@ module _ (p : Part) (shape : Shaped p) (h : Sound p) (new : List LookupTable) wh
         (every-drop (p .used + length new) (p .tables) (shape .inputs));
   }
 
-  pub extended-sound : (s : Circuit) → CoverTables tableBase (p .k) (tablesOf p) new s → Fresh s (tablesOf p) → p .used + length new ≤ p .capacity →
-      Sound (extended p new)
-  extended-sound s a f room = record {
+  pub extended-sound : (s : Circuit) → Legal tableBase s → CoverTables tableBase (p .k) (tablesOf p) new s → Fresh s (tablesOf p) →
+      p .used + length new ≤ p .capacity → Sound (extended p new)
+  extended-sound s l a f room = record {
     k-range = h .k-range;
     capacity-range = h .capacity-range;
     used-fits = room;
     rest-blank = rw extended-rest (rw drop-drop at (every-drop (length new) (drop (p .used) (p .tables)) (h .rest-blank)));
-    rules = rw extended-inUse (rules-append (p .k) (inUse p) (map recordOf new) (h .rules) (added-follows (p .k) (inUse p) new s a f));
+    rules = rw extended-inUse (rules-append (p .k) (inUse p) (map recordOf new) (h .rules) (added-follows (p .k) (inUse p) new s l a f));
   }

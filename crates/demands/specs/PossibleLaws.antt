@@ -18,7 +18,8 @@ use Rattle.cover.specs.Nets.{nets, nets*, split-nets}
 use Rattle.cover.specs.Trusted.Tables.{LookupTable, Placed, numbered}
 use Rattle.cover.specs.Eval.{numbered-append}
 use Rattle.cover.specs.Trusted.Placed.{number, placed, code, codes, codes*, tableOf, records, records*}
-use Rattle.cover.specs.Trusted.CoverTables.{Circuit, Legal, CoverTables}
+use Rattle.cover.specs.Trusted.CoverTables.{Circuit, CoverTables}
+use Rattle.cover.specs.Legal.{Legal}
 use Rattle.table.specs.Trusted.Limits.{tableBase}
 use Rattle.part.specs.Trusted.Parts.{tablesOf}
 use Rattle.part.specs.Trusted.Sound.{Sound}
@@ -229,7 +230,6 @@ module _ (base : ℕ) where
       let low = mark-low c m (s .out) (s .inverted) (permuted-from (split-nets (h .split)) (λ x i. legal .leaf-nets x i .1)) in (
         l .0,
         record {
-          legal = legal;
           cover = mark c m;
           covers = record { split = mark-split c m (s .tree) (h .split); root = r .0; fits = mark-fits K c m (h .fits) };
           taken = subst (λ ps. Permuted (numbered m (l .0)) ps) (sym (l .1)) (permuted-refl _);

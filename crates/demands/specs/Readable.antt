@@ -3,7 +3,8 @@ use mathlib.Core.Path.{_≡_}
 use lib.Dec.{T}
 use Rattle.tree.specs.declared.Kind.{Kind}
 use Rattle.tree.specs.Trusted.Tree.{Edges, gate, proper}
-use Rattle.cover.specs.Trusted.CoverTables.{Circuit, Legal}
+use Rattle.cover.specs.Trusted.CoverTables.{Circuit}
+use Rattle.cover.specs.Legal.{Legal}
 use Rattle.table.specs.Trusted.Limits.{tableBase}
 
 -- its nets are nets, no net stands at two leaves, the output net at none, the root is a gate, and each gate has two fanins or more

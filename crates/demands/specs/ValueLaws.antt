@@ -23,7 +23,7 @@ use Rattle.part.specs.Trusted.Sound.{Sound}
 use Rattle.part.specs.Trusted.Reading.{readOf}
 use Rattle.part.specs.Trusted.Answers.{Answer, accepted, refused, Result}
 use Rattle.part.specs.Trusted.Add.{opened, Refused}
-use Rattle.demands.specs.ReadingLaws.{drawn-back}
+use Rattle.demands.specs.ReadingLaws.{drawn-back, reads-right}
 use Rattle.demands.specs.ExtendLaws.{every-map, extended-tables}
 use Rattle.demands.specs.AddLaws.{opened-shaped, opened-empty, AddCase, unsound, misread, driven, read, full, taken, outcome}
 use Rattle.demands.specs.Trusted.Calls.{Call, add, final, sheetsRead, ifAccepted, Promise, sheetsOf, Chain, done, call, acceptedIn, Link, here, next}
@@ -99,7 +99,7 @@ module _ (p : Part) (shape : Shaped p) (text : List ℕ) where
     outcome-goes (taken s h e f t room) = (
       s ∷ ss,
       subst (λ ts. History tableBase (p .k) ts (s ∷ ss)) (sym (ap tablesOf (t .part) ∙ extended-tables p shape h (t .new)))
-          (History.add history (t .least .added) f),
+          (History.add history (reads-right text s e .legal) (t .least .added) f),
       λ u m. later m,
       subst (λ us. Every (λ u. u ∈ s ∷ ss) us) (sym (ap₂ (λ a v. ifAccepted a (sheetsRead v)) (t .answer) e)) (every-cons (first refl) (every-none _)),
     )

@@ -11,7 +11,8 @@ use Rattle.lists.specs.ListLaws.{every-none, every-cons, every-head, every-at, 
 use Rattle.lists.specs.MixLaws.{paired-append}
 use Rattle.lists.specs.NumberLaws.{sum-append, sum-same, sum-none}
 use Rattle.tree.specs.declared.Kind.{Kind}
-use Rattle.tree.specs.Trusted.Tree.{Node, leaf, gate, leaves, leaves*}
+use Rattle.tree.specs.Trusted.Tree.{Node, leaf, gate}
+use Rattle.tree.specs.Leaves.{leaves, leaves*}
 use Rattle.plan.specs.declared.Key.{Key}
 use Rattle.plan.specs.declared.Token.{Token}
 use Rattle.cover.specs.Trusted.Cover.{Cover, net, top, tables, split}
@@ -33,7 +34,7 @@ use Rattle.sheet.specs.Trusted.Sheet.{DrawnGate, DrawnSheet, from, netOf, gateO
 use Rattle.sheet.specs.Trusted.Trees.{nodeOf, edgesOf, treesOf, treeOf, drawn as drawnSheet}
 use Rattle.sheet.specs.Trusted.Formed.{WellFormed}
 use Rattle.sheet.specs.TreeLaws.{without, from-end}
-use Rattle.cover.specs.Trusted.CoverTables.{Legal, LeastCoverTables}
+use Rattle.cover.specs.Trusted.CoverTables.{LeastCoverTables}
 use Rattle.pending.specs.Operands.{single}
 use Rattle.mapper_laws.specs.Mapping.{GatesMapped, unmapped, mappedAt, leafCount, Stood, keyOf, sourceCover, keysOf, coversOf, Low, heldTable, innerOf, sourceTable, operandsOf, Progress, NextGate}
 use Rattle.mapper_laws.specs.CountLaws.{mapped-sums}
@@ -263,7 +264,7 @@ module _ (base : ℕ) where
       (in-order (us ++ (d ∷ [])) ds all (append-assoc us (d ∷ []) ds ∙ e)
       ∙ ap (λ m. gather (λ j. innerOf base (mappedAt all j)) (from (suc m) (length ds))) (omega (arith, length-append us (d ∷ []))))
 
-  module _ (n K : ℕ) (two : 2 ≤ K) (s : DrawnSheet) (formed : WellFormed s) (legal : Legal base (drawnSheet s)) {done : List GatesMapped} {staged : List LookupTable}
+  module _ (n K : ℕ) (two : 2 ≤ K) (s : DrawnSheet) (formed : WellFormed s) {done : List GatesMapped} {staged : List LookupTable}
       (p : Progress base n K (s .gates) done staged) where
     abbrev root : GatesMapped
     root = mappedAt done (length (s .gates))
@@ -299,7 +300,6 @@ module _ (base : ℕ) where
     pub mapping-added : (old : List LookupTable) → length old ≡ n → LeastCoverTables base K old (staged ++ (rootTable ∷ [])) (drawnSheet s)
     mapping-added old e = record {
       added = record {
-        legal = legal;
         cover = cover;
         covers = rw (root-stood .tree) (body-cover K (root-stood .is) (root .kind) (n + length staged));
         taken = rw (e, numbers) (permuted-append root-taken (permuted-refl _));

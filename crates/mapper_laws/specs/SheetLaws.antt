@@ -28,7 +28,7 @@ use Rattle.sheet.specs.declared.Edge.{Edge}
 use Rattle.sheet.specs.Trusted.Limits.{mostGates}
 use Rattle.sheet.specs.Trusted.Sheet.{DrawnGate, DrawnSheet, gateOf, faninNets, faninGates, leafNets, gatesRead}
 use Rattle.sheet.specs.Trusted.Trees.{drawn}
-use Rattle.sheet.specs.TreeLaws.{drawn-legal, leaves-count}
+use Rattle.sheet.specs.TreeLaws.{leaves-count}
 use Rattle.sheet.specs.declared.Sheet.{Sheet}
 use Rattle.sheet.specs.declared.Gate.{Gate as SheetGate}
 use Rattle.sheet.specs.Trusted.Answers.{drawnGate, drawnSheet}
@@ -290,7 +290,7 @@ module _ {K used : ℕ} {s : DrawnSheet} {g : ℕ} {held : List Held} {m : Mappi
   last-record = ap (λ t. driving (s .out) (flipped (s .inverted) t)) (root-held .table) ∙ root-record (s .out) (s .inverted) root
 
   added : (old : List LookupTable) → length old ≡ used → LeastCoverTables codeBase K old (tablesIn (m .count) (m .tables) ++ (rootTable ∷ [])) (drawn s)
-  added = mapping-added codeBase used K two s w (drawn-legal s w) ended
+  added = mapping-added codeBase used K two s w ended
 
   records-count : length (tablesIn (m .count) (m .tables)) ≡ m .count
   records-count = length-map (take (m .count) (m .tables)) tableOf ∙ length-take-le (m .count) (m .tables) (omega (arith, y .few, y .table-room))

@@ -9,7 +9,7 @@ use lib.ListN.{length, take, drop, length-append, length-drop, take-append-drop,
 use lib.Seq.{take-all, take-append-le, drop-append-le, length-take-le}
 use Rattle.lists.specs.Cases.{by-leb}
 use Rattle.decimal.specs.Trusted.Number.{columns}
-use Rattle.tree.specs.Trusted.Tree.{leaves}
+use Rattle.tree.specs.Leaves.{leaves}
 use Rattle.cover.specs.Trusted.CoverTables.{Circuit}
 use Rattle.cover.specs.Nets.{least-bounds}
 use Rattle.sheet.specs.Trusted.Sheet.{DrawnSheet, sheet as drew}

@@ -7,7 +7,7 @@ use mathlib.Core.List.{List, [], _∷_}
 use lib.ListN.{length, take, drop, length-append, length-drop}
 use Rattle.lists.specs.Trusted.Lists.{Every, sum}
 use Rattle.lists.specs.ListLaws.{every-head, every-tail, permuted-length}
-use Rattle.tree.specs.Trusted.Tree.{leaves}
+use Rattle.tree.specs.Leaves.{leaves}
 use Rattle.decimal.specs.Trusted.Number.{Number, columns, fieldNumber}
 use Rattle.sheet.specs.Trusted.Limits.{mostFields}
 use Rattle.sheet.specs.declared.Source.{Source}

@@ -1,1 +1,2 @@
 pub mod Trusted
+pub mod Leaves

@@ -21,6 +21,7 @@ use Rattle.cover.specs.Trusted.Tables.{LookupTable, numbered, settled}
 use Rattle.cover.specs.Trusted.Placed.{records, records*}
 use Rattle.plan.specs.Placings.{placings}
 use Rattle.cover.specs.Trusted.CoverTables.{Circuit, LeastCoverTables}
+use Rattle.cover.specs.Legal.{Legal}
 use Rattle.cover.specs.CoverValueLaws.{added-met}
 
 abbrev edges : Edges
@@ -85,18 +86,20 @@ its-values = (refl, refl)
 two : {A : Type 0} (P : A → Type 0) {x y : A} → P x → P y → Every P (x ∷ y ∷ [])
 two P p q = every-cons p (every-cons q (every-none _))
 
+legal : Legal 1000 sheet
+legal = record {
+  out-net = omega arith;
+  leaf-nets = every-cons (omega arith) (every-cons (omega arith) (two _ (omega arith) (omega arith)));
+  leaf-once = (
+    every-cons (omega arith) (two _ (omega arith) (omega arith)),
+    (two _ (omega arith) (omega arith), (every-cons (omega arith) (every-none _), (every-none _, tt))),
+  );
+}
+
 added : LeastCoverTables 1000 2 [] part sheet
 unfolding pack better least-of
 added = record {
   added = record {
-    legal = record {
-      out-net = omega arith;
-      leaf-nets = every-cons (omega arith) (every-cons (omega arith) (two _ (omega arith) (omega arith)));
-      leaf-once = (
-        every-cons (omega arith) (two _ (omega arith) (omega arith)),
-        (two _ (omega arith) (omega arith), (every-cons (omega arith) (every-none _), (every-none _, tt))),
-      );
-    };
     cover = cover;
     covers = record {
       split = split (match (there here) same (match (there here) same (match here (split (match here same (match here same done))) done)));
@@ -111,4 +114,4 @@ added = record {
 }
 
 its-meaning : (σ : ℕ → Bool) → settled 1000 part σ 5 ≡ turned true (value (sheet .tree) (settled 1000 part σ))
-its-meaning = added-met 1000 2 [] part sheet (added .added)
+its-meaning = added-met 1000 2 [] part sheet legal (added .added)

@@ -5,8 +5,8 @@ use mathlib.Core.Logic.{_≢_}
 use mathlib.Core.Bool.{Bool}
 use mathlib.Core.List.{List}
 use lib.ListN.{length}
-use Rattle.lists.specs.Trusted.Lists.{_∈_, Every, Distinct, Permuted}
-use Rattle.tree.specs.Trusted.Tree.{Node, leaves}
+use Rattle.lists.specs.Trusted.Lists.{_∈_, Every, Permuted}
+use Rattle.tree.specs.Trusted.Tree.{Node}
 use Rattle.cover.specs.Trusted.Cover.{Cover, CoverOf, Least}
 use Rattle.cover.specs.Trusted.Tables.{LookupTable, numbered}
 use Rattle.cover.specs.Trusted.Placed.{number, records}
@@ -17,16 +17,9 @@ pub record Circuit : Type 0 where
   pub out : ℕ
   pub inverted : Bool
 
--- its nets lie from 1 to below the base, no net stands at two leaves, and it does not read the net that it drives
-pub record Legal (base : ℕ) (s : Circuit) : Type 0 where
-  pub out-net : (0 < s .out) × (s .out < base)
-  pub leaf-nets : Every (λ x. (0 < x) × (x < base) × (x ≢ s .out)) (leaves (s .tree))
-  pub leaf-once : Distinct (leaves (s .tree))
-
 -- The tables `new`, which follow the tables `old`, are those of one of the sheet's covers, each at the number that the
 -- cover gives to its gate, the root's last, and each reads only codes below its own, which is to say nets and earlier tables.
 pub record CoverTables (base K : ℕ) (old new : List LookupTable) (s : Circuit) : Type 0 where
-  pub legal : Legal base s
   pub cover : Cover
   pub covers : CoverOf K (s .tree) cover
   pub taken : Permuted (numbered (length old) new) (records base cover (s .out) (s .inverted))

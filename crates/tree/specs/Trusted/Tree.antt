@@ -1,8 +1,7 @@
--- A fanout-free tree of AND and OR gates over nets: its leaves, its value, and whether each gate has two fanins or more.
+-- A fanout-free tree of AND and OR gates over nets: its value, and whether each gate has two fanins or more.
 -- Definitions only.
 use Prim.Native.Nat.{ℕ}
 use mathlib.Core.Bool.{Bool, true, false, _&&_}
-use mathlib.Core.List.{List, [], _∷_, _++_}
 -- the kinds of gates are those of the code
 use Rattle.tree.specs.declared.Kind.{Kind}
 use Rattle.tree.specs.declared.Kind.the-variants.{And as and, Or as or}
@@ -16,16 +15,6 @@ mutual
   pub data Edges : Type 0 where
     none : Edges
     edge : Bool → Node → Edges → Edges
-
--- the nets that the tree reads
-abbrev mutual
-  pub leaves : Node → List ℕ
-  leaves (leaf n) = n ∷ []
-  leaves (gate k es) = leaves* es
-
-  pub leaves* : Edges → List ℕ
-  leaves* none = []
-  leaves* (edge i t es) = leaves t ++ leaves* es
 
 -- `b` turned over where `i` is true
 abbrev pub turned : Bool → Bool → Bool
