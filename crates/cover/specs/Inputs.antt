@@ -13,7 +13,7 @@ use Rattle.tree.specs.Trusted.Tree.{Node, leaves}
 use Rattle.cover.specs.Trusted.Cover.{Cover, net, top, Fanins, end, old, new, SplitOf, Rooted, rooted}
 use Rattle.cover.specs.Nets.{nets, nets*, split-nets}
 use Rattle.cover.specs.Trusted.Tables.{LookupTable, Placed}
-use Rattle.cover.specs.Trusted.Placed.{number, placed, code, codes, codes*, tableOf, records, records*}
+use Rattle.cover.specs.Trusted.Placed.{rootNumber, placed, code, codes, codes*, tableOf, records, records*}
 
 -- the table drives nothing or, if it is the table m, the net n; and its inputs have the property P
 abbrev pub Tidy : ℕ → ℕ → (ℕ → Type 0) → Placed → Type 0
@@ -68,7 +68,7 @@ module _ (base : ℕ) where
 
     pub root-reads : {t : Node} {c : Cover} (n : ℕ) (v : Bool) → SplitOf t c → Rooted c → Every P (leaves t) →
         Own (records base c n v) →
-        Every (Tidy n (number c) P) (records base c n v)
+        Every (Tidy n (rootNumber c) P) (records base c n v)
     root-reads n v s (rooted {n = m} {k = k} {fs = fs}) h g =
         let own = placed (suc m) (tableOf base n v k fs) in
         let r = fanins-reads fs k (permuted-from (split-nets s) h) (every-left (records* base fs k) own g) in
@@ -76,5 +76,5 @@ module _ (base : ℕ) where
         (every-cons (inr (refl, refl), permuted-to (sorted-permuted (codes* base fs)) (r .0)) (every-none _))
 
   -- the root's table is there, and drives the net
-  pub root-in : {c : Cover} (n : ℕ) (v : Bool) → Rooted c → (r : LookupTable) × ((number c, r) ∈ records base c n v) × (r .drives ≡ n)
+  pub root-in : {c : Cover} (n : ℕ) (v : Bool) → Rooted c → (r : LookupTable) × ((rootNumber c, r) ∈ records base c n v) × (r .drives ≡ n)
   root-in n v (rooted {n = m} {k = k} {fs = fs}) = (tableOf base n v k fs, Memᴰ·append-right (records* base fs k) (first refl), refl)

@@ -16,7 +16,7 @@ use Rattle.cover.specs.Trusted.Cover.{Cover, net, top, Fanins, end, old, new, S
 use Rattle.cover.specs.Nets.{nets, nets*, split-nets}
 use Rattle.cover.specs.Trusted.Tables.{LookupTable, Placed, numbered}
 use Rattle.cover.specs.Eval.{numbered-is}
-use Rattle.cover.specs.Trusted.Placed.{number, placed, code, codes, codes*, tableOf, records, records*}
+use Rattle.cover.specs.Trusted.Placed.{rootNumber, placed, code, codes, codes*, tableOf, records, records*}
 use Rattle.cover.specs.Inputs.{root-in}
 use Rattle.cover.specs.Trusted.CoverTables.{Circuit, CoverTables}
 use Rattle.cover.specs.CoverTableLaws.{added-inputs, added-tidy}
@@ -108,5 +108,5 @@ module _ (base : ℕ) where
     drives-still n =
         ⊎-elim (λ r. (r .0, Memᴰ·append-left news (r .1), r .2))
         (λ e. let r = root-in base (s .out) (s .inverted) (a .covers .root) in
-        let m = permuted-to (a .taken) (λ p j. j) (number (a .cover), r .0) (r .1) in
-        (r .0, Memᴰ·append-right olds (numbered-is (length olds) news (number (a .cover), r .0) m .2), r .2 ∙ e))
+        let m = permuted-to (a .taken) (λ p j. j) (rootNumber (a .cover), r .0) (r .1) in
+        (r .0, Memᴰ·append-right olds (numbered-is (length olds) news (rootNumber (a .cover), r .0) m .2), r .2 ∙ e))

@@ -17,7 +17,7 @@ use Rattle.cover.specs.Trusted.Cover.{Cover, net, top, Fanins, end, old, new, p
 use Rattle.cover.specs.Nets.{nets, nets*, split-nets}
 use Rattle.cover.specs.Trusted.Tables.{LookupTable, Placed, numbered}
 use Rattle.cover.specs.Eval.{numbered-append}
-use Rattle.cover.specs.Trusted.Placed.{number, placed, code, codes, codes*, tableOf, records, records*}
+use Rattle.cover.specs.Trusted.Placed.{rootNumber, placed, code, codes, codes*, tableOf, records, records*}
 use Rattle.cover.specs.Trusted.CoverTables.{Circuit, Legal, CoverTables}
 use Rattle.table.specs.Trusted.Limits.{tableBase}
 use Rattle.part.specs.Trusted.Parts.{tablesOf}
@@ -133,7 +133,7 @@ module _ (K : ℕ) where
       mark-fits* fs (m + (pick j 0 1 + tables* s)) (h .1),
     )
 
-mark-rooted : (m : ℕ) {c : Cover} → Rooted c → Rooted (mark c m) × (number (mark c m) ≡ m + tables c)
+mark-rooted : (m : ℕ) {c : Cover} → Rooted c → Rooted (mark c m) × (rootNumber (mark c m) ≡ m + tables c)
 mark-rooted m (rooted {fs = fs}) = (rooted, omega arith)
 
 module _ (base : ℕ) where

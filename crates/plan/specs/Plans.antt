@@ -13,7 +13,7 @@ use Rattle.plan.specs.declared.Key.{Key}
 use Rattle.plan.specs.declared.Token.{Token}
 use Rattle.plan.specs.declared.Token.the-variants.{Push as push, Join as join}
 use Rattle.plan.specs.Key.{leaf-key, Way}
-use Rattle.cover.specs.Trusted.Placed.{number}
+use Rattle.cover.specs.Trusted.Placed.{rootNumber}
 
 -- ---- what a plan gives: its key
 
@@ -64,7 +64,7 @@ pub data Runs (ds : List (Bool × Cover)) : List Token → List Fragment → Lis
 -- a cover of the tree with the key k, its root not placed
 pub record Standing (K : ℕ) (t : Node) (k : Key) (c : Cover) : Type 0 where
   pub splits : SplitOf t c
-  pub free : number c ≡ 0
+  pub free : rootNumber c ≡ 0
   pub fits : Fits c K
   pub small : width c ≤ K
   pub count : tables c ≡ k .below

@@ -10,9 +10,9 @@ use Rattle.cover.specs.Trusted.Cover.{Cover, net, top, Fanins, end, old,
 use Rattle.cover.specs.Trusted.Tables.{LookupTable, Placed, tabled}
 
 -- the number of the root's table
-abbrev pub number : Cover → ℕ
-number (net n) = 0
-number (top m k fs) = m
+abbrev pub rootNumber : Cover → ℕ
+rootNumber (net n) = 0
+rootNumber (top m k fs) = m
 
 -- the table with the gate's number, where the gate is chosen
 abbrev pub placed : ℕ → LookupTable → List Placed
