@@ -13,7 +13,7 @@ use Rattle.tree.specs.declared.Kind.{Kind}
 use Rattle.tree.specs.Trusted.Tree.{Node, gate, Edges, leaves, leaves*, turned, value}
 use Rattle.cover.specs.Trusted.Cover.{Cover, net, top, Fanins, end, old, new, pick, frontier, tables, tables*, SplitOf, split, Matched, Rooted, rooted, CoverOf}
 use Rattle.cover.specs.Trusted.Tables.{LookupTable, Placed, tabled}
-use Rattle.cover.specs.Trusted.Placed.{rootNumber, code, codes, codes*, tableOf, records, records*}
+use Rattle.cover.specs.Trusted.Placed.{rootNumber, code, codes, codes*, gateTable, records, records*}
 use Rattle.cover.specs.Value.{gate-held}
 use Rattle.cover.specs.Nets.{nets, nets*, split-nets}
 use Rattle.cover.specs.Size.{records-length*}
@@ -44,7 +44,7 @@ module _ (base : ℕ) where
         ap₂ _++_ (code-none m (tables* s) (codes* base s) (nets* s) (omega arith) (λ z. codes-none* s z)) (codes-none* fs (omega arith))
 
   gate-whole : (n : ℕ) (v : Bool) (k : Kind) {es : Edges} (fs : Fanins) → Matched es (frontier fs) → tables* fs ≡ 0 →
-      tableOf base n v k fs ≡ whole n v (gate k es)
+      gateTable base n v k fs ≡ whole n v (gate k es)
   gate-whole n v k {es} fs d e = ap₂ (tabled n) inputs (λ j σ. turned v (gate-held base σ fs d k (none-held _) j))
     where
       inputs : sorted (codes* base fs) ≡ sorted (leaves* es)

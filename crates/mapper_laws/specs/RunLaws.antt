@@ -17,7 +17,7 @@ use Rattle.cover.specs.Trusted.Bits.{bit, digit}
 use Rattle.cover.specs.Trusted.Cover.{Cover, net, top, Fanins, end, new, pick}
 use Rattle.cover.specs.Trusted.Tables.{LookupTable, output, tabled, numbered}
 use Rattle.cover.specs.Eval.{Agree, tabled-output, numbered-append}
-use Rattle.cover.specs.Trusted.Placed.{code, codes, codes*, held, held*, tableOf, records*}
+use Rattle.cover.specs.Trusted.Placed.{code, codes, codes*, held, held*, gateTable, records*}
 use Rattle.cover.specs.Value.{held-same, held-same*}
 use Rattle.plan.specs.declared.Key.{Key}
 use Rattle.plan.specs.declared.Token.{Token}
@@ -342,10 +342,10 @@ module _ (base : ℕ) (k : Kind) where
       pub record Gated (p : List Token) (a : Key) : Type 0 where
         pub body : Fanins
         pub new : List LookupTable
-        pub ends : run base n k fanins p (record { stack = []; placed = [] }) ≡ record { stack = record { inverted = false; table = tableOf base 0 false k body } ∷ []; placed = new }
+        pub ends : run base n k fanins p (record { stack = []; placed = [] }) ≡ record { stack = record { inverted = false; table = gateTable base 0 false k body } ∷ []; placed = new }
         pub is : Body K es a body
         pub taken : Permuted (gather (λ q. inner base (q .1)) ds ++ numbered n new) (records* base body k)
-        pub low : Low base (n + length new) (tableOf base 0 false k body)
+        pub low : Low base (n + length new) (gateTable base 0 false k body)
         pub earlier : Early base (numbered n new)
 
       module _ {p : List Token} {ns : List ℕ} {a : Key} (y : Followed p ns a [] [] []) (body : Fanins) (f : y .fragment ≡ made body) where
@@ -355,7 +355,7 @@ module _ (base : ℕ) (k : Kind) where
         body-shows : Shows 0 (y .top) (made body)
         body-shows = rw f at (y .shows)
 
-        body-top : y .top ≡ record { inverted = false; table = tableOf base 0 false k body }
+        body-top : y .top ≡ record { inverted = false; table = gateTable base 0 false k body }
         body-top = λ i. record { inverted = body-shows .inverted i; table = body-shows .table i }
 
         body-taken : Planned K ks (upto (length ks)) p a → Permuted (gather (λ q. inner base (q .1)) ds ++ numbered n (y .new)) (records* base body k)

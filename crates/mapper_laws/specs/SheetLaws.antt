@@ -17,7 +17,7 @@ use Rattle.plan.specs.Entries.{Small, FaninKey}
 use Rattle.plan.specs.Reach.{LeastReach}
 use Rattle.plan.specs.ReachBounds.{reach-small}
 use Rattle.plan.specs.Plans.{Planned}
-use Rattle.cover.specs.Trusted.Placed.{codes*, held*, tableOf as gateTable}
+use Rattle.cover.specs.Trusted.Placed.{codes*, held*, gateTable}
 use Rattle.cover.specs.Nets.{least-bounds}
 use Rattle.cover.specs.Trusted.CoverTables.{LeastCoverTables}
 use Rattle.cover.specs.Size.{codes-length*}

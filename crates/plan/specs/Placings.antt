@@ -11,7 +11,7 @@ use Rattle.tree.specs.declared.Kind.{Kind}
 use Rattle.cover.specs.Trusted.Cover.{Cover, net, top, Fanins, end}
 use Rattle.plan.specs.declared.Key.{Key}
 use Rattle.cover.specs.Trusted.Tables.{Placed}
-use Rattle.cover.specs.Trusted.Placed.{placed, tableOf, records, records*}
+use Rattle.cover.specs.Trusted.Placed.{placed, gateTable, records, records*}
 use Rattle.plan.specs.declared.Token.{Token}
 use Rattle.plan.specs.declared.Token.the-variants.{Push as push, Join as join}
 use Rattle.plan.specs.Plans.{Denotes, fanin, binary, Planned, Fragment, drawn, made, marked, place, Runs, stop, pushed, joined}
@@ -35,7 +35,7 @@ module _ (base : ℕ) where
 
   abbrev pub root : ℕ → Cover → List Placed
   root m (net n) = []
-  root m (top x k fs) = placed m (tableOf base 0 false k fs)
+  root m (top x k fs) = placed m (gateTable base 0 false k fs)
 
   marked-records : (m : ℕ) (c : Cover) → records base (marked m c) 0 false ≡ inner c ++ root m c
   marked-records m (net n) = refl
@@ -49,7 +49,7 @@ module _ (base : ℕ) where
 
     abbrev pub own : ℕ → Fragment → List Placed
     own m (drawn q) = root m (q .1)
-    own m (made s) = placed m (tableOf base 0 false k s)
+    own m (made s) = placed m (gateTable base 0 false k s)
 
     place-records : (m : ℕ) (f : Fragment) (fs : Fanins) →
         records* base (place m f fs) k ≡ (inside f ++ own m f) ++ records* base fs k

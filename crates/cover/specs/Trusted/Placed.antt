@@ -46,17 +46,17 @@ module _ (base : ℕ) where
     held* (new m s fs) k e = meet k (pick m (held* s k e) (e (base + m))) (held* fs k e)
 
   -- the table of a chosen gate of the kind k with the fanins `fs`: it drives n, and its value is inverted where v is true
-  abbrev pub tableOf : ℕ → Bool → Kind → Fanins → LookupTable
-  tableOf n v k fs = tabled n (sorted (codes* fs)) (λ e. turned v (held* fs k e))
+  abbrev pub gateTable : ℕ → Bool → Kind → Fanins → LookupTable
+  gateTable n v k fs = tabled n (sorted (codes* fs)) (λ e. turned v (held* fs k e))
 
   -- the tables of the chosen gates with their numbers, each after those below it; the root's drives n, with its value
   -- inverted where v is true, and the others drive nothing
   abbrev mutual
     pub records : Cover → ℕ → Bool → List Placed
     records (net c) n v = []
-    records (top m k fs) n v = records* fs k ++ placed m (tableOf n v k fs)
+    records (top m k fs) n v = records* fs k ++ placed m (gateTable n v k fs)
 
     pub records* : Fanins → Kind → List Placed
     records* end k = []
     records* (old i c fs) k = records c 0 false ++ records* fs k
-    records* (new m s fs) k = (records* s k ++ placed m (tableOf 0 false k s)) ++ records* fs k
+    records* (new m s fs) k = (records* s k ++ placed m (gateTable 0 false k s)) ++ records* fs k
