@@ -6,7 +6,7 @@ use mathlib.Core.List.{List}
 use lib.Dec.{leb, eqb}
 use lib.ListN.{length}
 use Rattle.decimal.specs.Trusted.Number.{Number}
-use Rattle.decimal.specs.Trusted.Columns.{room, fieldOf, signedRoom, signedFieldOf, placed}
+use Rattle.decimal.specs.Trusted.Columns.{room, fieldOf, signedRoom, signedFieldOf, withField}
 use Rattle.decimal.specs.declared.Written.{Written}
 use Rattle.decimal.specs.declared.Written.the-variants.{Done, TooWide}
 
@@ -28,10 +28,10 @@ signedWritten old n = outcome (signedRoom (length old) n) (signedFieldOf (length
 
 -- and into the field of so many columns that starts at a place of a longer line
 abbrev pub fieldWrittenAt : List ℕ → ℕ → ℕ → ℕ → FieldWrite
-fieldWrittenAt old at width n = outcome (leb (at + width) (length old) && room width n) (placed old at width (fieldOf width n)) old
+fieldWrittenAt old at width n = outcome (leb (at + width) (length old) && room width n) (withField old at width (fieldOf width n)) old
 
 abbrev pub signedWrittenAt : List ℕ → ℕ → ℕ → Number → FieldWrite
-signedWrittenAt old at width n = outcome (leb (at + width) (length old) && signedRoom width n) (placed old at width (signedFieldOf width n)) old
+signedWrittenAt old at width n = outcome (leb (at + width) (length old) && signedRoom width n) (withField old at width (signedFieldOf width n)) old
 
 -- ---- for the functions inside
 

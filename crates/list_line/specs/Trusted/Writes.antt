@@ -2,7 +2,7 @@
 use Prim.Native.Nat.{ℕ}
 use mathlib.Core.List.{List}
 use lib.ListN.{length}
-use Rattle.decimal.specs.Trusted.Columns.{placed}
+use Rattle.decimal.specs.Trusted.Columns.{withField}
 
 -- so many bytes are written; or refused, with 01's number and place
 pub data WriteResult : Type 0 where
@@ -15,4 +15,4 @@ pub record WriteOutcome : Type 0 where
 
 -- the new bytes stand from the place on, and all others are as they were
 abbrev pub pasted : List ℕ → ℕ → List ℕ → List ℕ
-pasted old at new = placed old at (length new) new
+pasted old at new = withField old at (length new) new
