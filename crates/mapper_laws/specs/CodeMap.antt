@@ -35,7 +35,7 @@ use Rattle.mapper_laws.specs.declared.Operands.{Operands}
 use Rattle.mapper_laws.specs.declared.Held.{Held}
 use Rattle.mapper_laws.specs.declared.MappedGate.{MappedGate}
 use Rattle.pending.specs.Operands.{single}
-use Rattle.mapper_laws.specs.Run.{run}
+use Rattle.mapper_laws.specs.Run.{runPlan}
 use Rattle.mapper_laws.specs.CodeRun.{noTable, noPending, operandAt, faninsOf, Good, begun, stateOf, Holds}
 use mathlib.Core.List.{List, _++_, map}
 
@@ -76,7 +76,7 @@ pub record GateMapped (K first : ℕ) (k : Kind) (o : Operands) (r : MappedGate)
   pub least : LeastReach K (keysIn o) key
   pub planned : Planned K (keysIn o) (upto (length (keysIn o))) tokens key
   pub holds : Holds (r .run)
-  pub state : stateOf (r .run) ≡ run codeBase first k (faninsOf o) tokens begun
+  pub state : stateOf (r .run) ≡ runPlan codeBase first k (faninsOf o) tokens begun
   pub below : r .held .below ≡ key .below
   pub table : r .held .table ≡ operandAt (r .run) 0 .table
 

@@ -24,7 +24,7 @@ use Rattle.sheet.specs.declared.Edge.{Edge}
 use Rattle.sheet.specs.Trusted.Sheet.{DrawnGate, leafNets, gatesRead}
 use Rattle.sheet.specs.Trusted.Trees.{treesOf}
 use Rattle.pending.specs.Operands.{Operand, single}
-use Rattle.mapper_laws.specs.Run.{run}
+use Rattle.mapper_laws.specs.Run.{runPlan}
 
 -- a gate that was mapped: its fanins, split, with what is placed among them, and its best key
 pub record GatesMapped : Type 0 where
@@ -107,7 +107,7 @@ module _ (base : ℕ) where
   pub record NextGate (n K : ℕ) (gs : List DrawnGate) (done : List GatesMapped) (staged : List LookupTable) (g : DrawnGate) (plan : List Token) (a : Key) : Type 0 where
     pub body : Fanins
     pub new : List LookupTable
-    pub ends : run base (n + length staged) (g .kind) (operandsOf done (g .fanins)) plan (record { stack = []; placed = [] })
+    pub ends : runPlan base (n + length staged) (g .kind) (operandsOf done (g .fanins)) plan (record { stack = []; placed = [] })
         ≡ record { stack = record { inverted = false; table = gateTable base 0 false (g .kind) body } ∷ []; placed = new }
     pub progress : Progress n K (gs ++ (g ∷ [])) (done ++ (record { kind = g .kind; body = body; key = a } ∷ [])) (staged ++ new)
     pub is : (es : Edges) × Body K es a body

@@ -29,7 +29,7 @@ use Rattle.plan.specs.PlanLaws.{runs-append, plan-body}
 use Rattle.plan.specs.Placings.{inner, inside, own, placings, plan-placed}
 use Rattle.mapper_laws.specs.Mapping.{Low, Early}
 use Rattle.pending.specs.Operands.{Operand, single, merged}
-use Rattle.mapper_laws.specs.Run.{merge, State, operand, tables, step, run}
+use Rattle.mapper_laws.specs.Run.{merge, State, operand, tablesAfter, runToken, runPlan}
 
 meet-unit-right : (k : Kind) (b : Bool) → meet k b (unit k) ≡ b
 meet-unit-right and true = refl
@@ -144,7 +144,7 @@ module _ (base : ℕ) (k : Kind) where
     added false x = []
     added true x = x .table ∷ []
 
-    tables-added : (l : Bool) (ts : List LookupTable) (x : Operand) → tables base n l ts x ≡ ts ++ added l x
+    tables-added : (l : Bool) (ts : List LookupTable) (x : Operand) → tablesAfter base n l ts x ≡ ts ++ added l x
     tables-added false ts x = sym (append-nil ts)
     tables-added true ts x = refl
 
@@ -170,7 +170,7 @@ module _ (base : ℕ) (k : Kind) where
     low-more t l h c m = let i = h c m in omega arith
 
     low-operand : (l : Bool) (ts : List LookupTable) (x : Operand) → Low base (n + length ts) (x .table) →
-        Low base (n + length (tables base n l ts x)) (operand base n l ts x .table)
+        Low base (n + length (tablesAfter base n l ts x)) (operand base n l ts x .table)
     low-operand false ts x h = h
     low-operand true ts x h = every-cons (simp length-append (omega arith)) (every-none _)
 
@@ -194,9 +194,9 @@ module _ (base : ℕ) (k : Kind) where
         ∙ ap (λ ps. own base k m x ++ ps) (sym (append-assoc (own base k m′ y) (placings base k ds a) (placings base k ds b)))
         ∙ sym (append-assoc (own base k m x) (own base k m′ y ++ placings base k ds a) (placings base k ds b))
 
-    run-append : (fanins : List Operand) (p q : List Token) (s : State) → run base n k fanins (p ++ q) s ≡ run base n k fanins q (run base n k fanins p s)
+    run-append : (fanins : List Operand) (p q : List Token) (s : State) → runPlan base n k fanins (p ++ q) s ≡ runPlan base n k fanins q (runPlan base n k fanins p s)
     run-append fanins [] q s = refl
-    run-append fanins (t ∷ p) q s = run-append fanins p q (step base n k fanins t s)
+    run-append fanins (t ∷ p) q s = run-append fanins p q (runToken base n k fanins t s)
 
     -- only a gate is wide enough to be placed
     taken-places : {K : ℕ} {es : Edges} {f : Fragment} {ns : List ℕ} {a b : Key} {l : Bool} → Stands K es f ns a → KeyTaken a l b → Places l f
@@ -215,7 +215,7 @@ module _ (base : ℕ) (k : Kind) where
         pub new : List LookupTable
         pub runs : Runs ds p sf (fragment ∷ sf)
         pub placing : placings base k ds runs ≡ numbered (n + length ts) new
-        pub ends : run base n k fanins p (record { stack = st; placed = ts }) ≡ record { stack = top ∷ st; placed = ts ++ new }
+        pub ends : runPlan base n k fanins p (record { stack = st; placed = ts }) ≡ record { stack = top ∷ st; placed = ts ++ new }
         pub shows : Shows 0 top fragment
         pub stands : Stands K es fragment ns a
         pub low : Low base (n + length (ts ++ new)) (top .table)
@@ -228,10 +228,10 @@ module _ (base : ℕ) (k : Kind) where
         before = (ts ++ x .new) ++ y .new
 
         abbrev between : List LookupTable
-        between = tables base n l before (x .top)
+        between = tablesAfter base n l before (x .top)
 
         abbrev after : List LookupTable
-        after = tables base n d between (y .top)
+        after = tablesAfter base n d between (y .top)
 
         abbrev lefts : List LookupTable
         lefts = added l (x .top)
@@ -293,9 +293,9 @@ module _ (base : ℕ) (k : Kind) where
               ∙ sym numbers;
           ends =
               run-append fanins p (q ++ (join l d ∷ [])) (record { stack = st; placed = ts })
-              ∙ ap (run base n k fanins (q ++ (join l d ∷ []))) (x .ends)
+              ∙ ap (runPlan base n k fanins (q ++ (join l d ∷ []))) (x .ends)
               ∙ run-append fanins q (join l d ∷ []) (record { stack = x .top ∷ st; placed = ts ++ x .new })
-              ∙ ap (run base n k fanins (join l d ∷ [])) (y .ends)
+              ∙ ap (runPlan base n k fanins (join l d ∷ [])) (y .ends)
               ∙ ap (λ us. record { stack = merge k (operand base n l before (x .top)) (operand base n d between (y .top)) ∷ st; placed = us }) after-is;
           shows =
               shown-merge left-mark right-mark (operand base n l before (x .top)) (operand base n d between (y .top)) (x .fragment) (y .fragment)
@@ -342,7 +342,7 @@ module _ (base : ℕ) (k : Kind) where
       pub record Gated (p : List Token) (a : Key) : Type 0 where
         pub body : Fanins
         pub new : List LookupTable
-        pub ends : run base n k fanins p (record { stack = []; placed = [] }) ≡ record { stack = record { inverted = false; table = gateTable base 0 false k body } ∷ []; placed = new }
+        pub ends : runPlan base n k fanins p (record { stack = []; placed = [] }) ≡ record { stack = record { inverted = false; table = gateTable base 0 false k body } ∷ []; placed = new }
         pub is : Body K es a body
         pub taken : Permuted (gather (λ q. inner base (q .1)) ds ++ numbered n new) (records* base body k)
         pub low : Low base (n + length new) (gateTable base 0 false k body)
