@@ -140,11 +140,11 @@ module _ (base : ℕ) (k : Kind) where
     mark-says true ts = omega arith
 
     -- what is placed
-    abbrev pub added : Bool → Operand → List LookupTable
-    added false x = []
-    added true x = x .table ∷ []
+    abbrev pub placedTables : Bool → Operand → List LookupTable
+    placedTables false x = []
+    placedTables true x = x .table ∷ []
 
-    tables-added : (l : Bool) (ts : List LookupTable) (x : Operand) → tablesAfter base n l ts x ≡ ts ++ added l x
+    tables-added : (l : Bool) (ts : List LookupTable) (x : Operand) → tablesAfter base n l ts x ≡ ts ++ placedTables l x
     tables-added false ts x = sym (append-nil ts)
     tables-added true ts x = refl
 
@@ -158,7 +158,7 @@ module _ (base : ℕ) (k : Kind) where
     shown-operand true ts x f g s = shown-placed (n + length ts) x f g s
 
     own-added : (l : Bool) (ts : List LookupTable) (x : Operand) (f : Fragment) → Places l f → Shows 0 x f →
-        own base k (markOf l ts) f ≡ numbered (n + length ts) (added l x)
+        own base k (markOf l ts) f ≡ numbered (n + length ts) (placedTables l x)
     own-added false ts x (drawn (i, net z)) g s = refl
     own-added false ts x (drawn (i, top z j fs)) g s = refl
     own-added false ts x (made fs) g s = refl
@@ -178,7 +178,7 @@ module _ (base : ℕ) (k : Kind) where
     unfolding merged
     low-merged b x y g h = permuted-to (sorted-permuted (x .table .inputs ++ y .table .inputs)) (every-append (x .table .inputs) (y .table .inputs) g h)
 
-    early-added : (l : Bool) (ts : List LookupTable) (x : Operand) → Low base (n + length ts) (x .table) → Early base (numbered (n + length ts) (added l x))
+    early-added : (l : Bool) (ts : List LookupTable) (x : Operand) → Low base (n + length ts) (x .table) → Early base (numbered (n + length ts) (placedTables l x))
     early-added false ts x h = every-none _
     early-added true ts x h = every-cons (λ c m. let i = h c m in omega arith) (every-none _)
 
@@ -234,10 +234,10 @@ module _ (base : ℕ) (k : Kind) where
         after = tablesAfter base n d between (y .top)
 
         abbrev lefts : List LookupTable
-        lefts = added l (x .top)
+        lefts = placedTables l (x .top)
 
         abbrev rights : List LookupTable
-        rights = added d (y .top)
+        rights = placedTables d (y .top)
 
         abbrev left-mark : ℕ
         left-mark = markOf l before
