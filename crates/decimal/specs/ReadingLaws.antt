@@ -13,7 +13,7 @@ use Rattle.decimal.specs.Trusted.Number.{Number, columns, fieldNumber, W
 use Rattle.decimal.specs.NumberLaws.{Given, field-given, field-within}
 use Rattle.decimal.specs.Trusted.Columns.{fieldOf, signedFieldOf}
 use Rattle.decimal.specs.FieldLaws.{field-read, signed-read}
-use Rattle.decimal.specs.Reading.{valueOf, numberOf, answerOf, fieldRead}
+use Rattle.decimal.specs.Reading.{valueOf, numberOf, fieldAnswer, fieldRead}
 use Rattle.decimal.specs.declared.Field.the-variants.{Value, NoNumber}
 
 back : (b : Bool) (m : ℕ) → (b ≡ true → 0 < m) → numberOf (cond b (negℤ (pos m)) (pos m)) ≡ record { negative = b; magnitude = m }
@@ -29,11 +29,11 @@ pub number-value : (v : ℤ) → valueOf (numberOf v) ≡ v
 number-value (pos n) = refl
 number-value (negsuc n) = refl
 
-answer-value : (o : Option Number) {v : ℤ} → Given (Within columns) o → answerOf o ≡ Value v → o ≡ some (numberOf v)
+answer-value : (o : Option Number) {v : ℤ} → Given (Within columns) o → fieldAnswer o ≡ Value v → o ≡ some (numberOf v)
 answer-value none h e = let no : _≡_ {A = ℕ} 0 1 = cc in absurd (omega arith)
 answer-value (some n) {v} h e = let same : valueOf n ≡ v = cc in ap some (sym (value-number columns n h) ∙ ap numberOf same)
 
-answer-none : (o : Option Number) → answerOf o ≡ NoNumber → o ≡ none
+answer-none : (o : Option Number) → fieldAnswer o ≡ NoNumber → o ≡ none
 answer-none none e = refl
 answer-none (some n) e = let no : _≡_ {A = ℕ} 0 1 = cc in absurd (omega arith)
 
@@ -62,7 +62,7 @@ read-number bs e f g = read-held bs e ∙ sym (ap₂ (λ b m. some (record { neg
 
 -- reading what was written gives the value back
 pub read-field : (n : ℕ) → n < 10 ^ columns → fieldRead (fieldOf columns n) ≡ Value (pos n)
-read-field n h = ap answerOf (field-read n h)
+read-field n h = ap fieldAnswer (field-read n h)
 
 pub read-signed : (v : ℤ) → Within columns (numberOf v) → fieldRead (signedFieldOf columns (numberOf v)) ≡ Value v
-read-signed v h = ap answerOf (signed-read (numberOf v) h) ∙ ap Value (number-value v)
+read-signed v h = ap fieldAnswer (signed-read (numberOf v) h) ∙ ap Value (number-value v)
