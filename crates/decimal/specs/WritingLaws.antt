@@ -10,12 +10,12 @@ use Rattle.lists.specs.TestLaws.{reflects-true}
 use Rattle.decimal.specs.Trusted.Number.{Number, Within}
 use Rattle.decimal.specs.Trusted.Columns.{room, fieldOf, signedRoom, signedFieldOf}
 use Rattle.decimal.specs.ColumnLaws.{reflects-room}
-use Rattle.decimal.specs.Writing.{outcome, fieldWritten, signedWrittenAt}
+use Rattle.decimal.specs.Writing.{writeIf, fieldWritten, signedWrittenAt}
 use Rattle.decimal.specs.Trusted.Columns.{withField}
 use Rattle.decimal.specs.declared.Written.the-variants.{Done}
 
 pub written : (old : List ℕ) (n : ℕ) → 0 < length old → n < 10 ^ length old → fieldWritten old n ≡ record { answer = Done; bytes = fieldOf (length old) n }
-written old n p h = ap (λ b. outcome b (fieldOf (length old) n) old) (reflects-true (reflects-room (length old) n) (p, h))
+written old n p h = ap (λ b. writeIf b (fieldOf (length old) n) old) (reflects-true (reflects-room (length old) n) (p, h))
 
 -- ---- with a sign
 
@@ -34,4 +34,4 @@ signed-room width n p h = by-sign (n .negative) (h .sign)
 pub signed-written-at : (old : List ℕ) (at width : ℕ) (n : Number) → at + width ≤ length old → 0 < width → Within width n →
     signedWrittenAt old at width n ≡ record { answer = Done; bytes = withField old at width (signedFieldOf width n) }
 signed-written-at old at width n l p h =
-    ap₂ (λ a b. outcome (a && b) (withField old at width (signedFieldOf width n)) old) (le-leb (at + width) (length old) l) (signed-room width n p h)
+    ap₂ (λ a b. writeIf (a && b) (withField old at width (signedFieldOf width n)) old) (le-leb (at + width) (length old) l) (signed-room width n p h)
