@@ -24,7 +24,7 @@ use Rattle.part.specs.Trusted.Sound.{Sound}
 use Rattle.part.specs.Trusted.Answers.{Answer, accepted, refused, Result}
 use Rattle.part.specs.Trusted.Add.{Add}
 use Rattle.part.specs.Trusted.Reading.{readOf}
-use Rattle.demands.specs.AddLaws.{kept, outcome}
+use Rattle.demands.specs.AddLaws.{kept, add-case}
 use Rattle.demands.specs.Trusted.Calls.{add, call, done, here}
 use Rattle.demands.specs.Theorems.{demand-3}
 use Rattle.demands.specs.ReadingLaws.{drawn-back}
@@ -81,7 +81,7 @@ module _ (more : List ℕ) where
       stopped {text = text ++ more} q number place (omega (arith, length-append text more)) (add-read p (sheetText text .0) (sheetText (text ++ more) .0) q _ (front-read text more long) a)
   mapped-front {p} {n} {text} {out} shape sound l (added q h a m) =
       let t = took p shape sound (sheetText text .0) q a in
-      let g = kept p shape (outcome p (sheetText text .0) q accepted a) in
+      let g = kept p shape (add-case p (sheetText text .0) q accepted a) in
       let e = front-rest text more (t .sheet) (t .read) in
       added {text = text ++ more} q (omega (arith, length-append text more))
       (subst (λ (r : List ℕ × List ℕ). Add p (r .0) q accepted) (sym e) a)

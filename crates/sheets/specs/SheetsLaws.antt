@@ -26,7 +26,7 @@ use Rattle.part.specs.Trusted.Parts.{Shaped}
 use Rattle.part.specs.Trusted.Sound.{Sound}
 use Rattle.part.specs.Trusted.Answers.{Answer, accepted, refused}
 use Rattle.part.specs.Trusted.Add.{Offer, Add}
-use Rattle.demands.specs.AddLaws.{AddCase, unsound, misread, driven, read, full, taken, outcome, kept, not-refused}
+use Rattle.demands.specs.AddLaws.{AddCase, unsound, misread, driven, read, full, taken, add-case, kept, not-refused}
 use Rattle.part.specs.Storing.{sheetOf}
 use Rattle.part.specs.StoringLaws.{add-misread, add-offered}
 use Rattle.part.specs.Trusted.Listing.{listOf}
@@ -72,7 +72,7 @@ least-some : {k n : ℕ} {t : _} → Least k t n → 0 < n
 least-some l = let c = l .some in omega (arith, rooted-some (c .1 .root), c .2)
 
 pub grown : (p : Part) (text : List ℕ) (q : Part) (a : Answer) → Add p text q a → a ≡ accepted → p .used < q .used
-grown p text q a h e = of (outcome p text q a h)
+grown p text q a h e = of (add-case p text q a h)
   where
     of : AddCase p text q a → p .used < q .used
     of (unsound n r) = absurd (not-refused (r .1) e)
@@ -154,7 +154,7 @@ module _ (input : List ℕ) (p : Part) (at : ℕ) (sound : Sound p) (shape : Sha
       let f = read-front i in
       let text = sheetText (drop at input) .0 in
       let g : Add p text q (told t) = subst (Add p text q) (sym e) (add-offered p text sound (drawnSheet (r .sheet)) (f .read) q a o) in
-      let k = kept p shape (outcome p text q (told t) g) in
+      let k = kept p shape (add-case p text q (told t) g) in
       record {
         add = g;
         rest = λ z. f .rest;
