@@ -6,7 +6,7 @@ ghost use lib.ListN.{take};
 ghost use Rattle.plan.specs.Key.{join as joinOf};
 ghost use Rattle.lists.specs.Trusted.Tests.{all};
 ghost use Rattle.plan.specs.Limits.{mostFanins, masks, mostSteps};
-ghost use Rattle.plan.specs.PlanOf.{faninTest, goodInput, blank as blankOf, PlanOf};
+ghost use Rattle.plan.specs.PlanOf.{faninTest, goodInput, emptyPlan, PlanOf};
 ghost use Rattle.plan.specs.Steps.{stepped, joinToken, Took, Writable, Writes};
 ghost use Rattle.plan.specs.Entries.{Joinable, JoinableAt, Split, BestJoin, Fillable, Entries, OneBit, entry};
 use keys::cuts_of;
@@ -267,7 +267,7 @@ fn is_good(k: u8, count: u8, keys: [Key; MOST_FANINS]) -> bool
 
 // A plan of no steps.
 fn blank(ok: bool, key: Key) -> Plan
-    ensures { λ r. ⌜ r ≡ blankOf ok key ⌝ }
+    ensures { λ r. ⌜ r ≡ emptyPlan ok key ⌝ }
 {
     let step = PlanStep {
         token: Token::Push(0),
