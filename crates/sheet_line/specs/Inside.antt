@@ -122,12 +122,12 @@ abbrev pub Flagged : (base size : ℕ) → List Bool → List ℕ → Type 0
 Flagged base size flags xs = (n : ℕ) → n < size → getD flags (base + n) false ≡ elem n xs
 
 -- how many numbers have a flag: all that a fanin may be written as, and those below
-abbrev pub codes : ℕ
-codes = gateBase + mostGates + 1
+abbrev pub flagCount : ℕ
+flagCount = gateBase + mostGates + 1
 
 -- the flags and the number of leaves stand for what was read so far: a net has its flag at its number, gate g at the base and g
 pub record Marked (flags : List Bool) (leaves : ℕ) (seen : Seen) : Type 0 where
-  pub whole : length flags ≡ codes
+  pub whole : length flags ≡ flagCount
   pub nets : Flagged 0 gateBase flags (seen .nets)
   pub gates : Flagged gateBase (mostGates + 1) flags (seen .gates)
   pub count : length (seen .nets) ≡ leaves

@@ -29,7 +29,7 @@ use Rattle.sheet.specs.Trusted.Sheet.{DrawnGate, netOf}
 use Rattle.sheet.specs.Trusted.Step.{Step, good, bad, _>>=_, given}
 use Rattle.sheet.specs.Trusted.Read.{Seen, nothing, readFanin, readFanins, gateHeadOf, readLeft}
 use Rattle.sheet.specs.Trusted.Answers.{numberOf, drawnGate, drawnGates}
-use Rattle.sheet_line.specs.Inside.{valueOf, gateLine, faninNumbers, faultStep, GateLineRead, codes, Marked, saw, faninStep, FaninRead}
+use Rattle.sheet_line.specs.Inside.{valueOf, gateLine, faninNumbers, faultStep, GateLineRead, flagCount, Marked, saw, faninStep, FaninRead}
 use Rattle.sheet_line.proofs.HeadLaws.{zeroValue}
 use Rattle.sheet_line.proofs.FaninLaws.{marked-start, marked-more}
 use Rattle.sheet_reader.proofs.StoreLaws.{readCount, read-most, read-more, Below, drawn-same, taken-more, drawn-more, below-more}
@@ -211,7 +211,7 @@ module _ (text : List ℕ) (start out count : ℕ) where
     pub same : all ≡ fanins out (count - (g + 1)) (g + 1) (drawnGates fs g gates) (l .kind) (take i (drop used fs)) seen (drop i (faninNumbers l)) (drop (l .end) text)
 
   pub at-start : (gates : List Gate) (fs : List Edge) → length gates ≡ mostGates → length fs ≡ faninRoom → start ≤ length text →
-      AtLine gates fs 0 (replicate codes false) 0 Accepted start 0
+      AtLine gates fs 0 (replicate flagCount false) 0 Accepted start 0
   at-start gates fs r w l = record {
     accepted = refl;
     far = omega arith;
