@@ -31,8 +31,8 @@ use Rattle.plan.specs.EntryLaws.{entries-small}
 use Rattle.plan.specs.Steps.{tokens, stepped, joinToken, Took, Writable, StepsWritten, Writes}
 
 -- how many of the at most ten fanins a mask has
-abbrev pub fanins : ℕ → ℕ
-fanins s = length (select s (upto mostFanins))
+abbrev pub faninCount : ℕ → ℕ
+faninCount s = length (select s (upto mostFanins))
 
 -- the fanins of a mask are those of a submask and of the rest
 parts-length : {A : Type 0} (xs : List A) (u s : ℕ) → MaskWithin u s →
@@ -116,7 +116,7 @@ module _ {K : ℕ} {bs ws us : List ℕ} {s : ℕ} {p : Plan} (w : Writable K bs
     part = let a = own (w .entries) .apart some in (a .0, a .1, some)
 
     -- each part has fewer fanins than the mask
-    pub fewer : (fanins (s - u) < fanins s) × (fanins u < fanins s)
+    pub fewer : (faninCount (s - u) < faninCount s) × (faninCount u < faninCount s)
     fewer =
         let p = part in
         let l = p .1 in
