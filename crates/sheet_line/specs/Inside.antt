@@ -53,8 +53,8 @@ valueOf x = record { negative = not (eqb (x .sign) 0); magnitude = x .magnitude 
 abbrev pub valuesOf : Fields → List Number
 valuesOf f = map valueOf (take (f .count) (f .numbers))
 
-abbrev pub fieldsOf : Fields → Option (List Number)
-fieldsOf f = cond (f .laid) (some (valuesOf f)) none
+abbrev pub numbersOf : Fields → Option (List Number)
+numbersOf f = cond (f .laid) (some (valuesOf f)) none
 
 -- the numbers fill their array, and the count is at most as many
 pub record FieldsRoom (f : Fields) : Type 0 where
@@ -62,7 +62,7 @@ pub record FieldsRoom (f : Fields) : Type 0 where
   pub within : f .count ≤ mostFields
 
 pub record FieldsRead (bytes : List ℕ) (f : Fields) : Type 0 where
-  pub same : fields bytes ≡ fieldsOf f
+  pub same : fields bytes ≡ numbersOf f
   pub room : FieldsRoom f
 
 -- ---- line 1
@@ -83,7 +83,7 @@ gateHeadStep g f (BadGate why) = bad (numberOf why) (suc g)
 
 -- of gate g, whichever it is
 pub record GateHeadRead (f : Fields) (r : GateHead) : Type 0 where
-  pub step : (g : ℕ) → gateHeadOf g (fieldsOf f) ≡ gateHeadStep g f r
+  pub step : (g : ℕ) → gateHeadOf g (numbersOf f) ≡ gateHeadStep g f r
   pub fanins : (kind : Kind) (count : ℕ) → r ≡ GoodGate kind count → (count + 2 ≡ f .count) × (count ≤ mostFanins)
 
 -- ---- a gate's line

@@ -8,7 +8,7 @@ ghost use Rattle.lists.specs.Trusted.Tests.{within};
 ghost use Rattle.sheet.specs.Trusted.Read.{counts, headOf, kindOf, sourceOf};
 ghost use Rattle.sheet.specs.Trusted.Limits.{mostGates, mostLeaves};
 ghost use Rattle.sheet.specs.Trusted.Sheet.{netOf};
-ghost use Rattle.sheet_line.specs.Inside.{LineEnds, valueOf, fieldsOf, FieldsRoom, FieldsRead, headStep, kindStep, GateHeadRead, LineRefused, GateLineRead, sourceStep, FaninRead};
+ghost use Rattle.sheet_line.specs.Inside.{LineEnds, valueOf, numbersOf, FieldsRoom, FieldsRead, headStep, kindStep, GateHeadRead, LineRefused, GateLineRead, sourceStep, FaninRead};
 use sheet::FEWEST_FANINS;
 use sheet::Gate;
 use sheet::MOST_FANINS;
@@ -147,7 +147,7 @@ pub enum LineHead {
 
 pub fn read_head(f: Fields) -> LineHead
     requires { ⌜ FieldsRoom f ⌝ }
-    ensures { λ r. ⌜ headOf (fieldsOf f) ≡ headStep r ⌝ }
+    ensures { λ r. ⌜ headOf (numbersOf f) ≡ headStep r ⌝ }
 {
     let laid = f.laid;
     let count = f.count;
