@@ -47,7 +47,7 @@ abbrev gateAhead : List DrawnGate → DrawnGate → Gates → Step Gates
 gateAhead gs x r = good (gs ++ (x ∷ r .0), r .1, r .2)
 
 -- the gates `gs` were read, and so many are left, from gate g on
-abbrev pub lines : (out left g : ℕ) → List DrawnGate → Seen → List ℕ → Step Gates
+abbrev lines : (out left g : ℕ) → List DrawnGate → Seen → List ℕ → Step Gates
 lines out left g gs seen text = readLeft out left g seen text >>= ahead gs
 
 -- the lines after gate g, when its fanins are read
@@ -55,7 +55,7 @@ abbrev linesAfter : (out left g : ℕ) → List DrawnGate → Kind → List Edge
 linesAfter out left g gs kind fs rest r = readLeft out left (suc g) (r .1) rest >>= gateAhead gs (record { kind = kind; fanins = fs ++ r .0 })
 
 -- of gate g the fanins `fs` were read too, and the numbers `xs` are left
-abbrev pub fanins : (out left g : ℕ) → List DrawnGate → Kind → List Edge → Seen → List Number → List ℕ → Step Gates
+abbrev fanins : (out left g : ℕ) → List DrawnGate → Kind → List Edge → Seen → List Number → List ℕ → Step Gates
 fanins out left g gs kind fs seen xs rest = readFanins out g seen xs >>= linesAfter out left g gs kind fs rest
 
 module _ (out left g : ℕ) (gs : List DrawnGate) (seen : Seen) where
@@ -112,11 +112,11 @@ module _ (out left g : ℕ) (gs : List DrawnGate) (seen : Seen) where
       of-line none = refl
       of-line (some p) = of-head (p .1) (gateHeadOf g (fields (p .0)))
 
-  pub line-bad : (text : List ℕ) {number place : ℕ} → gateLine g text ≡ bad number place → lines out (suc left) g gs seen text ≡ bad number place
+  line-bad : (text : List ℕ) {number place : ℕ} → gateLine g text ≡ bad number place → lines out (suc left) g gs seen text ≡ bad number place
   unfolding _>>=_
   line-bad text e = lines-line text ∙ ap (λ m. m >>= faninsOf) e
 
-  pub line-good : (text : List ℕ) {kind : Kind} {xs : List Number} {rest : List ℕ} → gateLine g text ≡ good (kind, xs, rest) →
+  line-good : (text : List ℕ) {kind : Kind} {xs : List Number} {rest : List ℕ} → gateLine g text ≡ good (kind, xs, rest) →
       lines out (suc left) g gs seen text ≡ fanins out left g gs kind [] seen xs rest
   unfolding _>>=_
   line-good text e = lines-line text ∙ ap (λ m. m >>= faninsOf) e
@@ -176,7 +176,7 @@ fanins-over l i h = drop-of-length-le (faninNumbers l) {i = i} (simp (length-map
 -- ---- what holds while the lines are read
 
 module _ (text : List ℕ) (start out count : ℕ) where
-  abbrev pub all : Step Gates
+  abbrev all : Step Gates
   all = readLeft out count 1 nothing (drop start text)
 
   -- at a gate's line
@@ -265,7 +265,7 @@ module _ (text : List ℕ) (start out count : ℕ) where
 
   module _ {gates : List Gate} {fs : List Edge} {used : ℕ} {flags : List Bool} {leaves : ℕ} {answer : ReadAnswer} {g : ℕ} {l : GateLine} {i : ℕ}
       (h : AtFanin gates fs used flags leaves answer g l i) where
-    abbrev pub number : FieldValue
+    abbrev number : FieldValue
     number = getD (l .numbers) (i + 2) zeroValue
 
     one-number : i < l .count →
