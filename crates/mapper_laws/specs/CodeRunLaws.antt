@@ -207,7 +207,7 @@ module _ (first : ℕ) where
           ap (λ o. length (o .table .inputs)) right-operand,
         )
 
-    pub joins : Joins first l r s
+    joins : Joins first l r s
     joins = record {
       before = few;
       depth = (two, h .depth);
