@@ -27,7 +27,7 @@ use Rattle.part.specs.Trusted.Sound.{Sound}
 use Rattle.part.specs.Trusted.Answers.{Answer, accepted, refused}
 use Rattle.part.specs.Trusted.Add.{Offer, Add}
 use Rattle.demands.specs.AddLaws.{AddCase, unsound, misread, driven, read, full, taken, add-case, kept, not-refused}
-use Rattle.part.specs.Storing.{sheetOf}
+use Rattle.part.specs.Storing.{circuitOf}
 use Rattle.part.specs.StoringLaws.{add-misread, add-offered}
 use Rattle.part.specs.Trusted.Listing.{listOf}
 use Rattle.part.specs.declared.Part.{Part}
@@ -149,7 +149,7 @@ module _ (input : List ℕ) (p : Part) (at : ℕ) (sound : Sound p) (shape : Sha
         within = λ z. absurd (not-refused t z);
       }
 
-  pub stepped-offered : r .answer ≡ Read → (q : Part) (a : Answer) (t : Told) → Offer p (sheetOf (r .sheet)) q a → told t ≡ a → Stepped input p at q t (r .end)
+  pub stepped-offered : r .answer ≡ Read → (q : Part) (a : Answer) (t : Told) → Offer p (circuitOf (r .sheet)) q a → told t ≡ a → Stepped input p at q t (r .end)
   stepped-offered i q a t o e =
       let f = read-front i in
       let text = sheetText (drop at input) .0 in
