@@ -23,7 +23,7 @@ use Rattle.plan.specs.declared.Key.{Key}
 use Rattle.plan.specs.declared.Token.{Token}
 use Rattle.plan.specs.declared.Token.the-variants.{Join as join}
 use Rattle.plan.specs.Key.{KeyTaken, held as kept, cut, Way}
-use Rattle.plan.specs.Plans.{Denotes, fanin, binary, Planned, Fragment, drawn, made, marked, place, PlanSays, Runs, stop, pushed, joined, Ready, ready-none, ready-edge, Body}
+use Rattle.plan.specs.Plans.{Denotes, fanin, binary, Planned, Fragment, drawn, made, marked, placeFragment, PlanSays, Runs, stop, pushed, joined, Ready, ready-none, ready-edge, Body}
 use Rattle.plan.specs.Fragments.{Stands, as-drawn, as-made, ready-names, stands-join}
 use Rattle.plan.specs.PlanLaws.{runs-append, plan-body}
 use Rattle.plan.specs.Placings.{inner, inside, own, placings, plan-placed}
@@ -63,12 +63,12 @@ module _ (base : ℕ) (k : Kind) where
   itemHeld m (drawn q) e = held base (marked m (q .1)) e
   itemHeld m (made s) e = pick m (held* base s k e) (e (base + m))
 
-  place-codes : (m : ℕ) (f : Fragment) (fs : Fanins) → codes* base (place m f fs) ≡ itemCodes m f ++ codes* base fs
+  place-codes : (m : ℕ) (f : Fragment) (fs : Fanins) → codes* base (placeFragment m f fs) ≡ itemCodes m f ++ codes* base fs
   place-codes m (drawn q) fs = refl
   place-codes m (made s) fs = refl
 
   place-held : (m : ℕ) (f : Fragment) (fs : Fanins) (e : ℕ → Bool) →
-      held* base (place m f fs) k e ≡ meet k (turned (inverts f) (itemHeld m f e)) (held* base fs k e)
+      held* base (placeFragment m f fs) k e ≡ meet k (turned (inverts f) (itemHeld m f e)) (held* base fs k e)
   place-held m (drawn q) fs e = refl
   place-held m (made s) fs e = refl
 
@@ -93,21 +93,21 @@ module _ (base : ℕ) (k : Kind) where
       (λ d e h. item-same m f d e (permuted-from (sorted-permuted (itemCodes m f)) h)) e
 
   -- merged operands are those of the gate that joins the fragments
-  shown-merge : (m n : ℕ) (x y : Operand) (f g : Fragment) → Shows m x f → Shows n y g → Shows 0 (merge k x y) (made (place m f (place n g end)))
+  shown-merge : (m n : ℕ) (x y : Operand) (f g : Fragment) → Shows m x f → Shows n y g → Shows 0 (merge k x y) (made (placeFragment m f (placeFragment n g end)))
   unfolding merged
   shown-merge m n x y f g s t = record { inverted = refl; table = ap₂ (tabled 0) inputs value }
     where
-      inputs : sorted (x .table .inputs ++ y .table .inputs) ≡ sorted (codes* base (place m f (place n g end)))
+      inputs : sorted (x .table .inputs ++ y .table .inputs) ≡ sorted (codes* base (placeFragment m f (placeFragment n g end)))
       inputs =
           ap₂ (λ a b. sorted (a .inputs ++ b .inputs)) (s .table) (t .table) ∙ sorted-twice (itemCodes m f) (itemCodes n g)
-          ∙ ap sorted (sym (place-codes m f (place n g end) ∙ ap (λ xs. itemCodes m f ++ xs) (place-codes n g end ∙ append-nil (itemCodes n g))))
+          ∙ ap sorted (sym (place-codes m f (placeFragment n g end) ∙ ap (λ xs. itemCodes m f ++ xs) (place-codes n g end ∙ append-nil (itemCodes n g))))
 
       value : _≡_ {A = (ℕ → Bool) → Bool} (λ e. meet k (turned (x .inverted) (output (x .table) e)) (turned (y .inverted) (output (y .table) e)))
-          (λ e. held* base (place m f (place n g end)) k e)
+          (λ e. held* base (placeFragment m f (placeFragment n g end)) k e)
       value = fun-ext (λ e.
           ap₂ (meet k) (ap₂ turned (s .inverted) (shown-output m x f s e)) (ap₂ turned (t .inverted) (shown-output n y g t e)
           ∙ sym (meet-unit-right k (turned (inverts g) (itemHeld n g e))) ∙ sym (place-held n g end e))
-          ∙ sym (place-held m f (place n g end) e))
+          ∙ sym (place-held m f (placeFragment n g end) e))
 
   -- a fragment that can be placed
   abbrev pub IsGate : Fragment → Type 0
@@ -276,13 +276,13 @@ module _ (base : ℕ) (k : Kind) where
         after-length : n + length between ≤ n + length after
         after-length = omega (arith, ap length (tables-added d between (y .top)), length-append between rights)
 
-        abbrev join-run : Runs ds (join l d ∷ []) (y .fragment ∷ x .fragment ∷ sf) (made (place left-mark (x .fragment) (place right-mark (y .fragment) end)) ∷ sf)
+        abbrev join-run : Runs ds (join l d ∷ []) (y .fragment ∷ x .fragment ∷ sf) (made (placeFragment left-mark (x .fragment) (placeFragment right-mark (y .fragment) end)) ∷ sf)
         join-run = joined left-mark right-mark (mark-says l before) (mark-says d between) stop
 
         followed-join : Followed (p ++ (q ++ (join l d ∷ []))) (ms ++ ns) c st ts sf
         followed-join = record {
           top = merge k (operand base n l before (x .top)) (operand base n d between (y .top));
-          fragment = made (place left-mark (x .fragment) (place right-mark (y .fragment) end));
+          fragment = made (placeFragment left-mark (x .fragment) (placeFragment right-mark (y .fragment) end));
           new = x .new ++ (y .new ++ (lefts ++ rights));
           runs = runs-append (x .runs) (runs-append (y .runs) join-run);
           placing =

@@ -14,7 +14,7 @@ use Rattle.cover.specs.Trusted.Tables.{Placed}
 use Rattle.cover.specs.Trusted.Placed.{placed, gateTable, records, records*}
 use Rattle.plan.specs.declared.Token.{Token}
 use Rattle.plan.specs.declared.Token.the-variants.{Push as push, Join as join}
-use Rattle.plan.specs.Plans.{Denotes, fanin, binary, Planned, Fragment, drawn, made, marked, place, Runs, stop, pushed, joined}
+use Rattle.plan.specs.Plans.{Denotes, fanin, binary, Planned, Fragment, drawn, made, marked, placeFragment, Runs, stop, pushed, joined}
 
 -- a few lists in two orders
 push-blocks : (s w t p : List Placed) → Permuted (s ++ ((w ++ t) ++ p)) ((w ++ s) ++ (t ++ p))
@@ -52,7 +52,7 @@ module _ (base : ℕ) where
     own m (made s) = placed m (gateTable base 0 false k s)
 
     place-records : (m : ℕ) (f : Fragment) (fs : Fanins) →
-        records* base (place m f fs) k ≡ (inside f ++ own m f) ++ records* base fs k
+        records* base (placeFragment m f fs) k ≡ (inside f ++ own m f) ++ records* base fs k
     place-records m (drawn q) fs = ap (λ ps. ps ++ records* base fs k) (marked-records m (q .1))
     place-records m (made s) fs = refl
 
@@ -79,7 +79,7 @@ module _ (base : ℕ) where
           permuted-trans (push-blocks (gather inside st) (within i) (taken p) (placings h)) (run-placed h)
       run-placed (joined {p = p} {x = x} {y = y} {st = st} m n d e h) =
           permuted-trans
-          (rw (place-records m x (place n y end), place-records n y end)
+          (rw (place-records m x (placeFragment n y end), place-records n y end)
           (join-blocks (inside x) (own m x) (inside y) (own n y) (gather inside st) (taken p) (placings h)))
           (run-placed h)
 

@@ -17,7 +17,7 @@ use Rattle.plan.specs.declared.Key.{Key}
 use Rattle.plan.specs.Key.{leaf-key}
 use Rattle.plan.specs.declared.Token.{Token}
 use Rattle.plan.specs.declared.Token.the-variants.{Push as push, Join as join}
-use Rattle.plan.specs.Plans.{Denotes, fanin, binary, Planned, Fragment, made, place, PlanSays, Runs, stop, pushed, joined, Standing, Ready, ready-none, ready-edge, Body}
+use Rattle.plan.specs.Plans.{Denotes, fanin, binary, Planned, Fragment, made, placeFragment, PlanSays, Runs, stop, pushed, joined, Standing, Ready, ready-none, ready-edge, Body}
 use Rattle.plan.specs.Fragments.{names-matched, edges, Stands, as-drawn, as-made, ready-names, stands-join}
 
 -- ---- a run
@@ -36,7 +36,7 @@ runs-split (join l c ∷ p) (joined m n d e a) = let r = runs-split p a in (r .0
 
 last-join : {ds : List (Bool × Cover)} {l c : Bool} {x y : Fragment} {st st′ : List Fragment} →
     Runs ds (join l c ∷ []) (y ∷ x ∷ st) st′ →
-    (m : ℕ) × (n : ℕ) × PlanSays l m × PlanSays c n × (st′ ≡ made (place m x (place n y end)) ∷ st)
+    (m : ℕ) × (n : ℕ) × PlanSays l m × PlanSays c n × (st′ ≡ made (placeFragment m x (placeFragment n y end)) ∷ st)
 last-join (joined m n d e stop) = (m, n, d, e, refl)
 
 module _ (K : ℕ) where
@@ -50,7 +50,7 @@ module _ (K : ℕ) where
         let v = runs-split q {q = join l c ∷ []} (subst (λ s. Runs ds (q ++ (join l c ∷ [])) s st′) (x .1) (u .2)) in
         let y = run-stands b (x .0 ∷ st) (v .0) (v .1) in
         let z = last-join {l = l} {c = c} (subst (λ s. Runs ds (join l c ∷ []) s st′) (y .1) (v .2)) in
-        (made (place (z .0) (x .0) (place (z .1) (y .0) end)), z .4, stands-join K es (z .0) (z .1) (x .2) (y .2) w (z .2) (z .3))
+        (made (placeFragment (z .0) (x .0) (placeFragment (z .1) (y .0) end)), z .4, stands-join K es (z .0) (z .1) (x .2) (y .2) w (z .2) (z .3))
 
   -- ---- what it makes
 
