@@ -28,7 +28,7 @@ use Rattle.table.specs.Trusted.Records.{reads, tableOf, recordOf}
 use Rattle.pending.specs.declared.Pending.{Pending}
 use Rattle.pending.specs.Operands.{merged}
 use Rattle.pending.specs.Pendings.{operandOf, Mergeable}
-use Rattle.pending.specs.Merging.{padded, columnOf, columnsOf, valueAt, Rows, Words, MergeRoom, Filled, Ordered, Tabled, invertedOf}
+use Rattle.pending.specs.Merging.{padded, columnOf, columnsOf, rowValue, Rows, Words, MergeRoom, Filled, Ordered, Tabled, invertedOf}
 
 -- ---- a part of a list
 
@@ -351,7 +351,7 @@ module _ (t n : ℕ) (ms : List ℕ) (f : Filled n ms) where
           ap first e ∙ ap (λ xs. index (map (λ m. bit m row) (take 1 xs))) (f .zeros ∙ ap (λ k. padded (take k ms)) z) ∙ ap (λ b. digit b 0) (bit-zero row)
           ∙ ap first (sym z)
 
-  pub level-last : {ws : List ℕ} (i : ℕ) → 0 < i → n ≤ i → i - 1 ≤ n - 1 → Level t ms n i ws → Rows (valueAt t (take n ms)) (getD ws 0 0)
+  pub level-last : {ws : List ℕ} (i : ℕ) → 0 < i → n ≤ i → i - 1 ≤ n - 1 → Level t ms n i ws → Rows (rowValue t (take n ms)) (getD ws 0 0)
   level-last i p l q g = record {
     bits = λ row r. g .rows 0 (pow-pos (n - i)) .bits row r ∙ ap (bit t) (above-none (map (λ m. bit m row) (take i ms)) ∙ all-used i row p l q);
   }
@@ -538,7 +538,7 @@ rows-low n l = rw (rows-are n l) (pow-mono {i = n} {j = 6} l)
 abbrev operandAt : Pending → List ℕ → ℕ → Bool
 operandAt x zs row = turned (x .inverted) (output (tableOf (x .table)) (λ c. bit row (place c zs)))
 
-operand-is : {v w : ℕ} (x : Pending) (zs : List ℕ) → Rows (valueAt (x .table .truth) (columnsOf (reads (x .table)) zs)) v →
+operand-is : {v w : ℕ} (x : Pending) (zs : List ℕ) → Rows (rowValue (x .table .truth) (columnsOf (reads (x .table)) zs)) v →
     Rows (λ row. turned (x .inverted) (bit v row)) w → Rows (operandAt x zs) w
 operand-is x zs e f = record {
   bits = λ row l. f .bits row l ∙ ap (turned (x .inverted)) (e .bits row l ∙ ap (λ bs. bit (x .table .truth) (index bs)) (each row l (reads (x .table))));
@@ -567,8 +567,8 @@ module _ (x y : Pending) (m : Mergeable x y) (shape : length (x .table .inputs) 
   pub inputs-room : MergeRoom (count x y) inputs
   inputs-room = record { fits = m .fits; shape = ap length i ∙ padded-length (sorted (codes x y)) (omega (arith, codes-count, m .fits)) }
 
-  pub merged-is : (k : Kind) {v v′ w w′ t : ℕ} → Rows (valueAt (x .table .truth) (columnsOf (reads (x .table)) (take (count x y) inputs))) v →
-      Rows (valueAt (y .table .truth) (columnsOf (reads (y .table)) (take (count x y) inputs))) v′ → Rows (λ row. turned (x .inverted) (bit v row)) w →
+  pub merged-is : (k : Kind) {v v′ w w′ t : ℕ} → Rows (rowValue (x .table .truth) (columnsOf (reads (x .table)) (take (count x y) inputs))) v →
+      Rows (rowValue (y .table .truth) (columnsOf (reads (y .table)) (take (count x y) inputs))) v′ → Rows (λ row. turned (x .inverted) (bit v row)) w →
       Rows (λ row. turned (y .inverted) (bit v′ row)) w′ → Rows (λ row. meet k (bit w row) (bit w′ row)) t →
       _≡_ {A = Table} (record { net = 0; count = count x y; inputs = inputs; truth = bitAnd t (2 ^ 2 ^ count x y - 1) })
       (recordOf (merged k (operandOf x) (operandOf y)))
