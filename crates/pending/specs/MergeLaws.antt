@@ -417,7 +417,7 @@ pub ordered-shape : {n : ℕ} {xs : List ℕ} → Ordered n xs → length xs ≡
 ordered-shape o = filled-shape (o .filled)
 
 -- the loop that puts the code c among the first n of `xs`: it has passed the first i, and `next` is still to be put in
-pub record Passed (xs : List ℕ) (n c : ℕ) (out : List ℕ) (next i : ℕ) : Type 0 where
+pub record Inserting (xs : List ℕ) (n c : ℕ) (out : List ℕ) (next i : ℕ) : Type 0 where
   pub shape : length out ≡ length xs
   pub within : i ≤ n
   pub rest : drop i out ≡ drop i xs
@@ -427,16 +427,16 @@ module _ (xs : List ℕ) (n c : ℕ) (room : n < inputRoom) (o : Ordered n xs) w
   shape : length xs ≡ inputRoom
   shape = ordered-shape o
 
-  pub passed-none : Passed xs n c xs c 0
-  passed-none = record { shape = refl; within = omega arith; rest = refl; made = refl }
+  pub inserting-start : Inserting xs n c xs c 0
+  inserting-start = record { shape = refl; within = omega arith; rest = refl; made = refl }
 
-  module _ {out : List ℕ} {next i : ℕ} (p : Passed xs n c out next i) (l : i < n) where
+  module _ {out : List ℕ} {next i : ℕ} (p : Inserting xs n c out next i) (l : i < n) where
     here-is : slice i n xs ≡ getD out i 0 ∷ slice (i + 1) n xs
     here-is = slice-cons i n xs 0 l (omega (arith, shape)) ∙ ap₂ (λ y k. y ∷ slice k n xs) (sym (drop-head i out xs (p .rest))) (sym (add-one i))
 
     -- the code at i is less, and stays
-    pub passed-stay : getD out i 0 < next → Passed xs n c out next (i + 1)
-    passed-stay h = record {
+    pub inserting-stay : getD out i 0 < next → Inserting xs n c out next (i + 1)
+    inserting-stay h = record {
       shape = p .shape;
       within = omega arith;
       rest = drop-more i out xs (p .rest);
@@ -447,8 +447,8 @@ module _ (xs : List ℕ) (n c : ℕ) (room : n < inputRoom) (o : Ordered n xs) w
     }
 
     -- or it moves up
-    pub passed-up : next ≤ getD out i 0 → Passed xs n c (set out i next) (getD out i 0) (i + 1)
-    passed-up h = record {
+    pub inserting-up : next ≤ getD out i 0 → Inserting xs n c (set out i next) (getD out i 0) (i + 1)
+    inserting-up h = record {
       shape = length-set out i next ∙ p .shape;
       within = omega arith;
       rest = drop-set-lt (i + 1) out i next (omega arith) ∙ drop-more i out xs (p .rest);
@@ -459,8 +459,8 @@ module _ (xs : List ℕ) (n c : ℕ) (room : n < inputRoom) (o : Ordered n xs) w
           ∙ sym (rw (add-one i, take-suc-set out i next (omega (arith, p .shape, shape))) (append-snoc (take i out) next (insert (getD out i 0) (slice (suc i) n xs))));
     }
 
-  pub passed-all : {out : List ℕ} {next i : ℕ} → Passed xs n c out next i → i ≡ n → set out n next ≡ padded (insert c (take n xs))
-  passed-all {out} {next} {i} p e =
+  pub inserting-end : {out : List ℕ} {next i : ℕ} → Inserting xs n c out next i → i ≡ n → set out n next ≡ padded (insert c (take n xs))
+  inserting-end {out} {next} {i} p e =
       set-split out n next (omega (arith, p .shape, shape))
       ∙ ap (λ zs. take n out ++ (next ∷ zs)) (subst (λ k. drop k out ≡ drop k xs) after (drop-more i out xs (p .rest)) ∙ zeros-after n xs room (o .filled))
       ∙ sym (append-snoc (take n out) next (replicate (inputRoom - suc n) 0))
