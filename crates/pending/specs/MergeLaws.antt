@@ -476,7 +476,7 @@ module _ (xs : List ℕ) (n c : ℕ) (room : n < inputRoom) (o : Ordered n xs) w
       size = insert-length c (take n xs) ∙ ap suc (length-take-le n xs (omega (arith, shape)))
 
 -- the first n of the codes `cs` put among the first m of `xs`, from the last code on: those from i on are there
-pub record Gathered (cs : List ℕ) (n : ℕ) (ys out : List ℕ) (size i : ℕ) : Type 0 where
+pub record InsertedFrom (cs : List ℕ) (n : ℕ) (ys out : List ℕ) (size i : ℕ) : Type 0 where
   pub within : i ≤ n
   pub count : size ≡ n - i + length ys
   pub made : out ≡ padded (sorted (slice i n cs ++ ys))
@@ -488,22 +488,22 @@ module _ (cs : List ℕ) (n : ℕ) (r : MergeRoom n cs) (xs : List ℕ) (m : ℕ
   ys-length : length (take m xs) ≡ m
   ys-length = length-take-le m xs (omega (arith, ordered-shape o))
 
-  pub gathered-none : Gathered cs n (take m xs) xs m n
-  gathered-none = record {
+  pub inserted-none : InsertedFrom cs n (take m xs) xs m n
+  inserted-none = record {
     within = omega arith;
     count = omega (arith, ys-length);
     made = o .filled .zeros ∙ ap padded (sym (ap (λ ws. sorted (ws ++ take m xs)) (slice-empty n cs) ∙ sorted-only (permuted-refl (take m xs)) (o .sorted)));
   }
 
-  module _ {out : List ℕ} {size i : ℕ} (g : Gathered cs n (take m xs) out size i) where
+  module _ {out : List ℕ} {size i : ℕ} (g : InsertedFrom cs n (take m xs) out size i) where
     first-are : take size out ≡ sorted (slice i n cs ++ take m xs)
     first-are =
         ap (take size) (g .made)
         ∙ take-at (sorted (slice i n cs ++ take m xs)) _ size
         (sorted-length (slice i n cs ++ take m xs) ∙ length-append (slice i n cs) (take m xs) ∙ omega (arith, g .count, length-slice i n cs (omega (arith, r .shape))))
 
-    pub gathered-ordered : 0 < i → (size < inputRoom) × Ordered size out
-    gathered-ordered p = (
+    pub inserted-ordered : 0 < i → (size < inputRoom) × Ordered size out
+    inserted-ordered p = (
       omega (arith, g .count, g .within, ys-length),
       record {
         filled = record { fits = omega (arith, g .count, g .within, ys-length); zeros = g .made ∙ ap padded (sym first-are) };
@@ -511,8 +511,8 @@ module _ (cs : List ℕ) (n : ℕ) (r : MergeRoom n cs) (xs : List ℕ) (m : ℕ
       },
     )
 
-    pub gathered-next : {out′ : List ℕ} → 0 < i → out′ ≡ padded (insert (getD cs (i - 1) 0) (take size out)) → Gathered cs n (take m xs) out′ (size + 1) (i - 1)
-    gathered-next p e = record {
+    pub inserted-next : {out′ : List ℕ} → 0 < i → out′ ≡ padded (insert (getD cs (i - 1) 0) (take size out)) → InsertedFrom cs n (take m xs) out′ (size + 1) (i - 1)
+    inserted-next p e = record {
       within = omega (arith, g .within);
       count = omega (arith, g .count, g .within);
       made =
@@ -520,8 +520,8 @@ module _ (cs : List ℕ) (n : ℕ) (r : MergeRoom n cs) (xs : List ℕ) (m : ℕ
           ∙ ap (λ ws. padded (sorted (ws ++ take m xs))) (sym (slice-down i n cs p (g .within) (omega (arith, r .shape, r .fits))));
     }
 
-    pub gathered-all : i ≡ 0 → out ≡ padded (sorted (take n cs ++ take m xs))
-    gathered-all z = g .made ∙ ap (λ k. padded (sorted (slice k n cs ++ take m xs))) z
+    pub inserted-all : i ≡ 0 → out ≡ padded (sorted (take n cs ++ take m xs))
+    inserted-all z = g .made ∙ ap (λ k. padded (sorted (slice k n cs ++ take m xs))) z
 
 -- ---- the whole
 
