@@ -167,16 +167,16 @@ module _ (input : List ℕ) (p : Part) (at : ℕ) (sound : Sound p) (shape : Sha
 -- ---- sheets one after the other
 
 -- `sheet` sheets were accepted up to the place: what comes of the rest is what comes of all
-pub record SoFar (input : List ℕ) (opened : Part) (start : ℕ) (part : Part) (at sheet : ℕ) : Type 0 where
+pub record SheetsSoFar (input : List ℕ) (opened : Part) (start : ℕ) (part : Part) (at sheet : ℕ) : Type 0 where
   pub shaped : Shaped part
   pub sound : Sound part
   pub few : sheet ≤ part .used
   pub whole : (out : List ℕ) → SheetsPrint part sheet (drop at input) out → SheetsPrint opened 0 (drop start input) out
 
-pub so-far-start : (input : List ℕ) (opened : Part) (start : ℕ) → Shaped opened → Sound opened → SoFar input opened start opened start 0
-so-far-start input opened start shape s = record { shaped = shape; sound = s; few = omega arith; whole = λ out m. m }
+pub sheets-start : (input : List ℕ) (opened : Part) (start : ℕ) → Shaped opened → Sound opened → SheetsSoFar input opened start opened start 0
+sheets-start input opened start shape s = record { shaped = shape; sound = s; few = omega arith; whole = λ out m. m }
 
-module _ {input : List ℕ} {opened part : Part} {start at sheet : ℕ} (h : SoFar input opened start part at sheet) where
+module _ {input : List ℕ} {opened part : Part} {start at sheet : ℕ} (h : SheetsSoFar input opened start part at sheet) where
   pub few-sheets : sheet ≤ 800
   few-sheets = omega (arith, h .few, h .sound .used-fits, h .sound .capacity-range)
 
@@ -191,8 +191,8 @@ module _ {input : List ℕ} {opened part : Part} {start at sheet : ℕ} (h : SoF
     left : 0 < length (drop at input)
     left = omega (arith, length-drop at input)
 
-    pub so-far-more : t .number ≡ 0 → SoFar input opened start q end (sheet + 1)
-    so-far-more z =
+    pub sheets-more : t .number ≡ 0 → SheetsSoFar input opened start q end (sheet + 1)
+    sheets-more z =
         let e = told-accepted t z in
         record {
           shaped = s .shaped;
