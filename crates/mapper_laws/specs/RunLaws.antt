@@ -24,7 +24,7 @@ use Rattle.plan.specs.declared.Token.{Token}
 use Rattle.plan.specs.declared.Token.the-variants.{Join as join}
 use Rattle.plan.specs.Key.{KeyTaken, held as kept, cut, Way}
 use Rattle.plan.specs.Plans.{Denotes, fanin, binary, Planned, Fragment, drawn, made, marked, placeFragment, PlanSays, Runs, stop, pushed, joined, Ready, ready-none, ready-edge, Body}
-use Rattle.plan.specs.Fragments.{Stands, as-drawn, as-made, ready-names, stands-join}
+use Rattle.plan.specs.Fragments.{FragmentOf, as-drawn, as-made, ready-names, fragment-join}
 use Rattle.plan.specs.PlanLaws.{runs-append, plan-body}
 use Rattle.plan.specs.Placings.{inner, inside, own, placings, plan-placed}
 use Rattle.mapper_laws.specs.Mapping.{Low, Early}
@@ -199,7 +199,7 @@ module _ (base : ℕ) (k : Kind) where
     run-append fanins (t ∷ p) q s = run-append fanins p q (runToken base n k fanins t s)
 
     -- only a gate is wide enough to be placed
-    taken-places : {K : ℕ} {es : Edges} {f : Fragment} {ns : List ℕ} {a b : Key} {l : Bool} → Stands K es f ns a → KeyTaken a l b → Places l f
+    taken-places : {K : ℕ} {es : Edges} {f : Fragment} {ns : List ℕ} {a b : Key} {l : Bool} → FragmentOf K es f ns a → KeyTaken a l b → Places l f
     taken-places s kept = tt
     taken-places (as-drawn {q = (i, net z)} s h) (cut w) = absurd (omega (arith, s .inputs))
     taken-places (as-drawn {q = (i, top m j fs)} s h) (cut w) = tt
@@ -217,7 +217,7 @@ module _ (base : ℕ) (k : Kind) where
         pub placing : placings base k ds runs ≡ numbered (n + length ts) new
         pub ends : runPlan base n k fanins p (record { stack = st; placed = ts }) ≡ record { stack = top ∷ st; placed = ts ++ new }
         pub shows : Shows 0 top fragment
-        pub stands : Stands K es fragment ns a
+        pub stands : FragmentOf K es fragment ns a
         pub low : Low base (n + length (ts ++ new)) (top .table)
         pub earlier : Early base (numbered (n + length ts) new)
 
@@ -301,7 +301,7 @@ module _ (base : ℕ) (k : Kind) where
               shown-merge left-mark right-mark (operand base n l before (x .top)) (operand base n d between (y .top)) (x .fragment) (y .fragment)
               (shown-operand l before (x .top) (x .fragment) left-places (x .shows))
               (shown-operand d between (y .top) (y .fragment) right-places (y .shows));
-          stands = stands-join K es left-mark right-mark (x .stands) (y .stands) w (mark-says l before) (mark-says d between);
+          stands = fragment-join K es left-mark right-mark (x .stands) (y .stands) w (mark-says l before) (mark-says d between);
           low =
               rw (← after-is)
               (low-merged (n + length after) (operand base n l before (x .top)) (operand base n d between (y .top))
