@@ -12,8 +12,9 @@ use Rattle.lists.specs.Cases.{and-split}
 use Rattle.lists.specs.Trusted.Tests.{within}
 use Rattle.tree.specs.declared.Kind.{Kind}
 use Rattle.tree.specs.declared.Kind.the-variants.{And as and, Or as or}
+use Rattle.tree.specs.Trusted.Limits.{fewestFanins, mostFanins}
 use Rattle.decimal.specs.Trusted.Number.{Number, columns, fieldNumber}
-use Rattle.sheet.specs.Trusted.Limits.{mostGates, fewestFanins, mostFanins, mostFields}
+use Rattle.sheet.specs.Trusted.Limits.{mostGates, mostFields}
 use Rattle.sheet.specs.Trusted.Line.{line, with, cells, fields}
 use Rattle.sheet.specs.Trusted.Sheet.{DrawnSheet, sheet, codeOf}
 use Rattle.sheet.specs.Trusted.Step.{Step}

@@ -5,7 +5,7 @@ use mathlib.Core.Bool.{Bool, true, false}
 use lib.ListN.{length, getD, set, take}
 use Rattle.lists.specs.Trusted.Lists.{Every, upto}
 use Rattle.tree.specs.declared.Kind.{Kind}
-use Rattle.tree.specs.Trusted.Limits.{codeBase}
+use Rattle.tree.specs.Trusted.Limits.{codeBase, mostFanins}
 use Rattle.plan.specs.declared.Key.{Key}
 use Rattle.plan.specs.declared.Token.{Token}
 use Rattle.plan.specs.Key.{leaf-key}
@@ -18,7 +18,7 @@ use Rattle.plan.specs.Limits.{mostBelow}
 use Rattle.sheet.specs.declared.Edge.{Edge}
 use Rattle.sheet.specs.declared.Gate.{Gate}
 use Rattle.sheet.specs.declared.Sheet.{Sheet}
-use Rattle.sheet.specs.Trusted.Limits.{mostGates, mostFanins, faninRoom}
+use Rattle.sheet.specs.Trusted.Limits.{mostGates, faninRoom}
 use Rattle.sheet.specs.Trusted.Sheet.{DrawnGate, faninGates}
 use Rattle.sheet.specs.Trusted.Answers.{drawnGate, drawnSheet}
 use Rattle.sheet.specs.Trusted.Trees.{drawn}

@@ -11,7 +11,8 @@ use Rattle.plan.specs.declared.Key.{Key}
 use Rattle.plan.specs.declared.Token.the-variants.{Push as push}
 use Rattle.plan.specs.declared.Plan.{Plan}
 use Rattle.plan.specs.Key.{key}
-use Rattle.plan.specs.Limits.{leastInputs, mostInputs, leastFanins, mostFanins, mostBelow, mostSteps}
+use Rattle.tree.specs.Trusted.Limits.{fewestFanins, mostFanins}
+use Rattle.plan.specs.Limits.{leastInputs, mostInputs, mostBelow, mostSteps}
 use Rattle.plan.specs.Plans.{Planned}
 use Rattle.plan.specs.Reach.{LeastReach}
 use Rattle.plan.specs.Steps.{tokens}
@@ -23,7 +24,7 @@ faninTest K a = within 1 K (a .width) && leb (a .below) mostBelow
 -- the first `count` keys can be searched
 unfoldable pub goodInput : ℕ → ℕ → List Key → Bool
 goodInput K count keys =
-    within leastInputs mostInputs K && (within leastFanins mostFanins count && all (faninTest K) (take count keys))
+    within leastInputs mostInputs K && (within fewestFanins mostFanins count && all (faninTest K) (take count keys))
 
 -- a plan of no steps
 abbrev pub emptyPlan : Bool → Key → Plan

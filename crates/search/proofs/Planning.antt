@@ -11,7 +11,8 @@ use Rattle.lists.specs.Trusted.Lists.{upto}
 use Rattle.lists.specs.NumberLaws.{upto-length}
 use Rattle.plan.specs.declared.Key.{Key}
 use Rattle.plan.specs.declared.Plan.{Plan}
-use Rattle.plan.specs.Limits.{masks, mostFanins}
+use Rattle.tree.specs.Trusted.Limits.{mostFanins}
+use Rattle.plan.specs.Limits.{masks}
 use Rattle.plan.specs.Key.{key}
 use Rattle.plan.specs.Masks.{select}
 use Rattle.plan.specs.MaskLaws.{select-all}

@@ -19,7 +19,8 @@ use Rattle.plan.specs.declared.Key.{Key}
 use Rattle.plan.specs.declared.Token.{Token}
 use Rattle.plan.specs.declared.Token.the-variants.{Push as push, Join as join}
 use Rattle.plan.specs.declared.Plan.{Plan}
-use Rattle.plan.specs.Limits.{mostFanins, mostSteps}
+use Rattle.tree.specs.Trusted.Limits.{mostFanins}
+use Rattle.plan.specs.Limits.{mostSteps}
 use Rattle.plan.specs.Key.{leaf-key, cuts, Way}
 use Rattle.plan.specs.KeyLaws.{join-way}
 use Rattle.plan.specs.Masks.{select, MaskWithin}

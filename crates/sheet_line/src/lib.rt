@@ -9,14 +9,14 @@ ghost use Rattle.sheet.specs.Trusted.Read.{counts, headOf, kindOf, sourceOf};
 ghost use Rattle.sheet.specs.Trusted.Limits.{mostGates, mostLeaves};
 ghost use Rattle.sheet.specs.Trusted.Sheet.{netOf};
 ghost use Rattle.sheet_line.specs.Inside.{LineEnds, valueOf, numbersOf, FieldsRoom, FieldsRead, headStep, kindStep, GateHeadRead, LineRefused, GateLineRead, sourceStep, FaninRead};
-use sheet::FEWEST_FANINS;
 use sheet::Gate;
-use sheet::MOST_FANINS;
 use sheet::MOST_GATES;
 use sheet::MOST_LEAVES;
 use sheet::Refusal;
 use sheet::Source;
+use tree::FEWEST_FANINS;
 use tree::Kind;
+use tree::MOST_FANINS;
 
 // How many numbers have a flag: all that a fanin may be written as, and those below.
 pub const CODES: usize = tree::CODE_BASE as usize + MOST_GATES + 1;

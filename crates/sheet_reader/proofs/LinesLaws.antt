@@ -11,6 +11,7 @@ use lib.ListN.{length, getD, take, drop, set, replicate, length-set, length-take
 use lib.Seq.{drop-cons, getD-drop, getD-take, length-take-le}
 use Rattle.lists.specs.ListLaws.{every-none}
 use Rattle.tree.specs.declared.Kind.{Kind}
+use Rattle.tree.specs.Trusted.Limits.{mostFanins}
 use Rattle.decimal.specs.Trusted.Number.{Number}
 use Rattle.sheet.specs.declared.Source.{Source}
 use Rattle.sheet.specs.declared.Edge.{Edge}
@@ -23,7 +24,7 @@ use Rattle.sheet_line.specs.declared.Fanin.{Fanin}
 use Rattle.sheet_line.specs.declared.Fanin.the-variants.{Reads, Bad}
 use Rattle.sheet_line.specs.declared.FieldValue.{FieldValue}
 use Rattle.sheet_line.specs.declared.GateLine.{GateLine}
-use Rattle.sheet.specs.Trusted.Limits.{mostFields, mostGates, mostFanins, mostLeaves, faninRoom}
+use Rattle.sheet.specs.Trusted.Limits.{mostFields, mostGates, mostLeaves, faninRoom}
 use Rattle.sheet.specs.Trusted.Line.{line, fields}
 use Rattle.sheet.specs.Trusted.Sheet.{DrawnGate, netOf}
 use Rattle.sheet.specs.Trusted.Step.{Step, good, bad, _>>=_, given}

@@ -9,9 +9,9 @@ use lib.Dec.{T}
 use lib.ListN.{drop}
 use borrow.Author.Tests.{not-true, not-false, eq-eqb, ne-eqb}
 use Rattle.tree.specs.declared.Kind.{Kind}
+use Rattle.tree.specs.Trusted.Limits.{fewestFanins, mostFanins}
 use Rattle.sheet.specs.declared.Refusal.{Refusal}
 use Rattle.sheet_line.specs.declared.GateHead.the-variants.{Good, Bad}
-use Rattle.sheet.specs.Trusted.Limits.{fewestFanins, mostFanins}
 use Rattle.sheet.specs.Trusted.Read.{counts, kindOf, gateHeadOf}
 use Rattle.sheet_line.specs.Inside.{valuesOf, numbersOf, kindStep}
 use Rattle.sheet.specs.NumberLaws.{counts-holds}
