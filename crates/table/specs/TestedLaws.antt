@@ -16,7 +16,7 @@ use Rattle.table.specs.Trusted.Limits.{tableBase, inputRoom, tableRoom, 
 use Rattle.table.specs.Trusted.Records.{reads}
 use Rattle.table.specs.Trusted.Rules.{AllZero, Blank, Coded, Sized, Fine, FirstBad}
 use Rattle.table.specs.RuleLaws.{Known, Clear, Unclaimed, Keeps, rules-snoc, rules-keeps, rules-prefix}
-use Rattle.table.specs.Trusted.RecordTest.{allZero, isBlank, isPadded, isCoded, isSized, sourced, clear, unclaimed, keeps, Verdict, none, bad, refused, walk, tested, Says, isNone}
+use Rattle.table.specs.Trusted.RecordTest.{allZero, isBlank, isCoded, isSized, sourced, clear, unclaimed, keeps, Verdict, none, bad, refused, walk, tested, Says, isNone}
 use Rattle.table.specs.declared.Table.{Table}
 
 -- ---- one record
