@@ -11,7 +11,7 @@ use Rattle.lists.specs.ListLaws.{permuted-to, permuted-from}
 use Rattle.tree.specs.Leaves.{leaves}
 use Rattle.cover.specs.Trusted.Tables.{LookupTable, numbered}
 use Rattle.cover.specs.Eval.{numbered-is, numbered-one}
-use Rattle.cover.specs.Trusted.Placed.{number}
+use Rattle.cover.specs.Trusted.Placed.{rootNumber}
 use Rattle.cover.specs.Size.{SizedTable, fits-sized}
 use Rattle.cover.specs.Rising.{records-rising}
 use Rattle.cover.specs.Inputs.{Tidy, root-reads, root-in}
@@ -31,7 +31,7 @@ module _ (base K : ℕ) (old new : List LookupTable) (s : Circuit) (a : CoverTab
   abbrev pub CodeSource : ℕ → Type 0
   CodeSource x = (x ∈ leaves (s .tree)) ⊎ ((t : ℕ) × (x ≡ base + t) × (length old < t))
 
-  pub added-tidy : Every (Tidy (s .out) (number (a .cover)) CodeSource) (numbered (length old) new)
+  pub added-tidy : Every (Tidy (s .out) (rootNumber (a .cover)) CodeSource) (numbered (length old) new)
   added-tidy =
       permuted-from (a .taken)
       (root-reads base CodeSource (s .out) (s .inverted) (a .covers .split) (a .covers .root) (λ x m. inl m)
@@ -47,7 +47,7 @@ module _ (base K : ℕ) (old new : List LookupTable) (s : Circuit) (a : CoverTab
       (numbered (length old) new)
   added-drives p m =
       let r = root-in base (s .out) (s .inverted) (a .covers .root) in
-      let i = permuted-to (a .taken) (λ q j. j) (number (a .cover), r .0) (r .1) in (
+      let i = permuted-to (a .taken) (λ q j. j) (rootNumber (a .cover), r .0) (r .1) in (
         λ l. ⊎-elim (λ z. z) (λ f. absurd (omega (arith, f .1, a .last))) (added-tidy p m .0),
-        λ e. ap (λ q. q .1 .drives) (numbered-one (length old) new p (number (a .cover), r .0) m i (e ∙ sym (a .last))) ∙ r .2,
+        λ e. ap (λ q. q .1 .drives) (numbered-one (length old) new p (rootNumber (a .cover), r .0) m i (e ∙ sym (a .last))) ∙ r .2,
       )

@@ -14,7 +14,7 @@ use Rattle.tree.specs.Trusted.Tree.{Node, leaf, gate, Edges, none, edge, turned
 use Rattle.tree.specs.Leaves.{leaves, leaves*}
 use Rattle.cover.specs.Trusted.Tables.{LookupTable, Placed, numbered, writes, run, settled}
 use Rattle.cover.specs.Eval.{Agree, driven-in, numbered-is, settled-append, ValuesHold, uses, Untouched, holds-on, run-holds}
-use Rattle.cover.specs.Trusted.Placed.{number}
+use Rattle.cover.specs.Trusted.Placed.{rootNumber}
 use Rattle.cover.specs.Value.{root-value}
 use Rattle.cover.specs.Inputs.{Tidy}
 use Rattle.cover.specs.CoverTableLaws.{added-tidy}
@@ -36,20 +36,20 @@ mutual
 
 module _ (base K : ℕ) (old new : List LookupTable) (s : Circuit) (legal : Legal base s) (a : CoverTables base K old new s) where
   -- the new tables do not read the output net, and only the root's drives it
-  new-tidy : Every (Tidy (s .out) (number (a .cover)) (λ x. x ≢ s .out)) (numbered (length old) new)
+  new-tidy : Every (Tidy (s .out) (rootNumber (a .cover)) (λ x. x ≢ s .out)) (numbered (length old) new)
   new-tidy p m =
       let t = added-tidy base K old new s a p m in
       (t .0, λ x i. ⊎-elim (λ l. legal .leaf-nets x l .2) (λ r. omega (arith, r .1, legal .out-net)) (t .1 x i))
 
   -- a new table writes its own code and, if it is the root's, the output net
-  new-writes : Every (λ p. Every (λ c. (c ≡ base + p .0) ⊎ ((c ≡ s .out) × (p .0 ≡ number (a .cover)))) (writes base p)) (numbered (length old) new)
+  new-writes : Every (λ p. Every (λ c. (c ≡ base + p .0) ⊎ ((c ≡ s .out) × (p .0 ≡ rootNumber (a .cover)))) (writes base p)) (numbered (length old) new)
   new-writes p m =
       every-cons (inl refl)
       (λ c i. let d = driven-in (p .1 .drives) c i in ⊎-elim (λ z. absurd (omega arith)) (λ f. inr (d .0 ∙ f .0, f .1)) (new-tidy p m .0))
 
   -- nothing that is used is above the table's own code; and the output net is used from the root on
   abbrev pub LowCodes : Placed → Type 0
-  LowCodes p = Every (λ c. (c ≤ base + p .0) × (c ≡ s .out → number (a .cover) ≤ p .0)) (uses base p)
+  LowCodes p = Every (λ c. (c ≤ base + p .0) × (c ≡ s .out → rootNumber (a .cover) ≤ p .0)) (uses base p)
 
   pub new-low : Every LowCodes (numbered (length old) new)
   new-low p m =

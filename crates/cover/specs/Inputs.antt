@@ -14,7 +14,7 @@ use Rattle.tree.specs.Leaves.{leaves}
 use Rattle.cover.specs.Trusted.Cover.{Cover, net, top, Fanins, end, old, new, SplitOf, Rooted, rooted}
 use Rattle.cover.specs.Nets.{nets, nets*, split-nets}
 use Rattle.cover.specs.Trusted.Tables.{LookupTable, Placed}
-use Rattle.cover.specs.Trusted.Placed.{number, placed, code, codes, codes*, tableOf, records, records*}
+use Rattle.cover.specs.Trusted.Placed.{rootNumber, placed, code, codes, codes*, gateTable, records, records*}
 
 -- the table drives nothing or, if it is the table m, the net n; and its inputs have the property P
 abbrev pub Tidy : ℕ → ℕ → (ℕ → Type 0) → Placed → Type 0
@@ -33,12 +33,12 @@ module _ (base : ℕ) where
     both : (xs ys : List ℕ) (ps qs : List Placed) → Reads xs ps → Reads ys qs → Reads (xs ++ ys) (ps ++ qs)
     both xs ys ps qs g h = (every-append xs ys (g .0) (h .0), every-append ps qs (g .1) (h .1))
 
-    gate-reads : (m : ℕ) (k : Kind) (fs : Fanins) → Own (records* base fs k ++ placed m (tableOf base 0 false k fs)) →
+    gate-reads : (m : ℕ) (k : Kind) (fs : Fanins) → Own (records* base fs k ++ placed m (gateTable base 0 false k fs)) →
         Reads (codes* base fs) (records* base fs k) →
-        Reads (code base m (codes* base fs)) (records* base fs k ++ placed m (tableOf base 0 false k fs))
+        Reads (code base m (codes* base fs)) (records* base fs k ++ placed m (gateTable base 0 false k fs))
     gate-reads zero k fs g h = (h .0, every-append (records* base fs k) [] (h .1) (every-none _))
     gate-reads (suc m) k fs g h =
-        let own = placed (suc m) (tableOf base 0 false k fs) in (
+        let own = placed (suc m) (gateTable base 0 false k fs) in (
           every-cons (every-head (every-right (records* base fs k) own g)) (every-none _),
           every-append (records* base fs k) own (h .1) (every-cons (refl, permuted-to (sorted-permuted (codes* base fs)) (h .0)) (every-none _)),
         )
@@ -47,7 +47,7 @@ module _ (base : ℕ) where
       cover-reads : (c : Cover) → Every P (nets c) → Own (records base c 0 false) → Reads (codes base c) (records base c 0 false)
       cover-reads (net n) h g = (h, every-none _)
       cover-reads (top m k fs) h g =
-          gate-reads m k fs g (fanins-reads fs k h (every-left (records* base fs k) (placed m (tableOf base 0 false k fs)) g))
+          gate-reads m k fs g (fanins-reads fs k h (every-left (records* base fs k) (placed m (gateTable base 0 false k fs)) g))
 
       fanins-reads : (fs : Fanins) (k : Kind) → Every P (nets* fs) → Own (records* base fs k) →
           Reads (codes* base fs) (records* base fs k)
@@ -59,7 +59,7 @@ module _ (base : ℕ) where
           (cover-reads c (every-left (nets c) (nets* fs) h) (every-left ps qs g))
           (fanins-reads fs k (every-right (nets c) (nets* fs) h) (every-right ps qs g))
       fanins-reads (new m s fs) k h g =
-          let own = placed m (tableOf base 0 false k s) in
+          let own = placed m (gateTable base 0 false k s) in
           let ps = records* base s k ++ own in
           let qs = records* base fs k in
           let l = every-left ps qs g in
@@ -69,13 +69,13 @@ module _ (base : ℕ) where
 
     pub root-reads : {t : Node} {c : Cover} (n : ℕ) (v : Bool) → SplitOf t c → Rooted c → Every P (leaves t) →
         Own (records base c n v) →
-        Every (Tidy n (number c) P) (records base c n v)
+        Every (Tidy n (rootNumber c) P) (records base c n v)
     root-reads n v s (rooted {n = m} {k = k} {fs = fs}) h g =
-        let own = placed (suc m) (tableOf base n v k fs) in
+        let own = placed (suc m) (gateTable base n v k fs) in
         let r = fanins-reads fs k (permuted-from (split-nets s) h) (every-left (records* base fs k) own g) in
         every-append (records* base fs k) own (λ p i. (inl (r .1 p i .0), r .1 p i .1))
         (every-cons (inr (refl, refl), permuted-to (sorted-permuted (codes* base fs)) (r .0)) (every-none _))
 
   -- the root's table is there, and drives the net
-  pub root-in : {c : Cover} (n : ℕ) (v : Bool) → Rooted c → (r : LookupTable) × ((number c, r) ∈ records base c n v) × (r .drives ≡ n)
-  root-in n v (rooted {n = m} {k = k} {fs = fs}) = (tableOf base n v k fs, Memᴰ·append-right (records* base fs k) (first refl), refl)
+  pub root-in : {c : Cover} (n : ℕ) (v : Bool) → Rooted c → (r : LookupTable) × ((rootNumber c, r) ∈ records base c n v) × (r .drives ≡ n)
+  root-in n v (rooted {n = m} {k = k} {fs = fs}) = (gateTable base n v k fs, Memᴰ·append-right (records* base fs k) (first refl), refl)

@@ -16,7 +16,7 @@ use Rattle.tree.specs.Trusted.Tree.{Node}
 use Rattle.tree.specs.Leaves.{leaves}
 use Rattle.cover.specs.Trusted.Cover.{Cover, net, top, Fanins, end, old, new, SplitOf}
 use Rattle.cover.specs.Trusted.Tables.{LookupTable, Placed, numbered}
-use Rattle.cover.specs.Trusted.Placed.{code, codes, codes*, tableOf, placed, records, records*}
+use Rattle.cover.specs.Trusted.Placed.{code, codes, codes*, gateTable, placed, records, records*}
 use Rattle.cover.specs.Nets.{nets, nets*, split-nets}
 
 module _ (base x : ℕ) where
@@ -47,11 +47,11 @@ module _ (base x : ℕ) where
 
   few-gate : (m n : ℕ) (v : Bool) (k : Kind) (fs : Fanins) →
       Few (codes* base fs) (records* base fs k) (times x (nets* fs) + tally (records* base fs k)) →
-      Few (code base m (codes* base fs)) (records* base fs k ++ placed m (tableOf base n v k fs))
-      (times x (nets* fs) + tally (records* base fs k ++ placed m (tableOf base n v k fs)))
+      Few (code base m (codes* base fs)) (records* base fs k ++ placed m (gateTable base n v k fs))
+      (times x (nets* fs) + tally (records* base fs k ++ placed m (gateTable base n v k fs)))
   few-gate zero n v k fs h = rw (append-nil (records* base fs k)) h
   few-gate (suc m) n v k fs h =
-      let own = placed (suc m) (tableOf base n v k fs) in
+      let own = placed (suc m) (gateTable base n v k fs) in
       let e = sum-append (λ p. is x (base + p .0)) (records* base fs k) own in (
         omega arith,
         every-append (records* base fs k) own (λ p i. (omega (arith, h .1 p i .0), h .1 p i .1))
@@ -70,7 +70,7 @@ module _ (base x : ℕ) where
         (few* fs k)
     few* (new m s fs) k =
         few-append (code base m (codes* base s)) (codes* base fs) (nets* s) (nets* fs)
-        (records* base s k ++ placed m (tableOf base 0 false k s)) (records* base fs k)
+        (records* base s k ++ placed m (gateTable base 0 false k s)) (records* base fs k)
         (few-gate m 0 false k s (few* s k)) (few* fs k)
 
 -- where its tables are numbered, its leaves lie below the base, and no net stands at two leaves

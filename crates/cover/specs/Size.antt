@@ -15,7 +15,7 @@ use Rattle.cover.specs.Trusted.Bits.{bit, place}
 use Rattle.cover.specs.BitLaws.{truthOf-lt}
 use Rattle.cover.specs.Trusted.Cover.{Cover, net, top, Fanins, end, old, new, pick, arity, tables, tables*, width, widths, Fits, Fits*}
 use Rattle.cover.specs.Trusted.Tables.{LookupTable, Placed}
-use Rattle.cover.specs.Trusted.Placed.{code, codes, codes*, held*, tableOf, placed, records, records*}
+use Rattle.cover.specs.Trusted.Placed.{code, codes, codes*, held*, gateTable, placed, records, records*}
 
 -- 2 to K inputs, and no bit in the truth table but at an index of theirs
 pub record SizedTable (K : ℕ) (p : Placed) : Type 0 where
@@ -47,25 +47,25 @@ module _ (base : ℕ) where
   mutual
     pub records-length : (c : Cover) (n : ℕ) (v : Bool) → length (records base c n v) ≡ tables c
     records-length (net c) n v = refl
-    records-length (top m k fs) n v = simp length-append (omega (arith, placed-length m (tableOf base n v k fs), records-length* fs k))
+    records-length (top m k fs) n v = simp length-append (omega (arith, placed-length m (gateTable base n v k fs), records-length* fs k))
 
     pub records-length* : (fs : Fanins) (k : Kind) → length (records* base fs k) ≡ tables* fs
     records-length* end k = refl
     records-length* (old i c fs) k = simp length-append (omega (arith, records-length c 0 false, records-length* fs k))
-    records-length* (new m s fs) k = simp length-append (omega (arith, placed-length m (tableOf base 0 false k s), records-length* s k, records-length* fs k))
+    records-length* (new m s fs) k = simp length-append (omega (arith, placed-length m (gateTable base 0 false k s), records-length* s k, records-length* fs k))
 
   module _ (K : ℕ) where
     gate-sized : (m n : ℕ) (v : Bool) (k : Kind) (fs : Fanins) → 2 ≤ arity fs → pick m (Unit {0}) (widths fs ≤ K) →
         (arity fs ≤ widths fs) × Every (SizedTable K) (records* base fs k) →
-        (1 ≤ pick m (widths fs) 1) × Every (SizedTable K) (records* base fs k ++ placed m (tableOf base n v k fs))
+        (1 ≤ pick m (widths fs) 1) × Every (SizedTable K) (records* base fs k ++ placed m (gateTable base n v k fs))
     gate-sized zero n v k fs h f g = (omega arith, every-append (records* base fs k) [] (g .1) (every-none _))
     gate-sized (suc m) n v k fs h f g =
-        (omega arith, every-append (records* base fs k) (placed (suc m) (tableOf base n v k fs)) (g .1) (every-cons own (every-none _)))
+        (omega arith, every-append (records* base fs k) (placed (suc m) (gateTable base n v k fs)) (g .1) (every-cons own (every-none _)))
       where
         u : length (sorted (codes* base fs)) ≡ widths fs
         u = sym (permuted-length (sorted-permuted (codes* base fs))) ∙ codes-length* fs
 
-        own : SizedTable K (suc m, tableOf base n v k fs)
+        own : SizedTable K (suc m, gateTable base n v k fs)
         own = record {
           least = omega (arith, u);
           most = omega (arith, u);
@@ -86,4 +86,4 @@ module _ (base : ℕ) where
       fits-sized* (new m s fs) k f =
           let g = gate-sized m 0 false k s (f .0 .0) (f .0 .1) (fits-sized* s k (f .0 .2)) in
           let h = fits-sized* fs k (f .1) in
-          (omega arith, every-append (records* base s k ++ placed m (tableOf base 0 false k s)) (records* base fs k) (g .1) (h .1))
+          (omega arith, every-append (records* base s k ++ placed m (gateTable base 0 false k s)) (records* base fs k) (g .1) (h .1))

@@ -13,7 +13,7 @@ use Rattle.tree.specs.Trusted.Tree.{Node, Edges, turned, meet, unit, value, val
 use Rattle.cover.specs.Trusted.Cover.{Cover, net, top, Fanins, end, old, new, pick, frontier, SplitOf, same, split, Matched, done, match, Rooted, rooted}
 use Rattle.cover.specs.Trusted.Tables.{output}
 use Rattle.cover.specs.Eval.{Agree, tabled-output, in-driven, ValuesHold}
-use Rattle.cover.specs.Trusted.Placed.{placed, code, codes, codes*, held, held*, tableOf, records, records*}
+use Rattle.cover.specs.Trusted.Placed.{placed, code, codes, codes*, held, held*, gateTable, records, records*}
 
 module _ (base : ℕ) where
   -- ---- what a gate holds looks at nothing but its codes, so that its table has that value
@@ -40,7 +40,7 @@ module _ (base : ℕ) where
           (held-same* fs k (every-right (code base m (codes* base s)) (codes* base fs) h))
 
   tableOf-output : (n : ℕ) (v : Bool) (k : Kind) (fs : Fanins) (e : ℕ → Bool) →
-      output (tableOf base n v k fs) e ≡ turned v (held* base fs k e)
+      output (gateTable base n v k fs) e ≡ turned v (held* base fs k e)
   tableOf-output n v k fs e =
       tabled-output n (sorted (codes* base fs)) (λ e. turned v (held* base fs k e))
       (λ d e h. ap (turned v) (held-same* d e fs k (permuted-from (sorted-permuted (codes* base fs)) h))) e
@@ -83,7 +83,7 @@ module _ (base : ℕ) (e : ℕ → Bool) where
   joined-inserted k {x} (there {y = y} {ys = ys} i) = ap (meet k (fanin y)) (joined-inserted k i) ∙ meet-swap k (fanin y) (fanin x) (joined k ys)
 
   -- a gate has one value, be it read through its table or held
-  gate-value : (m : ℕ) (k : Kind) (fs : Fanins) → Every (ValuesHold base e) (placed m (tableOf base 0 false k fs)) →
+  gate-value : (m : ℕ) (k : Kind) (fs : Fanins) → Every (ValuesHold base e) (placed m (gateTable base 0 false k fs)) →
       pick m (held* base fs k e) (e (base + m)) ≡ held* base fs k e
   gate-value zero k fs h = refl
   gate-value (suc m) k fs h = every-head (every-head h) ∙ tableOf-output base 0 false k fs e
@@ -93,7 +93,7 @@ module _ (base : ℕ) (e : ℕ → Bool) where
   frontier-value end k h = refl
   frontier-value (old i c fs) k h = ap (meet k (fanin (i, c))) (frontier-value fs k (every-right (records base c 0 false) (records* base fs k) h))
   frontier-value (new m s fs) k h =
-      let own = placed m (tableOf base 0 false k s) in
+      let own = placed m (gateTable base 0 false k s) in
       let g = every-left (records* base s k ++ own) (records* base fs k) h in
       ap₂ (meet k) (gate-value m k s (every-right (records* base s k) own g) ∙ frontier-value s k (every-left (records* base s k) own g))
       (frontier-value fs k (every-right (records* base s k ++ own) (records* base fs k) h))
@@ -106,7 +106,7 @@ module _ (base : ℕ) (e : ℕ → Bool) where
       every-cons (every-left (records base c 0 false) (records* base fs k) h)
       (frontier-holds fs k (every-right (records base c 0 false) (records* base fs k) h))
   frontier-holds (new m s fs) k h =
-      let own = placed m (tableOf base 0 false k s) in
+      let own = placed m (gateTable base 0 false k s) in
       every-append (frontier s) (frontier fs)
       (frontier-holds s k (every-left (records* base s k) own (every-left (records* base s k ++ own) (records* base fs k) h)))
       (frontier-holds fs k (every-right (records* base s k ++ own) (records* base fs k) h))
@@ -115,7 +115,7 @@ module _ (base : ℕ) (e : ℕ → Bool) where
     split-value : {t : Node} {c : Cover} → SplitOf t c → Every (ValuesHold base e) (records base c 0 false) → held base c e ≡ value t e
     split-value same h = refl
     split-value (split {k = k} {m = m} {fs = fs} d) h =
-        let own = placed m (tableOf base 0 false k fs) in
+        let own = placed m (gateTable base 0 false k fs) in
         let g = every-left (records* base fs k) own h in
         gate-value m k fs (every-right (records* base fs k) own h) ∙ frontier-value fs k g ∙ matched-value d k (frontier-holds fs k g)
 
@@ -133,7 +133,7 @@ module _ (base : ℕ) (e : ℕ → Bool) where
   pub root-value : {t : Node} {c : Cover} (n : ℕ) (v : Bool) → SplitOf t c → Rooted c → 0 < n →
       Every (ValuesHold base e) (records base c n v) → e n ≡ turned v (value t e)
   root-value n v (split {k = k} {fs = fs} d) (rooted {n = m}) pos h =
-      let own = placed (suc m) (tableOf base n v k fs) in
+      let own = placed (suc m) (gateTable base n v k fs) in
       let g = every-left (records* base fs k) own h in
       every-head (every-right (records* base fs k) own h) n (later (in-driven n pos)) ∙ tableOf-output base n v k fs e
       ∙ ap (turned v) (gate-held fs d k g)

@@ -14,7 +14,7 @@ use Rattle.tree.specs.Trusted.Tree.{Node, gate, Edges, turned, value}
 use Rattle.tree.specs.Leaves.{leaves, leaves*}
 use Rattle.cover.specs.Trusted.Cover.{Cover, net, top, Fanins, end, old, new, pick, frontier, tables, tables*, SplitOf, split, Matched, Rooted, rooted, CoverOf}
 use Rattle.cover.specs.Trusted.Tables.{LookupTable, Placed, tabled}
-use Rattle.cover.specs.Trusted.Placed.{number, code, codes, codes*, tableOf, records, records*}
+use Rattle.cover.specs.Trusted.Placed.{rootNumber, code, codes, codes*, gateTable, records, records*}
 use Rattle.cover.specs.Value.{gate-held}
 use Rattle.cover.specs.Nets.{nets, nets*, split-nets}
 use Rattle.cover.specs.Size.{records-length*}
@@ -45,7 +45,7 @@ module _ (base : ℕ) where
         ap₂ _++_ (code-none m (tables* s) (codes* base s) (nets* s) (omega arith) (λ z. codes-none* s z)) (codes-none* fs (omega arith))
 
   gate-whole : (n : ℕ) (v : Bool) (k : Kind) {es : Edges} (fs : Fanins) → Matched es (frontier fs) → tables* fs ≡ 0 →
-      tableOf base n v k fs ≡ whole n v (gate k es)
+      gateTable base n v k fs ≡ whole n v (gate k es)
   gate-whole n v k {es} fs d e = ap₂ (tabled n) inputs (λ j σ. turned v (gate-held base σ fs d k (none-held _) j))
     where
       inputs : sorted (codes* base fs) ≡ sorted (leaves* es)
@@ -57,11 +57,11 @@ module _ (base : ℕ) where
       none-held P = rw (length-none (records* base fs k) (records-length* base fs k ∙ e)) (every-none P)
 
   split-whole : {t : Node} {c : Cover} (n : ℕ) (v : Bool) → SplitOf t c → Rooted c → tables c ≡ 1 →
-      records base c n v ≡ (number c, whole n v t) ∷ []
+      records base c n v ≡ (rootNumber c, whole n v t) ∷ []
   split-whole n v (split {k = k} {fs = fs} d) (rooted {n = m}) e =
       let z : tables* fs ≡ 0 = omega arith in
       ap₂ (λ xs r. xs ++ ((suc m, r) ∷ [])) (length-none (records* base fs k) (records-length* base fs k ∙ z)) (gate-whole n v k fs d z)
 
   pub one-table : {K : ℕ} {t : Node} {c : Cover} (n : ℕ) (v : Bool) → CoverOf K t c → tables c ≡ 1 →
-      records base c n v ≡ (number c, whole n v t) ∷ []
+      records base c n v ≡ (rootNumber c, whole n v t) ∷ []
   one-table n v o e = split-whole n v (o .split) (o .root) e

@@ -15,7 +15,7 @@ pub below-zero : (z : ℤ) → ltZ z (pos 0) ≡ not (nonNeg z)
 below-zero (pos n) = le-ltb n 0 (omega arith)
 below-zero (negsuc n) = refl
 
-pub minus : (n : ℕ) → pos 0 -ℤ pos n ≡ negℤ (pos n)
+minus : (n : ℕ) → pos 0 -ℤ pos n ≡ negℤ (pos n)
 minus zero = refl
 minus (suc n) = rw (lt-ltb 0 (suc n) (omega arith)) (ap negsuc (omega arith))
 

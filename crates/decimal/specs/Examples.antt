@@ -8,7 +8,7 @@ use lib.IntN.{pos, negsuc}
 use lib.ListN.{replicate}
 use Rattle.decimal.specs.Trusted.Number.{Number, fieldNumber}
 use Rattle.decimal.specs.Trusted.Columns.{fieldOf, signedRoom, signedFieldOf}
-use Rattle.decimal.specs.Reading.{numberOf}
+use Rattle.decimal.specs.Reading.{numberOfInt}
 
 plus : ℕ → Option Number
 plus n = some (record { negative = false; magnitude = n })
@@ -56,9 +56,9 @@ fields-written = refl
 
 -- -1, -120 and 5 in four columns; a minus sign takes one column
 signs-written :
-    map (λ v. signedFieldOf 4 (numberOf v)) (negsuc 0 ∷ negsuc 119 ∷ pos 5 ∷ [])
+    map (λ v. signedFieldOf 4 (numberOfInt v)) (negsuc 0 ∷ negsuc 119 ∷ pos 5 ∷ [])
     ≡ (32 ∷ 32 ∷ 45 ∷ 49 ∷ []) ∷ (45 ∷ 49 ∷ 50 ∷ 48 ∷ []) ∷ (32 ∷ 32 ∷ 32 ∷ 53 ∷ []) ∷ []
 signs-written = refl
 
-sign-room : map (λ v. signedRoom 4 (numberOf v)) (negsuc 998 ∷ negsuc 999 ∷ pos 9999 ∷ pos 10000 ∷ []) ≡ true ∷ false ∷ true ∷ false ∷ []
+sign-room : map (λ v. signedRoom 4 (numberOfInt v)) (negsuc 998 ∷ negsuc 999 ∷ pos 9999 ∷ pos 10000 ∷ []) ≡ true ∷ false ∷ true ∷ false ∷ []
 sign-room = refl

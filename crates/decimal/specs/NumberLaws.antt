@@ -27,15 +27,15 @@ given-some P h e = subst (Given P) e h
 -- ---- digits
 
 -- one digit more is a factor of ten more
-pub below-more : (n d k : ℕ) → n < 10 ^ k → d ≤ 9 → 10 * n + d < 10 ^ suc k
-below-more n d k h l = rw pow-suc (omega arith)
+pub digit-fits : (n d k : ℕ) → n < 10 ^ k → d ≤ 9 → 10 * n + d < 10 ^ suc k
+digit-fits n d k h l = rw pow-suc (omega arith)
 
 digits-given : (bs : List ℕ) (n k : ℕ) → n < 10 ^ k → Given (λ m. m < 10 ^ (k + length bs)) (digits n bs)
 digits-given [] n k h = rw add-zero h
 digits-given (b ∷ bs) n k h =
     by-reflects (λ t. Given (λ m. m < 10 ^ (k + suc (length bs))) (cond t (digits (10 * n + (b - 48)) bs) none))
     (reflects-within 48 57 b)
-    (λ l. rw (add-suc, ← suc-add) (digits-given bs (10 * n + (b - 48)) (suc k) (below-more n (b - 48) k h (omega arith))))
+    (λ l. rw (add-suc, ← suc-add) (digits-given bs (10 * n + (b - 48)) (suc k) (digit-fits n (b - 48) k h (omega arith))))
     (λ l. tt)
 
 digits-all : (bs : List ℕ) → Given (λ m. m < 10 ^ length bs) (digits 0 bs)

@@ -15,19 +15,19 @@ use Rattle.decimal.specs.declared.Parsed.{Parsed}
 use Rattle.decimal.specs.declared.Parsed.the-variants.{Natural, Nothing}
 
 -- a number's value, and the number that has a value
-abbrev pub valueOf : Number → ℤ
-valueOf n = cond (n .negative) (negℤ (pos (n .magnitude))) (pos (n .magnitude))
+abbrev pub intOf : Number → ℤ
+intOf n = cond (n .negative) (negℤ (pos (n .magnitude))) (pos (n .magnitude))
 
-abbrev pub numberOf : ℤ → Number
-numberOf z = record { negative = not (nonNeg z); magnitude = natAbs z }
+abbrev pub numberOfInt : ℤ → Number
+numberOfInt z = record { negative = not (nonNeg z); magnitude = natAbs z }
 
-abbrev pub answerOf : Option Number → Field
-answerOf none = NoNumber
-answerOf (some n) = Value (valueOf n)
+abbrev pub fieldAnswer : Option Number → Field
+fieldAnswer none = NoNumber
+fieldAnswer (some n) = Value (intOf n)
 
 -- what six columns read as; a slice of another length holds no number
 abbrev pub fieldRead : List ℕ → Field
-fieldRead bs = answerOf (fieldNumber bs)
+fieldRead bs = fieldAnswer (fieldNumber bs)
 
 -- ---- for the functions inside
 

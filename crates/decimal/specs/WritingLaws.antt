@@ -1,23 +1,18 @@
--- A number that has room is written, and the buffer keeps its length.
+-- A number with a sign that has room is written.
 use Prim.Native.Nat.{ℕ, zero, suc, _+_, _-_, _^_, _≤_, _<_}
 use native.Mathlib.Omega.{arith}
-use mathlib.Core.Path.{_≡_, refl, ap, ap₂}
+use mathlib.Core.Path.{_≡_, refl, ap₂}
 use mathlib.Core.Bool.{Bool, true, false, cond, _&&_}
 use mathlib.Core.List.{List}
 use lib.ListN.{length}
 use borrow.Author.Tests.{le-leb}
 use Rattle.lists.specs.TestLaws.{reflects-true}
 use Rattle.decimal.specs.Trusted.Number.{Number, Within}
-use Rattle.decimal.specs.Trusted.Columns.{room, fieldOf, signedRoom, signedFieldOf}
+use Rattle.decimal.specs.Trusted.Columns.{room, signedRoom, signedFieldOf}
 use Rattle.decimal.specs.ColumnLaws.{reflects-room}
-use Rattle.decimal.specs.Writing.{outcome, fieldWritten, signedWrittenAt}
-use Rattle.decimal.specs.Trusted.Columns.{placed}
+use Rattle.decimal.specs.Writing.{writeIf, signedWrittenAt}
+use Rattle.decimal.specs.Trusted.Columns.{withField}
 use Rattle.decimal.specs.declared.Written.the-variants.{Done}
-
-pub written : (old : List ℕ) (n : ℕ) → 0 < length old → n < 10 ^ length old → fieldWritten old n ≡ record { answer = Done; bytes = fieldOf (length old) n }
-written old n p h = ap (λ b. outcome b (fieldOf (length old) n) old) (reflects-true (reflects-room (length old) n) (p, h))
-
--- ---- with a sign
 
 signed-room : (width : ℕ) (n : Number) → 0 < width → Within width n → signedRoom width n ≡ true
 signed-room width n p h = by-sign (n .negative) (h .sign)
@@ -32,6 +27,6 @@ signed-room width n p h = by-sign (n .negative) (h .sign)
         reflects-true (reflects-room (width - 1) (n .magnitude)) (some-column (width - 1) (n .magnitude) (s refl .0) (s refl .1), s refl .1)
 
 pub signed-written-at : (old : List ℕ) (at width : ℕ) (n : Number) → at + width ≤ length old → 0 < width → Within width n →
-    signedWrittenAt old at width n ≡ record { answer = Done; bytes = placed old at width (signedFieldOf width n) }
+    signedWrittenAt old at width n ≡ record { answer = Done; bytes = withField old at width (signedFieldOf width n) }
 signed-written-at old at width n l p h =
-    ap₂ (λ a b. outcome (a && b) (placed old at width (signedFieldOf width n)) old) (le-leb (at + width) (length old) l) (signed-room width n p h)
+    ap₂ (λ a b. writeIf (a && b) (withField old at width (signedFieldOf width n)) old) (le-leb (at + width) (length old) l) (signed-room width n p h)

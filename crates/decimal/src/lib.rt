@@ -1,7 +1,7 @@
 // Decimal numbers in the columns of a field: what a field holds, and a value taken apart into its sign and its absolute value.
 // The formats are those of 01, "Sheet" and "List". The reader is the crate `decimal_reader`, the writer `decimal_writer`.
 ghost use mathlib.Core.Path.{_≡_};
-ghost use Rattle.decimal.specs.Reading.{numberOf};
+ghost use Rattle.decimal.specs.Reading.{numberOfInt};
 
 // The columns of a field.
 pub const COLUMNS: usize = 6;
@@ -26,7 +26,7 @@ pub enum Parsed {
 
 // The absolute value.
 pub fn magnitude(v: i32) -> u32
-    ensures { λ r. ⌜ r ≡ numberOf v .magnitude ⌝ }
+    ensures { λ r. ⌜ r ≡ numberOfInt v .magnitude ⌝ }
 {
     let wide = v as i64;
     if wide < 0 {
@@ -38,7 +38,7 @@ pub fn magnitude(v: i32) -> u32
 
 // Whether it is below zero.
 pub fn negative(v: i32) -> bool
-    ensures { λ r. ⌜ r ≡ numberOf v .negative ⌝ }
+    ensures { λ r. ⌜ r ≡ numberOfInt v .negative ⌝ }
 {
     v < 0
 }

@@ -3,7 +3,7 @@ ghost use mathlib.Core.Path.{_≡_};
 ghost use Prim.Native.Nat.{_+_, _≤_};
 ghost use lib.ListN.{length, drop};
 ghost use Rattle.decimal.specs.Trusted.Number.{columns, digits, natural, signed};
-ghost use Rattle.decimal.specs.Reading.{answerOf, fieldRead, parsed, Skipped};
+ghost use Rattle.decimal.specs.Reading.{fieldAnswer, fieldRead, parsed, Skipped};
 use decimal::COLUMNS;
 use decimal::Field;
 use decimal::Parsed;
@@ -35,7 +35,7 @@ fn blanks(s: &[u8]) -> usize
 // The number that the bytes from an index on make, with its sign. "-0" is no number.
 fn signed(s: &[u8], at: usize) -> Field
     requires { ⌜ length (now s) ≤ columns ⌝ }
-    ensures { λ r. ⌜ r ≡ answerOf (signed (drop at (now (s .entry)))) ⌝ }
+    ensures { λ r. ⌜ r ≡ fieldAnswer (signed (drop at (now (s .entry)))) ⌝ }
 {
     if s.len() <= at {
         return Field::NoNumber;

@@ -14,7 +14,7 @@ use Rattle.decimal.specs.Trusted.Columns.{room, column, fieldOf, signedFieldOf}
 use Rattle.decimal.specs.Trusted.Number.{Number}
 use Rattle.decimal.specs.ColumnLaws.{reflects-room, ten-pos}
 use Rattle.decimal.specs.FieldLaws.{plain-field, minus-digits}
-use Rattle.decimal.specs.Writing.{outcome, fieldWritten, signedWritten, digitOf, DigitCount}
+use Rattle.decimal.specs.Writing.{writeIf, fieldWritten, signedWritten, digitOf, DigitCount}
 use Rattle.decimal.specs.declared.Written.the-variants.{Done}
 
 -- nothing is left of a number below the divisor, and only of such a number
@@ -55,7 +55,7 @@ pub power-below : (n k : ℕ) → n < 2 ^ 64 → 10 ^ k ≤ n → k < 20
 power-below n k h l = by-leb (λ b. k < 20) 20 k (λ m. absurd (omega (arith, pow-le-pow-right {n = 10} (omega arith) {i = 20} {j = k} m))) (λ m. m)
 
 pub plain-written : (old : List ℕ) (n : ℕ) → fieldWritten old n ≡ signedWritten old (record { negative = false; magnitude = n })
-plain-written old n = ap (λ l. outcome (room (length old) n) l old) (sym (plain-field (length old) n))
+plain-written old n = ap (λ l. writeIf (room (length old) n) l old) (sym (plain-field (length old) n))
 
 module _ {n count : ℕ} (d : DigitCount n count) where
   pub has-room : (width : ℕ) → count ≤ width → room width n ≡ true
@@ -90,7 +90,7 @@ module _ {n count : ℕ} (d : DigitCount n count) where
   pub minus-written : (old : List ℕ) → count < length old →
       record { answer = Done; bytes = set (fieldOf (length old) n) (length old - count - 1) 45 } ≡ signedWritten old (record { negative = true; magnitude = n })
   unfolding minus
-  minus-written old h = sym (ap₂ (λ b l. outcome b l old) (has-room (length old - 1) (omega arith)) (whole (length old) h))
+  minus-written old h = sym (ap₂ (λ b l. writeIf b l old) (has-room (length old - 1) (omega arith)) (whole (length old) h))
     where
       whole : (width : ℕ) → count < width → signedFieldOf width minus ≡ set (fieldOf width n) (width - count - 1) 45
       whole zero h = absurd (omega arith)
@@ -98,6 +98,6 @@ module _ {n count : ℕ} (d : DigitCount n count) where
           let same : suc width - count - 1 ≡ width - count = omega arith in
           rw same (minus-field (width - count) width (omega arith))
 
-  pub minus-wide : (old : List ℕ) → length old ≤ count → outcome false old old ≡ signedWritten old (record { negative = true; magnitude = n })
+  pub minus-wide : (old : List ℕ) → length old ≤ count → writeIf false old old ≡ signedWritten old (record { negative = true; magnitude = n })
   unfolding minus
-  minus-wide old h = sym (ap (λ b. outcome b (signedFieldOf (length old) minus) old) (no-room (length old - 1) (omega (arith, d .some))))
+  minus-wide old h = sym (ap (λ b. writeIf b (signedFieldOf (length old) minus) old) (no-room (length old - 1) (omega (arith, d .some))))

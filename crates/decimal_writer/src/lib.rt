@@ -2,7 +2,7 @@
 ghost use mathlib.Core.Path.{_≡_};
 ghost use lib.ListN.{length};
 ghost use Rattle.decimal.specs.Trusted.Columns.{fieldOf};
-ghost use Rattle.decimal.specs.Reading.{numberOf};
+ghost use Rattle.decimal.specs.Reading.{numberOfInt};
 ghost use Rattle.decimal.specs.Writing.{fieldWritten, signedWritten, fieldWrittenAt, signedWrittenAt, digitOf, DigitCount};
 use decimal::Written;
 use decimal::magnitude;
@@ -21,7 +21,7 @@ pub fn write(dst: &mut [u8], n: u64) -> Written
 
 // The same of a signed number, with a minus sign before the digits of one below zero.
 pub fn write_signed(dst: &mut [u8], v: i32) -> Written
-    ensures { λ r. ⌜ record { answer = r; bytes = now (dst .exit) } ≡ signedWritten (now (dst .entry)) (numberOf v) ⌝ }
+    ensures { λ r. ⌜ record { answer = r; bytes = now (dst .exit) } ≡ signedWritten (now (dst .entry)) (numberOfInt v) ⌝ }
 {
     let n = magnitude(v) as u64;
     if !negative(v) {
@@ -53,7 +53,7 @@ pub fn write_at(buf: &mut [u8], at: usize, width: usize, n: u64) -> Written
 
 // The same of a signed number.
 pub fn write_signed_at(buf: &mut [u8], at: usize, width: usize, v: i32) -> Written
-    ensures { λ r. ⌜ record { answer = r; bytes = now (buf .exit) } ≡ signedWrittenAt (now (buf .entry)) at width (numberOf v) ⌝ }
+    ensures { λ r. ⌜ record { answer = r; bytes = now (buf .exit) } ≡ signedWrittenAt (now (buf .entry)) at width (numberOfInt v) ⌝ }
 {
     if buf.len() < at {
         return Written::TooWide;

@@ -112,9 +112,9 @@ pub data AddCase (p : Part) (text : List ℕ) (q : Part) (a : Answer) : Type 0 w
       AddCase p text q a
 
 module _ (p : Part) (text : List ℕ) (q : Part) (a : Answer) where
-  pub outcome : Add p text q a → AddCase p text q a
+  pub add-case : Add p text q a → AddCase p text q a
   unfolding Add
-  outcome = by-either (sound-reflects p) (λ h. reading h (readOf text) refl) unsound
+  add-case = by-either (sound-reflects p) (λ h. reading h (readOf text) refl) unsound
     where
       room : (h : Sound p) (s : Circuit) (n : ℕ) → Least (p .k) (s .tree) n → n ≤ p .capacity - p .used → (t : Accepted p s q a) →
           p .used + length (t .new) ≤ p .capacity
@@ -156,7 +156,7 @@ not-refused e f = let z : _≡_ {A = ℕ} 0 1 = cc in omega arith
 
 -- an add that is turned down hands back the part that it got
 pub refused-stays : (p : Part) (text : List ℕ) (q : Part) (a : Answer) (number place : ℕ) → Add p text q a → a ≡ refused number place → q ≡ p
-refused-stays p text q a number place h e = go (outcome p text q a h)
+refused-stays p text q a number place h e = go (add-case p text q a h)
   where
     go : AddCase p text q a → q ≡ p
     go (unsound n r) = r .0

@@ -20,7 +20,7 @@ use Rattle.part.specs.SoundLaws.{sound-reflects}
 use Rattle.part.specs.Trusted.Reading.{CircuitReading, sheet, readOf}
 use Rattle.part.specs.Trusted.Answers.{Answer, accepted, refused}
 use Rattle.part.specs.Trusted.Add.{opened, isDriven, isRead, Add}
-use Rattle.demands.specs.AddLaws.{driven-reflects, read-reflects, opened-cases, AddCase, unsound, misread, driven, read, full, taken, outcome, not-refused, refused-stays}
+use Rattle.demands.specs.AddLaws.{driven-reflects, read-reflects, opened-cases, AddCase, unsound, misread, driven, read, full, taken, add-case, not-refused, refused-stays}
 use Rattle.demands.specs.Determined as Determined
 use Rattle.demands.specs.Determined.{leastNumber, answerOf}
 use Rattle.demands.specs.ReadingLaws.{reads-right}
@@ -127,7 +127,7 @@ module _ (p : Part) (text : List ℕ) where
 
   pub add-told : (q : Part) (a : Answer) → Add p text q a → AddTold p text q a
   add-told q a h =
-      let o = outcome p text q a h in
+      let o = add-case p text q a h in
       let e = add-answer p text q a h in
       record {
         refuses = λ m l. (found o, λ c. e ∙ condition-answer c);

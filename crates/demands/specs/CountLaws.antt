@@ -17,7 +17,7 @@ use Rattle.part.specs.Trusted.Add.{Refused, Accepted}
 use Rattle.part.specs.declared.Part.{Part}
 use Rattle.demands.specs.ReadingLaws.{refused-below}
 use Rattle.demands.specs.ExtendLaws.{extended-inUse, extended-tables}
-use Rattle.demands.specs.AddLaws.{Kept, AddCase, unsound, misread, driven, read, full, taken, outcome, kept, same-kept, not-refused}
+use Rattle.demands.specs.AddLaws.{Kept, AddCase, unsound, misread, driven, read, full, taken, add-case, kept, same-kept, not-refused}
 use Rattle.demands.specs.Trusted.Calls.{Call, add, final, sheetsRead, ifAccepted, Promise, sheetsOf, Chain, done, call, acceptedIn, Link, here, next}
 use Rattle.demands.specs.Trusted.Demands.{Total, none, more, left, Passes, Taken, RoomTold, CallAccounted, Demand3}
 
@@ -128,14 +128,14 @@ module _ (p : Part) (shape : Shaped p) (text : List ℕ) where
 -- ---- a call
 
 pub call-kept : (p : Part) → Shaped p → (c : Call) (q : Part) (a : Answer) → Promise p c q a → Kept p q
-call-kept p shape (add text) q a h = kept p shape (outcome p text q a h)
+call-kept p shape (add text) q a h = kept p shape (add-case p text q a h)
 
 call-grown : (p : Part) → Shaped p → (c : Call) (q : Part) (a : Answer) → Promise p c q a → Grown (p .k) (ifAccepted a (sheetsOf c)) (p .used) (q .used)
-call-grown p shape (add text) q a h = outcome-grown p shape text (outcome p text q a h)
+call-grown p shape (add text) q a h = outcome-grown p shape text (add-case p text q a h)
 
 call-accounted : (p : Part) → Shaped p → (c : Call) (r : Result) → Promise p c (r .part) (r .answer) → CallAccounted (p .k) (p .capacity - p .used) p c r
 call-accounted p shape (add text) r h =
-    let o = outcome p text (r .part) (r .answer) h in
+    let o = add-case p text (r .part) (r .answer) h in
     record { taken = outcome-taken p shape text o; room = outcome-room p shape text o; only = outcome-only p shape text o }
 
 -- ---- a chain of calls

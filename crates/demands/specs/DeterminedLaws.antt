@@ -26,7 +26,7 @@ use Rattle.part.specs.Trusted.Answers.{Answer, accepted, refused, Result}
 use Rattle.part.specs.Trusted.Add.{isDriven, isRead, Refused, Accepted, Fill, Offer, Take, Add}
 use Rattle.demands.specs.ExtendLaws.{extended-tables, extended-sound}
 use Rattle.demands.specs.Trusted.Nets.{Driven, Read}
-use Rattle.demands.specs.AddLaws.{driven-reflects, read-reflects, AddCase, unsound, misread, driven, read, full, taken as took, outcome, not-refused}
+use Rattle.demands.specs.AddLaws.{driven-reflects, read-reflects, AddCase, unsound, misread, driven, read, full, taken as took, add-case, not-refused}
 use Rattle.demands.specs.LeafLaws.{reads-after, reads-still, drives-after, drives-still}
 use Rattle.demands.specs.Trusted.Calls.{Call, add, final, Promise, Chain, done, call}
 use Rattle.demands.specs.Readable.{Readable}
@@ -166,7 +166,7 @@ call-alike : (p p′ : Part) → Shaped p → Shaped p′ → Alike p p′ → (
 call-alike p p′ f f′ g (add text) r r′ h h′ = (
   same,
   alike-step p p′ (r .part) (r′ .part) text (r .answer) (r′ .answer) g same
-      (stays-or-takes p f text (outcome p text (r .part) (r .answer) h)) (stays-or-takes p′ f′ text (outcome p′ text (r′ .part) (r′ .answer) h′)),
+      (stays-or-takes p f text (add-case p text (r .part) (r .answer) h)) (stays-or-takes p′ f′ text (add-case p′ text (r′ .part) (r′ .answer) h′)),
 )
   where
     same : r .answer ≡ r′ .answer

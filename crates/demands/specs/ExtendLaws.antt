@@ -10,7 +10,7 @@ use Rattle.lists.specs.Trusted.Lists.{_∈_, first, later, Every}
 use Rattle.lists.specs.ListLaws.{every-none, every-cons, every-head, every-tail, every-append}
 use Rattle.cover.specs.Trusted.Tables.{LookupTable, Placed, numbered}
 use Rattle.cover.specs.Eval.{numbered-is}
-use Rattle.cover.specs.Trusted.Placed.{number}
+use Rattle.cover.specs.Trusted.Placed.{rootNumber}
 use Rattle.cover.specs.Trusted.CoverTables.{Circuit, CoverTables, Fresh}
 use Rattle.cover.specs.Legal.{Legal}
 use Rattle.cover.specs.CoverTableLaws.{added-sized, added-rising, added-tidy, added-inputs, added-drives}
@@ -86,7 +86,7 @@ module _ (k : ℕ) (old : List Table) (new : List LookupTable) (s : Circuit) (le
   input-cases Z p m x i f g = ⊎-elim (λ l. f (legal .leaf-nets x l)) g (added-inputs tableBase k (map tableOf old) new s a p m x i)
 
   -- what is driven is the output net, by one table
-  drive-cases : (p : Placed) → p ∈ ps → (p .1 .drives ≡ 0) ⊎ ((p .1 .drives ≡ s .out) × (p .0 ≡ number (a .cover)))
+  drive-cases : (p : Placed) → p ∈ ps → (p .1 .drives ≡ 0) ⊎ ((p .1 .drives ≡ s .out) × (p .0 ≡ rootNumber (a .cover)))
   unfolding ps
   drive-cases p m = added-tidy tableBase k (map tableOf old) new s a p m .0
 

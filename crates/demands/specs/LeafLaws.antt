@@ -17,7 +17,7 @@ use Rattle.cover.specs.Trusted.Cover.{Cover, net, top, Fanins, end, old, new, S
 use Rattle.cover.specs.Nets.{nets, nets*, split-nets}
 use Rattle.cover.specs.Trusted.Tables.{LookupTable, Placed, numbered}
 use Rattle.cover.specs.Eval.{numbered-is}
-use Rattle.cover.specs.Trusted.Placed.{number, placed, code, codes, codes*, tableOf, records, records*}
+use Rattle.cover.specs.Trusted.Placed.{rootNumber, placed, code, codes, codes*, gateTable, records, records*}
 use Rattle.cover.specs.Inputs.{root-in}
 use Rattle.cover.specs.Trusted.CoverTables.{Circuit, CoverTables}
 use Rattle.cover.specs.CoverTableLaws.{added-inputs, added-tidy}
@@ -41,14 +41,14 @@ module _ (base : ℕ) where
 
   -- a chosen gate's table reads what the gate reads
   found-chosen : (m n : ℕ) (v : Bool) (k : Kind) (fs : Fanins) (x : ℕ) → Found (codes* base fs) (records* base fs k) x →
-      Somewhere (records* base fs k ++ placed (suc m) (tableOf base n v k fs)) x
+      Somewhere (records* base fs k ++ placed (suc m) (gateTable base n v k fs)) x
   found-chosen m n v k fs x =
       ⊎-elim
-      (λ i. ((suc m, tableOf base n v k fs), Memᴰ·append-right (records* base fs k) (first refl), permuted-from (sorted-permuted (codes* base fs)) (λ y j. j) x i))
-      (λ s. (s .0, Memᴰ·append-left (placed (suc m) (tableOf base n v k fs)) (s .1), s .2))
+      (λ i. ((suc m, gateTable base n v k fs), Memᴰ·append-right (records* base fs k) (first refl), permuted-from (sorted-permuted (codes* base fs)) (λ y j. j) x i))
+      (λ s. (s .0, Memᴰ·append-left (placed (suc m) (gateTable base n v k fs)) (s .1), s .2))
 
   found-gate : (m n : ℕ) (v : Bool) (k : Kind) (fs : Fanins) (x : ℕ) → Found (codes* base fs) (records* base fs k) x →
-      Found (code base m (codes* base fs)) (records* base fs k ++ placed m (tableOf base n v k fs)) x
+      Found (code base m (codes* base fs)) (records* base fs k ++ placed m (gateTable base n v k fs)) x
   found-gate zero n v k fs x = ⊎-elim inl (λ s. inr (s .0, Memᴰ·append-left [] (s .1), s .2))
   found-gate (suc m) n v k fs x = λ f. inr (found-chosen m n v k fs x f)
 
@@ -65,9 +65,9 @@ module _ (base : ℕ) where
         (λ x m. found-right (codes base c) (codes* base fs) (records base c 0 false) (records* base fs k) x (found* fs k x m))
     found* (new m s fs) k =
         every-append (nets* s) (nets* fs)
-        (λ x i. found-left (code base m (codes* base s)) (codes* base fs) (records* base s k ++ placed m (tableOf base 0 false k s)) (records* base fs k) x
+        (λ x i. found-left (code base m (codes* base s)) (codes* base fs) (records* base s k ++ placed m (gateTable base 0 false k s)) (records* base fs k) x
         (found-gate m 0 false k s x (found* s k x i)))
-        (λ x i. found-right (code base m (codes* base s)) (codes* base fs) (records* base s k ++ placed m (tableOf base 0 false k s)) (records* base fs k) x
+        (λ x i. found-right (code base m (codes* base s)) (codes* base fs) (records* base s k ++ placed m (gateTable base 0 false k s)) (records* base fs k) x
         (found* fs k x i))
 
   leaf-found : {t : Node} {c : Cover} (n : ℕ) (v : Bool) → SplitOf t c → Rooted c → Every (Somewhere (records base c n v)) (leaves t)
@@ -109,5 +109,5 @@ module _ (base : ℕ) where
     drives-still n =
         ⊎-elim (λ r. (r .0, Memᴰ·append-left news (r .1), r .2))
         (λ e. let r = root-in base (s .out) (s .inverted) (a .covers .root) in
-        let m = permuted-to (a .taken) (λ p j. j) (number (a .cover), r .0) (r .1) in
-        (r .0, Memᴰ·append-right olds (numbered-is (length olds) news (number (a .cover), r .0) m .2), r .2 ∙ e))
+        let m = permuted-to (a .taken) (λ p j. j) (rootNumber (a .cover), r .0) (r .1) in
+        (r .0, Memᴰ·append-right olds (numbered-is (length olds) news (rootNumber (a .cover), r .0) m .2), r .2 ∙ e))

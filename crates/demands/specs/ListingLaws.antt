@@ -16,7 +16,7 @@ use Rattle.cover.specs.Trusted.Tables.{Placed}
 use Rattle.table.specs.Trusted.Limits.{inputRoom}
 use Rattle.table.specs.Trusted.Records.{reads, tableOf, blank}
 use Rattle.table.specs.Trusted.Rules.{AllZero, Blank, NamesTable, Padded, places}
-use Rattle.table.specs.RuleLaws.{old-place, placed}
+use Rattle.table.specs.RuleLaws.{old-place, record-placed}
 use Rattle.part.specs.Trusted.Parts.{inUse, Shaped}
 use Rattle.part.specs.Trusted.Sound.{Sound}
 use Rattle.part.specs.SoundLaws.{used-count}
@@ -103,7 +103,7 @@ inputs-small : (p : Part) → Sound p → Every (λ r. Every (λ x. x < 10 ^ 6) 
 inputs-small p h r m x i = ⊎-elim (λ n. omega (arith, n .1)) named (h .rules .coded r m .1 x i)
   where
     o : (q : Placed) × (q ∈ places (inUse p)) × (q .1 ≡ tableOf r)
-    o = placed 0 (inUse p) r m
+    o = record-placed 0 (inUse p) r m
 
     named : NamesTable x → x < 10 ^ 6
     named t =

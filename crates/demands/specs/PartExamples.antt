@@ -16,14 +16,14 @@ use Rattle.part.specs.Trusted.Add.{opened}
 use Rattle.listing.specs.Trusted.Listing.{listOf}
 
 -- a record with its unused inputs zero
-abbrev pub made : ℕ → List ℕ → ℕ → Table
+abbrev made : ℕ → List ℕ → ℕ → Table
 made n xs t = record { net = n; count = length xs; inputs = xs ++ replicate (inputRoom - length xs) 0; truth = t }
 
 -- the two tables of 01's list
-abbrev pub one : Table
+abbrev one : Table
 one = made 20 (1 ∷ 2 ∷ 3 ∷ 4 ∷ []) 61152
 
-abbrev pub two : Table
+abbrev two : Table
 two = made 21 (5 ∷ 20 ∷ []) 11
 
 abbrev pub part : Part

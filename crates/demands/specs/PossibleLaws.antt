@@ -17,7 +17,7 @@ use Rattle.cover.specs.Trusted.Cover.{Cover, net, top, Fanins, end, old, new, p
 use Rattle.cover.specs.Nets.{nets, nets*, split-nets}
 use Rattle.cover.specs.Trusted.Tables.{LookupTable, Placed, numbered}
 use Rattle.cover.specs.Eval.{numbered-append}
-use Rattle.cover.specs.Trusted.Placed.{number, placed, code, codes, codes*, tableOf, records, records*}
+use Rattle.cover.specs.Trusted.Placed.{rootNumber, placed, code, codes, codes*, gateTable, records, records*}
 use Rattle.cover.specs.Trusted.CoverTables.{Circuit, CoverTables}
 use Rattle.cover.specs.Legal.{Legal}
 use Rattle.table.specs.Trusted.Limits.{tableBase}
@@ -134,7 +134,7 @@ module _ (K : ℕ) where
       mark-fits* fs (m + (pick j 0 1 + tables* s)) (h .1),
     )
 
-mark-rooted : (m : ℕ) {c : Cover} → Rooted c → Rooted (mark c m) × (number (mark c m) ≡ m + tables c)
+mark-rooted : (m : ℕ) {c : Cover} → Rooted c → Rooted (mark c m) × (rootNumber (mark c m) ≡ m + tables c)
 mark-rooted m (rooted {fs = fs}) = (rooted, omega arith)
 
 module _ (base : ℕ) where
@@ -160,7 +160,7 @@ module _ (base : ℕ) where
   mutual
     mark-lined : (c : Cover) (m n : ℕ) (v : Bool) → Lined m (records base (mark c m) n v) (tables c)
     mark-lined (net x) m n v = ([], refl, refl)
-    mark-lined (top j k fs) m n v = lined-gate j m (tables* fs) (records* base (mark* fs m) k) (tableOf base n v k (mark* fs m)) (mark-lined* fs m k)
+    mark-lined (top j k fs) m n v = lined-gate j m (tables* fs) (records* base (mark* fs m) k) (gateTable base n v k (mark* fs m)) (mark-lined* fs m k)
 
     mark-lined* : (fs : Fanins) (m : ℕ) (k : Kind) → Lined m (records* base (mark* fs m) k) (tables* fs)
     mark-lined* end m k = ([], refl, refl)
@@ -169,9 +169,9 @@ module _ (base : ℕ) where
         (mark-lined* fs (m + tables c) k)
     mark-lined* (new j s fs) m k =
         lined-append m (pick j 0 1 + tables* s) (tables* fs)
-        (records* base (mark* s m) k ++ placed (marked j (m + tables* s)) (tableOf base 0 false k (mark* s m)))
+        (records* base (mark* s m) k ++ placed (marked j (m + tables* s)) (gateTable base 0 false k (mark* s m)))
         (records* base (mark* fs (m + (pick j 0 1 + tables* s))) k)
-        (lined-gate j m (tables* s) (records* base (mark* s m) k) (tableOf base 0 false k (mark* s m)) (mark-lined* s m k))
+        (lined-gate j m (tables* s) (records* base (mark* s m) k) (gateTable base 0 false k (mark* s m)) (mark-lined* s m k))
         (mark-lined* fs (m + (pick j 0 1 + tables* s)) k)
 
   -- ---- and each reads only nets and earlier ones
@@ -187,7 +187,7 @@ module _ (base : ℕ) where
   low-append n k xs ys ps qs l a b = (every-append xs ys (λ x m. omega (arith, a .0 x m)) (b .0), every-append ps qs (a .1) (b .1))
 
   low-gate : (j n d : ℕ) (v : Bool) (k : Kind) (fs : Fanins) → Low (codes* base fs) (records* base fs k) n →
-      Low (code base (marked j n) (codes* base fs)) (records* base fs k ++ placed (marked j n) (tableOf base d v k fs)) (pick j 0 1 + n)
+      Low (code base (marked j n) (codes* base fs)) (records* base fs k ++ placed (marked j n) (gateTable base d v k fs)) (pick j 0 1 + n)
   low-gate zero n d v k fs a = (λ x m. omega (arith, a .0 x m), every-append (records* base fs k) [] (a .1) (every-none _))
   low-gate (suc j) n d v k fs a = (
     every-cons (omega arith) (every-none _),
@@ -216,7 +216,7 @@ module _ (base : ℕ) where
         let e : n + tables* fs ≡ m + (pick j 0 1 + tables* s + tables* fs) = omega arith in
         subst (Low (codes* base (mark* (new j s fs) m)) (records* base (mark* (new j s fs) m) k)) e
         (low-append (pick j 0 1 + (m + tables* s)) (n + tables* fs) (code base (marked j (m + tables* s)) (codes* base (mark* s m))) (codes* base (mark* fs n))
-        (records* base (mark* s m) k ++ placed (marked j (m + tables* s)) (tableOf base 0 false k (mark* s m))) (records* base (mark* fs n) k) (omega arith)
+        (records* base (mark* s m) k ++ placed (marked j (m + tables* s)) (gateTable base 0 false k (mark* s m))) (records* base (mark* fs n) k) (omega arith)
         (low-gate j (m + tables* s) 0 false k (mark* s m) (mark-low* s m k (every-left (nets* s) (nets* fs) h)))
         (mark-low* fs n k (every-right (nets* s) (nets* fs) h)))
 

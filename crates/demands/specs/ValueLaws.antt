@@ -25,7 +25,7 @@ use Rattle.part.specs.Trusted.Answers.{Answer, accepted, refused, Result}
 use Rattle.part.specs.Trusted.Add.{opened, Refused}
 use Rattle.demands.specs.ReadingLaws.{drawn-back, reads-right}
 use Rattle.demands.specs.ExtendLaws.{every-map, extended-tables}
-use Rattle.demands.specs.AddLaws.{opened-shaped, opened-empty, AddCase, unsound, misread, driven, read, full, taken, outcome}
+use Rattle.demands.specs.AddLaws.{opened-shaped, opened-empty, AddCase, unsound, misread, driven, read, full, taken, add-case}
 use Rattle.demands.specs.Trusted.Calls.{Call, add, final, sheetsRead, ifAccepted, Promise, sheetsOf, Chain, done, call, acceptedIn, Link, here, next}
 use Rattle.demands.specs.Trusted.Demands.{Taken, valuesIn, lastPart, Served, CallServed}
 use Rattle.demands.specs.CountLaws.{call-kept, counted}
@@ -40,7 +40,7 @@ sound-narrow p h = every-map (λ t. length (t .inputs) ≤ p .k) tableOf (inUse 
 
 unsound-call : (p : Part) → ¬ (Sound p) → (c : Call) (r : Result) → Promise p c (r .part) (r .answer) →
     r ≡ record { part = p; answer = refused 20 0 }
-unsound-call p n (add text) r h = go (outcome p text (r .part) (r .answer) h)
+unsound-call p n (add text) r h = go (add-case p text (r .part) (r .answer) h)
   where
     go : AddCase p text (r .part) (r .answer) → r ≡ record { part = p; answer = refused 20 0 }
     go (unsound m x) = ap₂ (λ q a. record { part = q; answer = a }) (x .0) (x .1)
@@ -105,11 +105,11 @@ module _ (p : Part) (shape : Shaped p) (text : List ℕ) where
     )
 
 call-grows : (p : Part) → Shaped p → (c : Call) (q : Part) (a : Answer) → Promise p c q a → Grows p q
-call-grows p shape (add text) q a h = outcome-grows p shape text (outcome p text q a h)
+call-grows p shape (add text) q a h = outcome-grows p shape text (add-case p text q a h)
 
 call-goes : (p : Part) → Shaped p → (ss : List Circuit) → History tableBase (p .k) (tablesOf p) ss → (c : Call) (q : Part) (a : Answer) →
     Promise p c q a → Goes (p .k) q ss (ifAccepted a (sheetsOf c))
-call-goes p shape ss g (add text) q a h = outcome-goes p shape text ss g (outcome p text q a h)
+call-goes p shape ss g (add text) q a h = outcome-goes p shape text ss g (add-case p text q a h)
 
 chain-grows : {p : Part} {cs : List Call} {rs : List Result} → Chain p cs rs → Shaped p → Grows p (final p rs)
 chain-grows {p} done shape = same-grows p p refl

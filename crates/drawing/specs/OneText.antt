@@ -12,8 +12,9 @@ use Rattle.lists.specs.Cases.{and-split}
 use Rattle.lists.specs.Trusted.Tests.{within}
 use Rattle.tree.specs.declared.Kind.{Kind}
 use Rattle.tree.specs.declared.Kind.the-variants.{And as and, Or as or}
+use Rattle.tree.specs.Trusted.Limits.{fewestFanins, mostFanins}
 use Rattle.decimal.specs.Trusted.Number.{Number, columns, fieldNumber}
-use Rattle.sheet.specs.Trusted.Limits.{mostGates, fewestFanins, mostFanins, mostFields}
+use Rattle.sheet.specs.Trusted.Limits.{mostGates, mostFields}
 use Rattle.sheet.specs.Trusted.Line.{line, with, cells, fields}
 use Rattle.sheet.specs.Trusted.Sheet.{DrawnSheet, sheet, codeOf}
 use Rattle.sheet.specs.Trusted.Step.{Step}
@@ -23,7 +24,7 @@ use Rattle.sheet.specs.Trusted.Formed.{WellFormed}
 use Rattle.sheet.specs.NumberLaws.{by-test, counts-holds}
 use Rattle.sheet.specs.ReadLaws.{source-named, read-formed}
 use Rattle.sheet.specs.CutLaws.{line-cut, empty-is}
-use Rattle.drawing.specs.Trusted.Written.{signedNumber, plainNumber, fieldsText, lineText, kindNumber, faninNumber, gateNumbers, gateLine, written}
+use Rattle.drawing.specs.Trusted.Written.{signedNumber, plainNumber, fieldsText, lineText, kindNumber, faninNumber, gateNumbers, gateText, written}
 use Rattle.drawing.specs.FieldText.{no-some, field-text}
 use Rattle.drawing.specs.RoundTrip.{read-written}
 
@@ -109,14 +110,14 @@ gate-text out g seen bytes =
     on (h ∙ ap (λ ys. fieldsText (plainNumber (kindNumber (x .0)) ∷ plainNumber (length ys) ∷ ys)) f
     ∙ ap (λ n. fieldsText (plainNumber (kindNumber (x .0)) ∷ plainNumber n ∷ map faninNumber (r .0))) (length-map (r .0) faninNumber))))
 
-left-text : (out n g : ℕ) (seen : Seen) (text : List ℕ) → Meets (λ r. (text ≡ gather gateLine (r .0) ++ r .2) × (length (r .0) ≡ n)) (readLeft out n g seen text)
+left-text : (out n g : ℕ) (seen : Seen) (text : List ℕ) → Meets (λ r. (text ≡ gather gateText (r .0) ++ r .2) × (length (r .0) ≡ n)) (readLeft out n g seen text)
 left-text out zero g seen text = on {a = ([], seen, text)} (refl, refl)
 left-text out (suc n) g seen text =
     meets-given _ _ _ _ (λ p e.
     meets-bind _ _ (gate-text out g seen (p .0)) (λ x h.
     meets-bind _ _ (left-text out n (suc g) (x .1) (p .1)) (λ r f.
     on (
-      line-text text p (gateNumbers (x .0)) e h ∙ ap (_++_ (gateLine (x .0))) (f .0) ∙ sym (append-assoc (gateLine (x .0)) (gather gateLine (r .0)) (r .2)),
+      line-text text p (gateNumbers (x .0)) e h ∙ ap (_++_ (gateText (x .0))) (f .0) ∙ sym (append-assoc (gateText (x .0)) (gather gateText (r .0)) (r .2)),
       ap suc (f .1),
     ))))
 
@@ -129,7 +130,7 @@ all-text text =
     meets-bind _ _ (meets-any _) (λ u v.
     on (line-text text p (signedNumber (h .inverted) (h .out) ∷ plainNumber (h .count) ∷ []) e b
     ∙ ap₂ (λ n l. lineText (signedNumber (h .inverted) (h .out) ∷ plainNumber n ∷ []) ++ l) (sym (f .1))
-    (f .0 ∙ ap (λ l. gather gateLine (r .0) ++ l) (empty-is (r .2) t) ∙ append-nil (gather gateLine (r .0)))))))))
+    (f .0 ∙ ap (λ l. gather gateText (r .0) ++ l) (empty-is (r .2) t) ∙ append-nil (gather gateText (r .0)))))))))
 
 pub read-text : (text : List ℕ) (s : DrawnSheet) → readSheet text ≡ sheet s → text ≡ written s
 read-text text s e = of (readAll text) (all-text text) e

@@ -14,19 +14,19 @@ use Rattle.lists.specs.Trusted.Tests.{elem}
 use Rattle.lists.specs.TestLaws.{reflects-lt, reflects-eq, reflects-not, reflects-elem, reflects-within, reflects-true}
 use Rattle.tree.specs.declared.Kind.{Kind}
 use Rattle.tree.specs.declared.Kind.the-variants.{And as and, Or as or}
-use Rattle.tree.specs.Trusted.Limits.{greatestNet}
+use Rattle.tree.specs.Trusted.Limits.{greatestNet, fewestFanins, mostFanins}
 use Rattle.decimal.specs.Trusted.Number.{columns, Within}
 use Rattle.sheet.specs.declared.Source.{Source}
 use Rattle.sheet.specs.declared.Source.the-variants.{Net as net, Gate as gate}
 use Rattle.sheet.specs.declared.Edge.{Edge as Fanin}
-use Rattle.sheet.specs.Trusted.Limits.{gateBase, mostGates, fewestFanins, mostFanins, mostLeaves}
+use Rattle.sheet.specs.Trusted.Limits.{gateBase, mostGates, mostLeaves}
 use Rattle.sheet.specs.Trusted.Line.{fields}
 use Rattle.sheet.specs.Trusted.Sheet.{DrawnGate, DrawnSheet, sheet, netOf, gateOf, codeOf, faninNets, faninGates, leafNets, gatesRead, from}
 use Rattle.sheet.specs.Trusted.Step.{Step, good, _>>=_, require, given}
 use Rattle.sheet.specs.Trusted.Read.{Seen, nothing, readHead, sourceOf, readSource, readFanins, kindOf, gateHeadOf, readGate, readLeft, readUnread, readAll, reading, readSheet}
 use Rattle.sheet.specs.Trusted.Formed.{Net, LeafNet, FaninCount, Before, Earlier, WellFormed}
 use Rattle.sheet.specs.ReadLaws.{gates-distinct}
-use Rattle.drawing.specs.Trusted.Written.{signedNumber, plainNumber, fieldsText, headNumbers, kindNumber, faninNumber, gateNumbers, gateLine, written}
+use Rattle.drawing.specs.Trusted.Written.{signedNumber, plainNumber, fieldsText, headNumbers, kindNumber, faninNumber, gateNumbers, gateText, written}
 use Rattle.drawing.specs.LineLaws.{line-written, fields-written}
 
 -- ---- steps that go on
@@ -181,12 +181,12 @@ module _ (out g : ℕ) (seen : Seen) (x : DrawnGate) (number : g ≤ mostGates) 
 
 left-back : (out g : ℕ) (seen : Seen) (xs : List DrawnGate) → g + length xs ≤ mostGates + 1 → Every FaninCount xs → Earlier g xs →
     Unseen out seen (leafNets xs) (gatesRead xs) →
-    readLeft out (length xs) g seen (gather gateLine xs) ≡ good (xs, seenWith seen (leafNets xs) (gatesRead xs), [])
+    readLeft out (length xs) g seen (gather gateText xs) ≡ good (xs, seenWith seen (leafNets xs) (gatesRead xs), [])
 left-back out g seen [] l c k u = ap₂ (λ x y. good ([], record { nets = x; gates = y }, [])) (sym (append-nil (seen .nets))) (sym (append-nil (seen .gates)))
 left-back out g seen (x ∷ xs) l c k u =
     let ns = faninNets (x .fanins) in
     let gs = faninGates (x .fanins) in
-    on-given _ _ _ _ (line-written (gateNumbers x) (gather gateLine xs))
+    on-given _ _ _ _ (line-written (gateNumbers x) (gather gateText xs))
     (on-bind _ _ (gate-back out g seen x (omega arith) (every-head c) (unseen-first ns (leafNets xs) gs (gatesRead xs) u) (k .0))
     (on-bind _ _ (left-back out (suc g) (seenWith seen ns gs) xs (omega arith) (every-tail c) (k .1) (unseen-then ns (leafNets xs) gs (gatesRead xs) u))
     (ap (λ y. good (x ∷ xs, y, [])) (seen-both seen ns (leafNets xs) gs (gatesRead xs)))))
@@ -202,7 +202,7 @@ all-unseen s w = record { leaf-nets = w .leaf-nets; leaf-once = w .leaf-once; le
 
 all-back : (s : DrawnSheet) → WellFormed s → readAll (written s) ≡ good s
 all-back s w =
-    on-given _ _ _ _ (line-written (headNumbers s) (gather gateLine (s .gates)))
+    on-given _ _ _ _ (line-written (headNumbers s) (gather gateText (s .gates)))
     (on-bind _ _ (head-back s w)
     (on-bind _ _ (left-back (s .out) 1 nothing (s .gates) (omega arith) (w .fanin-counts) (w .earlier) (all-unseen s w))
     (on-require _ _ _ _ tt

@@ -6,8 +6,8 @@ use lib.ListN.{length}
 use Rattle.lists.specs.TestLaws.{reflects-le, reflects-and, reflects-true}
 use Rattle.decimal.specs.Trusted.Columns.{fieldOf}
 use Rattle.decimal.specs.ColumnLaws.{reflects-room, field-length}
-use Rattle.decimal.specs.Writing.{FieldWrite, outcome, fieldWrittenAt}
-use Rattle.decimal.specs.Trusted.Columns.{placed}
+use Rattle.decimal.specs.Writing.{FieldWrite, writeIf, fieldWrittenAt}
+use Rattle.decimal.specs.Trusted.Columns.{withField}
 use Rattle.decimal.specs.declared.Written.{Written}
 use Rattle.list_line.specs.Trusted.Writes.{pasted}
 
@@ -15,6 +15,6 @@ pub number-written : (old new : List ℕ) (at width n : ℕ) {a : Written} → a
     record { answer = a; bytes = new } ≡ fieldWrittenAt old at width n → new ≡ pasted old at (fieldOf width n)
 number-written old new at width n {a} l h e =
     ap (λ (o : FieldWrite). o .bytes) e
-    ∙ ap (λ b. (outcome b (placed old at width (fieldOf width n)) old) .bytes)
+    ∙ ap (λ b. (writeIf b (withField old at width (fieldOf width n)) old) .bytes)
     (reflects-true (reflects-and (reflects-le (at + width) (length old)) (reflects-room width n)) (l, h))
-    ∙ ap (λ w. placed old at w (fieldOf width n)) (sym (field-length width n))
+    ∙ ap (λ w. withField old at w (fieldOf width n)) (sym (field-length width n))

@@ -4,7 +4,7 @@
 ghost use mathlib.Core.Path.{_≡_};
 ghost use lib.ListN.{length};
 ghost use Rattle.io.specs.Counts.{Counts};
-ghost use Rattle.program_laws.specs.Front.{room};
+ghost use Rattle.program_laws.specs.Front.{frontBytes};
 use libc::STDERR_FILENO;
 use libc::STDIN_FILENO;
 use libc::STDOUT_FILENO;
@@ -37,7 +37,7 @@ fn read_some(fd: i32, part: &mut [u8]) -> Got
 
 // Reads until the buffer, which has room for all the bytes that decide, is full or the input ends.
 fn read_all(fd: i32, buf: &mut [u8]) -> Got
-    requires { ⌜ length (now buf) ≡ room ⌝ }
+    requires { ⌜ length (now buf) ≡ frontBytes ⌝ }
     ensures { λ r. ⌜ Counts (r .count) (now (buf .exit)) ⌝ }
 {
     let mut done: usize = 0;

@@ -5,7 +5,7 @@ use mathlib.Core.Bool.{Bool, true, false}
 use lib.ListN.{length, getD, set, take}
 use Rattle.lists.specs.Trusted.Lists.{Every, upto}
 use Rattle.tree.specs.declared.Kind.{Kind}
-use Rattle.tree.specs.Trusted.Limits.{codeBase}
+use Rattle.tree.specs.Trusted.Limits.{codeBase, mostFanins}
 use Rattle.plan.specs.declared.Key.{Key}
 use Rattle.plan.specs.declared.Token.{Token}
 use Rattle.plan.specs.Key.{leaf-key}
@@ -18,7 +18,7 @@ use Rattle.plan.specs.Limits.{mostBelow}
 use Rattle.sheet.specs.declared.Edge.{Edge}
 use Rattle.sheet.specs.declared.Gate.{Gate}
 use Rattle.sheet.specs.declared.Sheet.{Sheet}
-use Rattle.sheet.specs.Trusted.Limits.{mostGates, mostFanins, faninRoom}
+use Rattle.sheet.specs.Trusted.Limits.{mostGates, faninRoom}
 use Rattle.sheet.specs.Trusted.Sheet.{DrawnGate, faninGates}
 use Rattle.sheet.specs.Trusted.Answers.{drawnGate, drawnSheet}
 use Rattle.sheet.specs.Trusted.Trees.{drawn}
@@ -35,7 +35,7 @@ use Rattle.mapper_laws.specs.declared.Operands.{Operands}
 use Rattle.mapper_laws.specs.declared.Held.{Held}
 use Rattle.mapper_laws.specs.declared.MappedGate.{MappedGate}
 use Rattle.pending.specs.Operands.{single}
-use Rattle.mapper_laws.specs.Run.{run}
+use Rattle.mapper_laws.specs.Run.{runPlan}
 use Rattle.mapper_laws.specs.CodeRun.{noTable, noPending, operandAt, faninsOf, Good, begun, stateOf, Holds}
 use mathlib.Core.List.{List, _++_, map}
 
@@ -76,7 +76,7 @@ pub record GateMapped (K first : ℕ) (k : Kind) (o : Operands) (r : MappedGate)
   pub least : LeastReach K (keysIn o) key
   pub planned : Planned K (keysIn o) (upto (length (keysIn o))) tokens key
   pub holds : Holds (r .run)
-  pub state : stateOf (r .run) ≡ run codeBase first k (faninsOf o) tokens begun
+  pub state : stateOf (r .run) ≡ runPlan codeBase first k (faninsOf o) tokens begun
   pub below : r .held .below ≡ key .below
   pub table : r .held .table ≡ operandAt (r .run) 0 .table
 

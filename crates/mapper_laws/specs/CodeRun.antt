@@ -16,7 +16,7 @@ use Rattle.plan.specs.declared.Token.{Token}
 use Rattle.plan.specs.declared.Plan.{Plan}
 use Rattle.plan.specs.Steps.{tokens}
 use Rattle.pending.specs.Operands.{Operand, single, merged}
-use Rattle.mapper_laws.specs.Run.{State, step, run, SafeStep, SafeRun}
+use Rattle.mapper_laws.specs.Run.{State, runToken, runPlan, SafeStep, SafeRun}
 use Rattle.pending.specs.Pendings.{operandOf, MergeKept, Neat, Mergeable}
 
 -- one operand more
@@ -115,7 +115,7 @@ pub record Advances (first : ℕ) (k : Kind) (o : Operands) (token : Token) (s :
 
 pub record Advanced (first : ℕ) (k : Kind) (o : Operands) (token : Token) (s s′ : PlanRun) : Type 0 where
   pub holds : Holds s′
-  pub state : stateOf s′ ≡ step codeBase first k (faninsOf o) token (stateOf s)
+  pub state : stateOf s′ ≡ runToken codeBase first k (faninsOf o) token (stateOf s)
 
 -- ---- a plan
 
@@ -130,11 +130,11 @@ pub record Runnable (first : ℕ) (k : Kind) (o : Operands) (p : Plan) : Type 0 
 
 pub record Ran (first : ℕ) (k : Kind) (o : Operands) (p : Plan) (s : PlanRun) : Type 0 where
   pub holds : Holds s
-  pub state : stateOf s ≡ run codeBase first k (faninsOf o) (tokens p) begun
+  pub state : stateOf s ≡ runPlan codeBase first k (faninsOf o) (tokens p) begun
 
 -- the first i steps were taken
 pub record Following (first : ℕ) (k : Kind) (o : Operands) (p : Plan) (i : ℕ) (s : PlanRun) : Type 0 where
   pub at : i ≤ p .len
   pub holds : Holds s
   pub safe : SafeRun codeBase first k (faninsOf o) (drop i (tokens p)) (stateOf s)
-  pub ends : run codeBase first k (faninsOf o) (drop i (tokens p)) (stateOf s) ≡ run codeBase first k (faninsOf o) (tokens p) begun
+  pub ends : runPlan codeBase first k (faninsOf o) (drop i (tokens p)) (stateOf s) ≡ runPlan codeBase first k (faninsOf o) (tokens p) begun

@@ -27,7 +27,7 @@ use Rattle.plan.specs.declared.Token.the-variants.{Push, Join}
 use Rattle.mapper_laws.specs.declared.PlanRun.{PlanRun}
 use Rattle.mapper_laws.specs.declared.Operands.{Operands}
 use Rattle.pending.specs.Operands.{Operand, single, merged}
-use Rattle.mapper_laws.specs.Run.{operand, tables, joinTop, step, run, SafeJoin, SafeStep, SafeRun}
+use Rattle.mapper_laws.specs.Run.{operand, tablesAfter, joinTop, runToken, runPlan, SafeJoin, SafeStep, SafeRun}
 use Rattle.mapper_laws.specs.SafeLaws.{merged-length}
 use Rattle.pending.specs.Pendings.{operandOf, MergeKept, Neat}
 use Rattle.mapper_laws.specs.CodeRun.{pushed, placedIf, noTable, noPending, operandAt, replaced, heldIf, leftOf, leftPlaced, rightOf, joined, Joins, stackOf, placedOf, stateOf, Holds, faninsOf, Good, Advances, Advanced, begun, Runnable, Ran, Following}
@@ -109,7 +109,7 @@ module _ (first : ℕ) where
   held-neat false placed x n = n
   held-neat true placed x n = record-neat (single (codeBase + (first + placed) + 1)) (omega arith) (every-none _, tt)
 
-  placed-tables : (l : Bool) (s : PlanRun) (x : Pending) → Holds s → s .placed < 18 → placedOf (placedIf l s (x .table)) ≡ tables codeBase first l (placedOf s) (operandOf x)
+  placed-tables : (l : Bool) (s : PlanRun) (x : Pending) → Holds s → s .placed < 18 → placedOf (placedIf l s (x .table)) ≡ tablesAfter codeBase first l (placedOf s) (operandOf x)
   placed-tables false s x h l = refl
   placed-tables true s x h l =
       ap (map tableOf) (ap (λ n. take n (set (s .tables) (s .placed) (x .table))) (add-one (s .placed)) ∙ take-suc-set (s .tables) (s .placed) (x .table) (omega (arith, h .table-room)))
@@ -170,7 +170,7 @@ module _ (first : ℕ) where
     y-neat : Neat (y .table)
     y-neat = h .operands (s .depth - 1) (omega (arith, two))
 
-    room : (length (operand codeBase first l (placedOf s) (operandOf x) .table .inputs) + length (operand codeBase first r (tables codeBase first l (placedOf s) (operandOf x)) (operandOf y) .table .inputs) ≤ 6) × (length (placedOf s) + 2 ≤ 18)
+    room : (length (operand codeBase first l (placedOf s) (operandOf x) .table .inputs) + length (operand codeBase first r (tablesAfter codeBase first l (placedOf s) (operandOf x)) (operandOf y) .table .inputs) ≤ 6) × (length (placedOf s) + 2 ≤ 18)
     room = subst (λ st. SafeJoin codeBase first k fanins l r st (placedOf s)) (stack-two s two) safe
 
     count : s .placed + 2 ≤ 18
@@ -179,13 +179,13 @@ module _ (first : ℕ) where
     left-holds : Holds left
     left-holds = placed-holds l s x h (omega (arith, count)) (x-neat .kept)
 
-    left-tables : placedOf left ≡ tables codeBase first l (placedOf s) (operandOf x)
+    left-tables : placedOf left ≡ tablesAfter codeBase first l (placedOf s) (operandOf x)
     left-tables = placed-tables l s x h (omega (arith, count))
 
     left-operand : operandOf (leftOf first l s) ≡ operand codeBase first l (placedOf s) (operandOf x)
     left-operand = held-operand l (placedOf s) (s .placed) x (placed-length s h)
 
-    right-operand : operandOf (rightOf first l r s) ≡ operand codeBase first r (tables codeBase first l (placedOf s) (operandOf x)) (operandOf y)
+    right-operand : operandOf (rightOf first l r s) ≡ operand codeBase first r (tablesAfter codeBase first l (placedOf s) (operandOf x)) (operandOf y)
     right-operand =
         held-operand r (placedOf left) (left .placed) y (placed-length left left-holds)
         ∙ ap (λ ts. operand codeBase first r ts (operandOf y)) left-tables
@@ -207,7 +207,7 @@ module _ (first : ℕ) where
           ap (λ o. length (o .table .inputs)) right-operand,
         )
 
-    pub joins : Joins first l r s
+    joins : Joins first l r s
     joins = record {
       before = few;
       depth = (two, h .depth);
@@ -224,8 +224,8 @@ module _ (first : ℕ) where
     both-holds : Holds both
     both-holds = placed-holds r left y left-holds right-room (y-neat .kept)
 
-    both-tables : placedOf both ≡ tables codeBase first r (tables codeBase first l (placedOf s) (operandOf x)) (operandOf y)
-    both-tables = placed-tables r left y left-holds right-room ∙ ap (λ ts. tables codeBase first r ts (operandOf y)) left-tables
+    both-tables : placedOf both ≡ tablesAfter codeBase first r (tablesAfter codeBase first l (placedOf s) (operandOf x)) (operandOf y)
+    both-tables = placed-tables r left y left-holds right-room ∙ ap (λ ts. tablesAfter codeBase first r ts (operandOf y)) left-tables
 
     both-stack : both .stack ≡ s .stack
     both-stack = placed-stack r left (y .table) ∙ placed-stack l s (x .table)
@@ -233,7 +233,7 @@ module _ (first : ℕ) where
     both-depth : both .depth ≡ s .depth
     both-depth = placed-depth r left (y .table) ∙ placed-depth l s (x .table)
 
-    joint-is : joint ≡ merged k (operand codeBase first l (placedOf s) (operandOf x)) (operand codeBase first r (tables codeBase first l (placedOf s) (operandOf x)) (operandOf y))
+    joint-is : joint ≡ merged k (operand codeBase first l (placedOf s) (operandOf x)) (operand codeBase first r (tablesAfter codeBase first l (placedOf s) (operandOf x)) (operandOf y))
     joint-is = ap₂ (merged k) left-operand right-operand
 
     joint-neat : Neat (recordOf joint)
@@ -338,7 +338,7 @@ module _ (first : ℕ) (k : Kind) (o : Operands) (p : Plan) where
     at = omega arith;
     holds = h;
     safe = rw new (r .safe);
-    ends = ap (run codeBase first k (faninsOf o) (tokens p)) new;
+    ends = ap (runPlan codeBase first k (faninsOf o) (tokens p)) new;
   }
     where
       new : stateOf s ≡ begun
@@ -356,7 +356,7 @@ module _ (first : ℕ) (k : Kind) (o : Operands) (p : Plan) where
         (map-at (λ x. x .token) (take (p .len) (p .steps)) i (record { token = Push 0 }) (Push 0) m ∙ ap (λ x. x .token) (getD-take (p .len) (p .steps) i (record { token = Push 0 }) l))
         (ap (λ n. drop n (tokens p)) (sym (add-one i)))
 
-    safe-next : SafeStep codeBase first k (faninsOf o) next (stateOf s) × SafeRun codeBase first k (faninsOf o) (drop (i + 1) (tokens p)) (step codeBase first k (faninsOf o) next (stateOf s))
+    safe-next : SafeStep codeBase first k (faninsOf o) next (stateOf s) × SafeRun codeBase first k (faninsOf o) (drop (i + 1) (tokens p)) (runToken codeBase first k (faninsOf o) next (stateOf s))
     safe-next = subst (λ ts. SafeRun codeBase first k (faninsOf o) ts (stateOf s)) rest (f .safe)
 
     pub following-advances : Advances first k o next s
@@ -367,13 +367,13 @@ module _ (first : ℕ) (k : Kind) (o : Operands) (p : Plan) where
       at = omega arith;
       holds = a .holds;
       safe = rw (a .state) (safe-next .1);
-      ends = ap (run codeBase first k (faninsOf o) (drop (i + 1) (tokens p))) (a .state) ∙ ap (λ ts. run codeBase first k (faninsOf o) ts (stateOf s)) (sym rest) ∙ f .ends;
+      ends = ap (runPlan codeBase first k (faninsOf o) (drop (i + 1) (tokens p))) (a .state) ∙ ap (λ ts. runPlan codeBase first k (faninsOf o) ts (stateOf s)) (sym rest) ∙ f .ends;
     }
 
   pub following-end : {i : ℕ} {s : PlanRun} → p .len ≤ i → Following first k o p i s → Ran first k o p s
   following-end {i} {s} l f = record {
     holds = f .holds;
     state =
-        ap (λ ts. run codeBase first k (faninsOf o) ts (stateOf s))
+        ap (λ ts. runPlan codeBase first k (faninsOf o) ts (stateOf s))
         (sym (drop-past i (tokens p) (omega (arith, l, length-map (take (p .len) (p .steps)) (λ x. x .token), length-take (p .len) (p .steps))))) ∙ f .ends;
   }

@@ -16,7 +16,7 @@ use Rattle.cover.specs.Trusted.Cover.{Cover, net, top, Fanins, end}
 use Rattle.cover.specs.Nets.{nets*}
 use Rattle.plan.specs.Reach.{Best}
 use Rattle.cover.specs.Trusted.Tables.{LookupTable, Placed, numbered}
-use Rattle.cover.specs.Trusted.Placed.{tableOf, records*}
+use Rattle.cover.specs.Trusted.Placed.{gateTable, records*}
 use Rattle.plan.specs.Plans.{Body}
 use Rattle.sheet.specs.declared.Source.{Source}
 use Rattle.sheet.specs.declared.Source.the-variants.{Net, Gate}
@@ -24,7 +24,7 @@ use Rattle.sheet.specs.declared.Edge.{Edge}
 use Rattle.sheet.specs.Trusted.Sheet.{DrawnGate, leafNets, gatesRead}
 use Rattle.sheet.specs.Trusted.Trees.{treesOf}
 use Rattle.pending.specs.Operands.{Operand, single}
-use Rattle.mapper_laws.specs.Run.{run}
+use Rattle.mapper_laws.specs.Run.{runPlan}
 
 -- a gate that was mapped: its fanins, split, with what is placed among them, and its best key
 pub record GatesMapped : Type 0 where
@@ -81,7 +81,7 @@ Early base = Every (λ p. Every (λ c. c < base + p .0) (p .1 .inputs))
 module _ (base : ℕ) where
   -- the table that holds the gate, and the tables within its fanins
   abbrev pub heldTable : GatesMapped → LookupTable
-  heldTable d = tableOf base 0 false (d .kind) (d .body)
+  heldTable d = gateTable base 0 false (d .kind) (d .body)
 
   abbrev pub innerOf : GatesMapped → List Placed
   innerOf d = records* base (d .body) (d .kind)
@@ -107,8 +107,8 @@ module _ (base : ℕ) where
   pub record NextGate (n K : ℕ) (gs : List DrawnGate) (done : List GatesMapped) (staged : List LookupTable) (g : DrawnGate) (plan : List Token) (a : Key) : Type 0 where
     pub body : Fanins
     pub new : List LookupTable
-    pub ends : run base (n + length staged) (g .kind) (operandsOf done (g .fanins)) plan (record { stack = []; placed = [] })
-        ≡ record { stack = record { inverted = false; table = tableOf base 0 false (g .kind) body } ∷ []; placed = new }
+    pub ends : runPlan base (n + length staged) (g .kind) (operandsOf done (g .fanins)) plan (record { stack = []; placed = [] })
+        ≡ record { stack = record { inverted = false; table = gateTable base 0 false (g .kind) body } ∷ []; placed = new }
     pub progress : Progress n K (gs ++ (g ∷ [])) (done ++ (record { kind = g .kind; body = body; key = a } ∷ [])) (staged ++ new)
     pub is : (es : Edges) × Body K es a body
     pub below : Distinct (gatesRead (gs ++ (g ∷ []))) → a .below + 2 ≤ length (leafNets (gs ++ (g ∷ [])))

@@ -21,7 +21,7 @@ use Rattle.cover.specs.Trusted.Tables.{LookupTable, Placed, numbered}
 use Rattle.cover.specs.Eval.{numbered-append, numbered-length}
 use Rattle.cover.specs.Size.{records-length*}
 use Rattle.plan.specs.Least.{body-least}
-use Rattle.cover.specs.Trusted.Placed.{tableOf}
+use Rattle.cover.specs.Trusted.Placed.{gateTable}
 use Rattle.plan.specs.Reach.{LeastReach, Best, at-leaf, Bests, at-end, at-edge}
 use Rattle.plan.specs.ReachLaws.{best-gate}
 use Rattle.plan.specs.Plans.{Planned, drawn, Standing, Ready, ready-none, ready-edge}
@@ -270,7 +270,7 @@ module _ (base : ℕ) where
     root = mappedAt done (length (s .gates))
 
     abbrev rootTable : LookupTable
-    rootTable = tableOf base (s .out) (s .inverted) (root .kind) (root .body)
+    rootTable = gateTable base (s .out) (s .inverted) (root .kind) (root .body)
 
     root-stood : Stood K (treeOf s) root
     root-stood = stood-at K two (p .stood) (length (s .gates)) (formed .gate-count .0) (omega (arith, done-count p))

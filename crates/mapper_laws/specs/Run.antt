@@ -29,9 +29,9 @@ module _ (base n : ℕ) where
   operand false ts x = x
   operand true ts x = record { inverted = x .inverted; table = single (nextCode ts) }
 
-  abbrev pub tables : Bool → List LookupTable → Operand → List LookupTable
-  tables false ts x = ts
-  tables true ts x = ts ++ (x .table ∷ [])
+  abbrev pub tablesAfter : Bool → List LookupTable → Operand → List LookupTable
+  tablesAfter false ts x = ts
+  tablesAfter true ts x = ts ++ (x .table ∷ [])
 
   module _ (k : Kind) where
     -- the left operand is placed before the right one; with fewer than two operands nothing is joined
@@ -39,18 +39,18 @@ module _ (base n : ℕ) where
     joinTop l r [] ts = record { stack = []; placed = ts }
     joinTop l r (y ∷ []) ts = record { stack = y ∷ []; placed = ts }
     joinTop l r (y ∷ x ∷ st) ts = record {
-      stack = merge k (operand l ts x) (operand r (tables l ts x) y) ∷ st;
-      placed = tables r (tables l ts x) y;
+      stack = merge k (operand l ts x) (operand r (tablesAfter l ts x) y) ∷ st;
+      placed = tablesAfter r (tablesAfter l ts x) y;
     }
 
     module _ (fanins : List Operand) where
-      abbrev pub step : Token → State → State
-      step (push i) s = record { stack = getD fanins i (record { inverted = false; table = single 0 }) ∷ s .stack; placed = s .placed }
-      step (join l r) s = joinTop l r (s .stack) (s .placed)
+      abbrev pub runToken : Token → State → State
+      runToken (push i) s = record { stack = getD fanins i (record { inverted = false; table = single 0 }) ∷ s .stack; placed = s .placed }
+      runToken (join l r) s = joinTop l r (s .stack) (s .placed)
 
-      abbrev pub run : List Token → State → State
-      run [] s = s
-      run (t ∷ ts) s = run ts (step t s)
+      abbrev pub runPlan : List Token → State → State
+      runPlan [] s = s
+      runPlan (t ∷ ts) s = runPlan ts (runToken t s)
 
       -- ---- what a run has room for: ten operands, tables of six inputs, and eighteen tables placed
 
@@ -58,7 +58,7 @@ module _ (base n : ℕ) where
       SafeJoin l r [] ts = ⊥
       SafeJoin l r (y ∷ []) ts = ⊥
       SafeJoin l r (y ∷ x ∷ st) ts =
-          (length (operand l ts x .table .inputs) + length (operand r (tables l ts x) y .table .inputs) ≤ 6) × (length ts + 2 ≤ 18)
+          (length (operand l ts x .table .inputs) + length (operand r (tablesAfter l ts x) y .table .inputs) ≤ 6) × (length ts + 2 ≤ 18)
 
       abbrev pub SafeStep : Token → State → Type 0
       SafeStep (push i) s = (i < length fanins) × (length (s .stack) < 10)
@@ -66,4 +66,4 @@ module _ (base n : ℕ) where
 
       abbrev pub SafeRun : List Token → State → Type 0
       SafeRun [] s = Unit {0}
-      SafeRun (t ∷ ts) s = SafeStep t s × SafeRun ts (step t s)
+      SafeRun (t ∷ ts) s = SafeStep t s × SafeRun ts (runToken t s)

@@ -17,19 +17,19 @@ use Rattle.cover.specs.Trusted.Bits.{bit, digit}
 use Rattle.cover.specs.Trusted.Cover.{Cover, net, top, Fanins, end, new, pick}
 use Rattle.cover.specs.Trusted.Tables.{LookupTable, output, tabled, numbered}
 use Rattle.cover.specs.Eval.{Agree, tabled-output, numbered-append}
-use Rattle.cover.specs.Trusted.Placed.{code, codes, codes*, held, held*, tableOf, records*}
+use Rattle.cover.specs.Trusted.Placed.{code, codes, codes*, held, held*, gateTable, records*}
 use Rattle.cover.specs.Value.{held-same, held-same*}
 use Rattle.plan.specs.declared.Key.{Key}
 use Rattle.plan.specs.declared.Token.{Token}
 use Rattle.plan.specs.declared.Token.the-variants.{Join as join}
 use Rattle.plan.specs.Key.{KeyTaken, held as kept, cut, Way}
-use Rattle.plan.specs.Plans.{Denotes, fanin, binary, Planned, Fragment, drawn, made, marked, place, PlanSays, Runs, stop, pushed, joined, Ready, ready-none, ready-edge, Body}
-use Rattle.plan.specs.Fragments.{Stands, as-drawn, as-made, ready-names, stands-join}
+use Rattle.plan.specs.Plans.{Denotes, fanin, binary, Planned, Fragment, drawn, made, marked, placeFragment, PlanSays, Runs, stop, pushed, joined, Ready, ready-none, ready-edge, Body}
+use Rattle.plan.specs.Fragments.{FragmentOf, as-drawn, as-made, ready-names, fragment-join}
 use Rattle.plan.specs.PlanLaws.{runs-append, plan-body}
 use Rattle.plan.specs.Placings.{inner, inside, own, placings, plan-placed}
 use Rattle.mapper_laws.specs.Mapping.{Low, Early}
 use Rattle.pending.specs.Operands.{Operand, single, merged}
-use Rattle.mapper_laws.specs.Run.{merge, State, operand, tables, step, run}
+use Rattle.mapper_laws.specs.Run.{merge, State, operand, tablesAfter, runToken, runPlan}
 
 meet-unit-right : (k : Kind) (b : Bool) → meet k b (unit k) ≡ b
 meet-unit-right and true = refl
@@ -63,12 +63,12 @@ module _ (base : ℕ) (k : Kind) where
   itemHeld m (drawn q) e = held base (marked m (q .1)) e
   itemHeld m (made s) e = pick m (held* base s k e) (e (base + m))
 
-  place-codes : (m : ℕ) (f : Fragment) (fs : Fanins) → codes* base (place m f fs) ≡ itemCodes m f ++ codes* base fs
+  place-codes : (m : ℕ) (f : Fragment) (fs : Fanins) → codes* base (placeFragment m f fs) ≡ itemCodes m f ++ codes* base fs
   place-codes m (drawn q) fs = refl
   place-codes m (made s) fs = refl
 
   place-held : (m : ℕ) (f : Fragment) (fs : Fanins) (e : ℕ → Bool) →
-      held* base (place m f fs) k e ≡ meet k (turned (inverts f) (itemHeld m f e)) (held* base fs k e)
+      held* base (placeFragment m f fs) k e ≡ meet k (turned (inverts f) (itemHeld m f e)) (held* base fs k e)
   place-held m (drawn q) fs e = refl
   place-held m (made s) fs e = refl
 
@@ -93,21 +93,21 @@ module _ (base : ℕ) (k : Kind) where
       (λ d e h. item-same m f d e (permuted-from (sorted-permuted (itemCodes m f)) h)) e
 
   -- merged operands are those of the gate that joins the fragments
-  shown-merge : (m n : ℕ) (x y : Operand) (f g : Fragment) → Shows m x f → Shows n y g → Shows 0 (merge k x y) (made (place m f (place n g end)))
+  shown-merge : (m n : ℕ) (x y : Operand) (f g : Fragment) → Shows m x f → Shows n y g → Shows 0 (merge k x y) (made (placeFragment m f (placeFragment n g end)))
   unfolding merged
   shown-merge m n x y f g s t = record { inverted = refl; table = ap₂ (tabled 0) inputs value }
     where
-      inputs : sorted (x .table .inputs ++ y .table .inputs) ≡ sorted (codes* base (place m f (place n g end)))
+      inputs : sorted (x .table .inputs ++ y .table .inputs) ≡ sorted (codes* base (placeFragment m f (placeFragment n g end)))
       inputs =
           ap₂ (λ a b. sorted (a .inputs ++ b .inputs)) (s .table) (t .table) ∙ sorted-twice (itemCodes m f) (itemCodes n g)
-          ∙ ap sorted (sym (place-codes m f (place n g end) ∙ ap (λ xs. itemCodes m f ++ xs) (place-codes n g end ∙ append-nil (itemCodes n g))))
+          ∙ ap sorted (sym (place-codes m f (placeFragment n g end) ∙ ap (λ xs. itemCodes m f ++ xs) (place-codes n g end ∙ append-nil (itemCodes n g))))
 
       value : _≡_ {A = (ℕ → Bool) → Bool} (λ e. meet k (turned (x .inverted) (output (x .table) e)) (turned (y .inverted) (output (y .table) e)))
-          (λ e. held* base (place m f (place n g end)) k e)
+          (λ e. held* base (placeFragment m f (placeFragment n g end)) k e)
       value = fun-ext (λ e.
           ap₂ (meet k) (ap₂ turned (s .inverted) (shown-output m x f s e)) (ap₂ turned (t .inverted) (shown-output n y g t e)
           ∙ sym (meet-unit-right k (turned (inverts g) (itemHeld n g e))) ∙ sym (place-held n g end e))
-          ∙ sym (place-held m f (place n g end) e))
+          ∙ sym (place-held m f (placeFragment n g end) e))
 
   -- a fragment that can be placed
   abbrev pub IsGate : Fragment → Type 0
@@ -140,11 +140,11 @@ module _ (base : ℕ) (k : Kind) where
     mark-says true ts = omega arith
 
     -- what is placed
-    abbrev pub added : Bool → Operand → List LookupTable
-    added false x = []
-    added true x = x .table ∷ []
+    abbrev pub placedTables : Bool → Operand → List LookupTable
+    placedTables false x = []
+    placedTables true x = x .table ∷ []
 
-    tables-added : (l : Bool) (ts : List LookupTable) (x : Operand) → tables base n l ts x ≡ ts ++ added l x
+    tables-added : (l : Bool) (ts : List LookupTable) (x : Operand) → tablesAfter base n l ts x ≡ ts ++ placedTables l x
     tables-added false ts x = sym (append-nil ts)
     tables-added true ts x = refl
 
@@ -158,7 +158,7 @@ module _ (base : ℕ) (k : Kind) where
     shown-operand true ts x f g s = shown-placed (n + length ts) x f g s
 
     own-added : (l : Bool) (ts : List LookupTable) (x : Operand) (f : Fragment) → Places l f → Shows 0 x f →
-        own base k (markOf l ts) f ≡ numbered (n + length ts) (added l x)
+        own base k (markOf l ts) f ≡ numbered (n + length ts) (placedTables l x)
     own-added false ts x (drawn (i, net z)) g s = refl
     own-added false ts x (drawn (i, top z j fs)) g s = refl
     own-added false ts x (made fs) g s = refl
@@ -170,7 +170,7 @@ module _ (base : ℕ) (k : Kind) where
     low-more t l h c m = let i = h c m in omega arith
 
     low-operand : (l : Bool) (ts : List LookupTable) (x : Operand) → Low base (n + length ts) (x .table) →
-        Low base (n + length (tables base n l ts x)) (operand base n l ts x .table)
+        Low base (n + length (tablesAfter base n l ts x)) (operand base n l ts x .table)
     low-operand false ts x h = h
     low-operand true ts x h = every-cons (simp length-append (omega arith)) (every-none _)
 
@@ -178,7 +178,7 @@ module _ (base : ℕ) (k : Kind) where
     unfolding merged
     low-merged b x y g h = permuted-to (sorted-permuted (x .table .inputs ++ y .table .inputs)) (every-append (x .table .inputs) (y .table .inputs) g h)
 
-    early-added : (l : Bool) (ts : List LookupTable) (x : Operand) → Low base (n + length ts) (x .table) → Early base (numbered (n + length ts) (added l x))
+    early-added : (l : Bool) (ts : List LookupTable) (x : Operand) → Low base (n + length ts) (x .table) → Early base (numbered (n + length ts) (placedTables l x))
     early-added false ts x h = every-none _
     early-added true ts x h = every-cons (λ c m. let i = h c m in omega arith) (every-none _)
 
@@ -194,12 +194,12 @@ module _ (base : ℕ) (k : Kind) where
         ∙ ap (λ ps. own base k m x ++ ps) (sym (append-assoc (own base k m′ y) (placings base k ds a) (placings base k ds b)))
         ∙ sym (append-assoc (own base k m x) (own base k m′ y ++ placings base k ds a) (placings base k ds b))
 
-    run-append : (fanins : List Operand) (p q : List Token) (s : State) → run base n k fanins (p ++ q) s ≡ run base n k fanins q (run base n k fanins p s)
+    run-append : (fanins : List Operand) (p q : List Token) (s : State) → runPlan base n k fanins (p ++ q) s ≡ runPlan base n k fanins q (runPlan base n k fanins p s)
     run-append fanins [] q s = refl
-    run-append fanins (t ∷ p) q s = run-append fanins p q (step base n k fanins t s)
+    run-append fanins (t ∷ p) q s = run-append fanins p q (runToken base n k fanins t s)
 
     -- only a gate is wide enough to be placed
-    taken-places : {K : ℕ} {es : Edges} {f : Fragment} {ns : List ℕ} {a b : Key} {l : Bool} → Stands K es f ns a → KeyTaken a l b → Places l f
+    taken-places : {K : ℕ} {es : Edges} {f : Fragment} {ns : List ℕ} {a b : Key} {l : Bool} → FragmentOf K es f ns a → KeyTaken a l b → Places l f
     taken-places s kept = tt
     taken-places (as-drawn {q = (i, net z)} s h) (cut w) = absurd (omega (arith, s .inputs))
     taken-places (as-drawn {q = (i, top m j fs)} s h) (cut w) = tt
@@ -215,9 +215,9 @@ module _ (base : ℕ) (k : Kind) where
         pub new : List LookupTable
         pub runs : Runs ds p sf (fragment ∷ sf)
         pub placing : placings base k ds runs ≡ numbered (n + length ts) new
-        pub ends : run base n k fanins p (record { stack = st; placed = ts }) ≡ record { stack = top ∷ st; placed = ts ++ new }
+        pub ends : runPlan base n k fanins p (record { stack = st; placed = ts }) ≡ record { stack = top ∷ st; placed = ts ++ new }
         pub shows : Shows 0 top fragment
-        pub stands : Stands K es fragment ns a
+        pub stands : FragmentOf K es fragment ns a
         pub low : Low base (n + length (ts ++ new)) (top .table)
         pub earlier : Early base (numbered (n + length ts) new)
 
@@ -228,16 +228,16 @@ module _ (base : ℕ) (k : Kind) where
         before = (ts ++ x .new) ++ y .new
 
         abbrev between : List LookupTable
-        between = tables base n l before (x .top)
+        between = tablesAfter base n l before (x .top)
 
         abbrev after : List LookupTable
-        after = tables base n d between (y .top)
+        after = tablesAfter base n d between (y .top)
 
         abbrev lefts : List LookupTable
-        lefts = added l (x .top)
+        lefts = placedTables l (x .top)
 
         abbrev rights : List LookupTable
-        rights = added d (y .top)
+        rights = placedTables d (y .top)
 
         abbrev left-mark : ℕ
         left-mark = markOf l before
@@ -276,13 +276,13 @@ module _ (base : ℕ) (k : Kind) where
         after-length : n + length between ≤ n + length after
         after-length = omega (arith, ap length (tables-added d between (y .top)), length-append between rights)
 
-        abbrev join-run : Runs ds (join l d ∷ []) (y .fragment ∷ x .fragment ∷ sf) (made (place left-mark (x .fragment) (place right-mark (y .fragment) end)) ∷ sf)
+        abbrev join-run : Runs ds (join l d ∷ []) (y .fragment ∷ x .fragment ∷ sf) (made (placeFragment left-mark (x .fragment) (placeFragment right-mark (y .fragment) end)) ∷ sf)
         join-run = joined left-mark right-mark (mark-says l before) (mark-says d between) stop
 
         followed-join : Followed (p ++ (q ++ (join l d ∷ []))) (ms ++ ns) c st ts sf
         followed-join = record {
           top = merge k (operand base n l before (x .top)) (operand base n d between (y .top));
-          fragment = made (place left-mark (x .fragment) (place right-mark (y .fragment) end));
+          fragment = made (placeFragment left-mark (x .fragment) (placeFragment right-mark (y .fragment) end));
           new = x .new ++ (y .new ++ (lefts ++ rights));
           runs = runs-append (x .runs) (runs-append (y .runs) join-run);
           placing =
@@ -293,15 +293,15 @@ module _ (base : ℕ) (k : Kind) where
               ∙ sym numbers;
           ends =
               run-append fanins p (q ++ (join l d ∷ [])) (record { stack = st; placed = ts })
-              ∙ ap (run base n k fanins (q ++ (join l d ∷ []))) (x .ends)
+              ∙ ap (runPlan base n k fanins (q ++ (join l d ∷ []))) (x .ends)
               ∙ run-append fanins q (join l d ∷ []) (record { stack = x .top ∷ st; placed = ts ++ x .new })
-              ∙ ap (run base n k fanins (join l d ∷ [])) (y .ends)
+              ∙ ap (runPlan base n k fanins (join l d ∷ [])) (y .ends)
               ∙ ap (λ us. record { stack = merge k (operand base n l before (x .top)) (operand base n d between (y .top)) ∷ st; placed = us }) after-is;
           shows =
               shown-merge left-mark right-mark (operand base n l before (x .top)) (operand base n d between (y .top)) (x .fragment) (y .fragment)
               (shown-operand l before (x .top) (x .fragment) left-places (x .shows))
               (shown-operand d between (y .top) (y .fragment) right-places (y .shows));
-          stands = stands-join K es left-mark right-mark (x .stands) (y .stands) w (mark-says l before) (mark-says d between);
+          stands = fragment-join K es left-mark right-mark (x .stands) (y .stands) w (mark-says l before) (mark-says d between);
           low =
               rw (← after-is)
               (low-merged (n + length after) (operand base n l before (x .top)) (operand base n d between (y .top))
@@ -342,10 +342,10 @@ module _ (base : ℕ) (k : Kind) where
       pub record Gated (p : List Token) (a : Key) : Type 0 where
         pub body : Fanins
         pub new : List LookupTable
-        pub ends : run base n k fanins p (record { stack = []; placed = [] }) ≡ record { stack = record { inverted = false; table = tableOf base 0 false k body } ∷ []; placed = new }
+        pub ends : runPlan base n k fanins p (record { stack = []; placed = [] }) ≡ record { stack = record { inverted = false; table = gateTable base 0 false k body } ∷ []; placed = new }
         pub is : Body K es a body
         pub taken : Permuted (gather (λ q. inner base (q .1)) ds ++ numbered n new) (records* base body k)
-        pub low : Low base (n + length new) (tableOf base 0 false k body)
+        pub low : Low base (n + length new) (gateTable base 0 false k body)
         pub earlier : Early base (numbered n new)
 
       module _ {p : List Token} {ns : List ℕ} {a : Key} (y : Followed p ns a [] [] []) (body : Fanins) (f : y .fragment ≡ made body) where
@@ -355,7 +355,7 @@ module _ (base : ℕ) (k : Kind) where
         body-shows : Shows 0 (y .top) (made body)
         body-shows = rw f at (y .shows)
 
-        body-top : y .top ≡ record { inverted = false; table = tableOf base 0 false k body }
+        body-top : y .top ≡ record { inverted = false; table = gateTable base 0 false k body }
         body-top = λ i. record { inverted = body-shows .inverted i; table = body-shows .table i }
 
         body-taken : Planned K ks (upto (length ks)) p a → Permuted (gather (λ q. inner base (q .1)) ds ++ numbered n (y .new)) (records* base body k)

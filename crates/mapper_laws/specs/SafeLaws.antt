@@ -16,7 +16,7 @@ use Rattle.plan.specs.Key.{leaf-key, KeyTaken, held, cut}
 use Rattle.cover.specs.Trusted.Tables.{LookupTable}
 use Rattle.plan.specs.Plans.{Denotes, fanin, binary, Planned}
 use Rattle.pending.specs.Operands.{Operand, single, merged}
-use Rattle.mapper_laws.specs.Run.{merge, operand, tables, SafeRun}
+use Rattle.mapper_laws.specs.Run.{merge, operand, tablesAfter, SafeRun}
 
 pub merged-length : (k : Kind) (x y : Operand) → length (merged k x y .inputs) ≡ length (x .table .inputs) + length (y .table .inputs)
 unfolding merged
@@ -33,7 +33,7 @@ module _ (base n : ℕ) where
   operand-length false ts x e held = e
   operand-length true ts x e (cut h) = refl
 
-  tables-length : (l : Bool) (ts : List LookupTable) (x : Operand) → length (tables base n l ts x) ≤ length ts + 1
+  tables-length : (l : Bool) (ts : List LookupTable) (x : Operand) → length (tablesAfter base n l ts x) ≤ length ts + 1
   tables-length false ts x = omega arith
   tables-length true ts x = omega (arith, length-append ts (x .table ∷ []))
 
@@ -55,12 +55,12 @@ module _ (base n : ℕ) where
         (λ x us ex lx. safe-denotes v (join l r ∷ q) (x ∷ st) us (omega arith) (omega arith)
         (λ y vs ey ly.
         let el = operand-length l vs x ex (w .took-left) in
-        let er = operand-length r (tables base n l vs x) y ey (w .took-right) in
+        let er = operand-length r (tablesAfter base n l vs x) y ey (w .took-right) in
         let tl = tables-length l vs x in
-        let tr = tables-length r (tables base n l vs x) y in (
+        let tr = tables-length r (tablesAfter base n l vs x) y in (
           (omega (arith, w .fits), omega arith),
-          go (merge k (operand base n l vs x) (operand base n r (tables base n l vs x) y)) (tables base n r (tables base n l vs x) y)
-              (omega (arith, merged-length k (operand base n l vs x) (operand base n r (tables base n l vs x) y), ap (λ z. z .width) (w .is)))
+          go (merge k (operand base n l vs x) (operand base n r (tablesAfter base n l vs x) y)) (tablesAfter base n r (tablesAfter base n l vs x) y)
+              (omega (arith, merged-length k (operand base n l vs x) (operand base n r (tablesAfter base n l vs x) y), ap (λ z. z .width) (w .is)))
               (omega arith),
         ))))
 

@@ -17,7 +17,7 @@ use Rattle.plan.specs.Entries.{Small, FaninKey}
 use Rattle.plan.specs.Reach.{LeastReach}
 use Rattle.plan.specs.ReachBounds.{reach-small}
 use Rattle.plan.specs.Plans.{Planned}
-use Rattle.cover.specs.Trusted.Placed.{codes*, held*, tableOf as gateTable}
+use Rattle.cover.specs.Trusted.Placed.{codes*, held*, gateTable}
 use Rattle.cover.specs.Nets.{least-bounds}
 use Rattle.cover.specs.Trusted.CoverTables.{LeastCoverTables}
 use Rattle.cover.specs.Size.{codes-length*}
@@ -44,7 +44,7 @@ use Rattle.mapper_laws.specs.declared.Operands.{Operands}
 use Rattle.mapper_laws.specs.declared.Held.{Held}
 use Rattle.mapper_laws.specs.declared.MappedGate.{MappedGate}
 use Rattle.mapper_laws.specs.declared.Mapping.{Mapping}
-use Rattle.mapper_laws.specs.Run.{run}
+use Rattle.mapper_laws.specs.Run.{runPlan}
 use Rattle.pending.specs.Pendings.{operandOf, MergeKept}
 use Rattle.mapper_laws.specs.CodeRun.{noTable, operandAt, stackOf, placedOf, stateOf, begun}
 use Rattle.mapper_laws.specs.Mapping.{GatesMapped, unmapped, mappedAt, keyOf, keysOf, heldTable, Progress, NextGate}
@@ -158,7 +158,7 @@ module _ {K used : ℕ} {s : DrawnSheet} {g : ℕ} {held : List Held} {m : Mappi
     ends : stateOf (r .run) ≡ record { stack = record { inverted = false; table = heldTable codeBase mapped } ∷ []; placed = next .new }
     ends =
         p .state
-        ∙ ap₂ (λ n fs. run codeBase n (x .kind) fs (p .tokens) begun) (ap (λ n. used + n) (sym staged-count)) (all-gathered .fanins)
+        ∙ ap₂ (λ n fs. runPlan codeBase n (x .kind) fs (p .tokens) begun) (ap (λ n. used + n) (sym staged-count)) (all-gathered .fanins)
         ∙ next .ends
 
     one-deep : r .run .depth ≡ 1

@@ -9,14 +9,14 @@ use Rattle.printing.specs.declared.Printed.the-variants.{Wrote, NoRoom}
 use Rattle.program.specs.Contracts.{Answered, AtFront}
 
 -- how many bytes were printed: none where the buffer is too short
-abbrev pub bytes : Outcome → ℕ
-bytes (Wrote n) = n
-bytes NoRoom = 0
+abbrev pub printedBytes : Outcome → ℕ
+printedBytes (Wrote n) = n
+printedBytes NoRoom = 0
 
 -- what the mapping program prints for the input stands in the buffer, or the buffer is too short and as it was; with room for the longest
 -- list it is never too short, and n is the length of what is printed
 pub record PrintedInto (input : List ℕ) (n : ℕ) (new old : List ℕ) : Type 0 where
   pub outcome : Outcome
   pub answered : Answered input outcome new old
-  pub count : n ≡ bytes outcome
+  pub count : n ≡ printedBytes outcome
   pub whole : longest ≤ length old → AtFront input n new old

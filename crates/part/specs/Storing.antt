@@ -15,8 +15,8 @@ use Rattle.part.specs.declared.Part.{Part}
 use Rattle.part.specs.declared.add.Uses.{Uses}
 
 -- the tree of the code's sheet
-abbrev pub sheetOf : CodeSheet → Circuit
-sheetOf s = drawn (drawnSheet s)
+abbrev pub circuitOf : CodeSheet → Circuit
+circuitOf s = drawn (drawnSheet s)
 
 -- ---- tables and a net
 

@@ -37,7 +37,7 @@ use Rattle.part.specs.Trusted.Reading.{readOf}
 use Rattle.part.specs.Trusted.Answers.{Answer, accepted, refused}
 use Rattle.part.specs.Trusted.Add.{extended, isDriven, isRead, Offer, Add}
 use Rattle.part.specs.Trusted.AddAnswers.{addingAnswer}
-use Rattle.part.specs.Storing.{sheetOf, withTable, stored}
+use Rattle.part.specs.Storing.{circuitOf, withTable, stored}
 use Rattle.part.specs.declared.Part.{Part}
 use Rattle.part.specs.declared.Adding.{Adding}
 use Rattle.part.specs.declared.Added.{Added}
@@ -115,7 +115,7 @@ module _ (p : Part) (shape : Shaped p) (h : Sound p) (s : CodeSheet) (m : Mappin
   unfolding new
   new-count = length-map (take (m .count) (m .tables)) tableOf ∙ taken-count
 
-  new-least : LeastCoverTables tableBase (p .k) (tablesOf p) new (sheetOf s)
+  new-least : LeastCoverTables tableBase (p .k) (tablesOf p) new (circuitOf s)
   unfolding new
   new-least = g .least (tablesOf p) (length-map (inUse p) tableOf ∙ used-count p shape h)
 
@@ -130,11 +130,11 @@ module _ (p : Part) (shape : Shaped p) (h : Sound p) (s : CodeSheet) (m : Mappin
       ap₂ (λ n rs. record { k = p .k; capacity = p .capacity; used = p .used + n; tables = inUse p ++ rs ++ drop (p .used + n) (p .tables) }) (sym new-count) (sym new-records)
 
   module _ (d : isDriven (s .out) (tablesOf p) ≡ false) (r : isRead (s .out) (tablesOf p) ≡ false) where
-    pub offer-full : p .capacity - p .used < m .count → Offer p (sheetOf s) p (refused 23 0)
+    pub offer-full : p .capacity - p .used < m .count → Offer p (circuitOf s) p (refused 23 0)
     offer-full l =
         rw d (rw r (length new, new-least .fewest, rw (lt-leb (length new) (p .capacity - p .used) (omega (arith, l, new-count))) (refl, refl)))
 
-    pub offer-stored : m .count ≤ p .capacity - p .used → Offer p (sheetOf s) (stored p m) accepted
+    pub offer-stored : m .count ≤ p .capacity - p .used → Offer p (circuitOf s) (stored p m) accepted
     offer-stored l =
         rw d (rw r (
           length new,

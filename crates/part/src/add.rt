@@ -6,7 +6,7 @@ ghost use Prim.Native.Nat.{_<_};
 ghost use Rattle.table.specs.Trusted.Rules.{Padded};
 ghost use Rattle.part.specs.Trusted.Sound.{Sound};
 ghost use Rattle.part.specs.Trusted.Add.{Offer, Add};
-ghost use Rattle.part.specs.Storing.{sheetOf, withTable};
+ghost use Rattle.part.specs.Storing.{circuitOf, withTable};
 ghost use Rattle.part.specs.Trusted.AddAnswers.{addingAnswer};
 use crate::Added;
 use crate::Adding;
@@ -46,7 +46,7 @@ impl Part {
     // refuse it are tested in 01's order: 21, 22, 23.
     pub fn offer(mut self, sheet: Sheet) -> Added
         requires { ⌜ Sound self × WellFormed (drawnSheet sheet) ⌝ }
-        ensures { λ r. ⌜ Offer self (sheetOf sheet) (r .part) (addingAnswer (r .answer)) ⌝ }
+        ensures { λ r. ⌜ Offer self (circuitOf sheet) (r .part) (addingAnswer (r .answer)) ⌝ }
     {
         let used = self.used;
         let first = used as usize;

@@ -28,7 +28,7 @@ use Rattle.table.specs.Trusted.Records.{reads, tableOf, recordOf}
 use Rattle.pending.specs.declared.Pending.{Pending}
 use Rattle.pending.specs.Operands.{merged}
 use Rattle.pending.specs.Pendings.{operandOf, Mergeable}
-use Rattle.pending.specs.Merging.{padded, columnOf, columnsOf, valueAt, Rows, Words, MergeRoom, Filled, Ordered, Tabled, invertedOf}
+use Rattle.pending.specs.Merging.{padded, columnOf, columnsOf, rowValue, Rows, Words, MergeRoom, Filled, Ordered, Tabled, invertedOf}
 
 -- ---- a part of a list
 
@@ -351,7 +351,7 @@ module _ (t n : ℕ) (ms : List ℕ) (f : Filled n ms) where
           ap first e ∙ ap (λ xs. index (map (λ m. bit m row) (take 1 xs))) (f .zeros ∙ ap (λ k. padded (take k ms)) z) ∙ ap (λ b. digit b 0) (bit-zero row)
           ∙ ap first (sym z)
 
-  pub level-last : {ws : List ℕ} (i : ℕ) → 0 < i → n ≤ i → i - 1 ≤ n - 1 → Level t ms n i ws → Rows (valueAt t (take n ms)) (getD ws 0 0)
+  pub level-last : {ws : List ℕ} (i : ℕ) → 0 < i → n ≤ i → i - 1 ≤ n - 1 → Level t ms n i ws → Rows (rowValue t (take n ms)) (getD ws 0 0)
   level-last i p l q g = record {
     bits = λ row r. g .rows 0 (pow-pos (n - i)) .bits row r ∙ ap (bit t) (above-none (map (λ m. bit m row) (take i ms)) ∙ all-used i row p l q);
   }
@@ -417,7 +417,7 @@ pub ordered-shape : {n : ℕ} {xs : List ℕ} → Ordered n xs → length xs ≡
 ordered-shape o = filled-shape (o .filled)
 
 -- the loop that puts the code c among the first n of `xs`: it has passed the first i, and `next` is still to be put in
-pub record Passed (xs : List ℕ) (n c : ℕ) (out : List ℕ) (next i : ℕ) : Type 0 where
+pub record Inserting (xs : List ℕ) (n c : ℕ) (out : List ℕ) (next i : ℕ) : Type 0 where
   pub shape : length out ≡ length xs
   pub within : i ≤ n
   pub rest : drop i out ≡ drop i xs
@@ -427,16 +427,16 @@ module _ (xs : List ℕ) (n c : ℕ) (room : n < inputRoom) (o : Ordered n xs) w
   shape : length xs ≡ inputRoom
   shape = ordered-shape o
 
-  pub passed-none : Passed xs n c xs c 0
-  passed-none = record { shape = refl; within = omega arith; rest = refl; made = refl }
+  pub inserting-start : Inserting xs n c xs c 0
+  inserting-start = record { shape = refl; within = omega arith; rest = refl; made = refl }
 
-  module _ {out : List ℕ} {next i : ℕ} (p : Passed xs n c out next i) (l : i < n) where
+  module _ {out : List ℕ} {next i : ℕ} (p : Inserting xs n c out next i) (l : i < n) where
     here-is : slice i n xs ≡ getD out i 0 ∷ slice (i + 1) n xs
     here-is = slice-cons i n xs 0 l (omega (arith, shape)) ∙ ap₂ (λ y k. y ∷ slice k n xs) (sym (drop-head i out xs (p .rest))) (sym (add-one i))
 
     -- the code at i is less, and stays
-    pub passed-stay : getD out i 0 < next → Passed xs n c out next (i + 1)
-    passed-stay h = record {
+    pub inserting-stay : getD out i 0 < next → Inserting xs n c out next (i + 1)
+    inserting-stay h = record {
       shape = p .shape;
       within = omega arith;
       rest = drop-more i out xs (p .rest);
@@ -447,8 +447,8 @@ module _ (xs : List ℕ) (n c : ℕ) (room : n < inputRoom) (o : Ordered n xs) w
     }
 
     -- or it moves up
-    pub passed-up : next ≤ getD out i 0 → Passed xs n c (set out i next) (getD out i 0) (i + 1)
-    passed-up h = record {
+    pub inserting-up : next ≤ getD out i 0 → Inserting xs n c (set out i next) (getD out i 0) (i + 1)
+    inserting-up h = record {
       shape = length-set out i next ∙ p .shape;
       within = omega arith;
       rest = drop-set-lt (i + 1) out i next (omega arith) ∙ drop-more i out xs (p .rest);
@@ -459,8 +459,8 @@ module _ (xs : List ℕ) (n c : ℕ) (room : n < inputRoom) (o : Ordered n xs) w
           ∙ sym (rw (add-one i, take-suc-set out i next (omega (arith, p .shape, shape))) (append-snoc (take i out) next (insert (getD out i 0) (slice (suc i) n xs))));
     }
 
-  pub passed-all : {out : List ℕ} {next i : ℕ} → Passed xs n c out next i → i ≡ n → set out n next ≡ padded (insert c (take n xs))
-  passed-all {out} {next} {i} p e =
+  pub inserting-end : {out : List ℕ} {next i : ℕ} → Inserting xs n c out next i → i ≡ n → set out n next ≡ padded (insert c (take n xs))
+  inserting-end {out} {next} {i} p e =
       set-split out n next (omega (arith, p .shape, shape))
       ∙ ap (λ zs. take n out ++ (next ∷ zs)) (subst (λ k. drop k out ≡ drop k xs) after (drop-more i out xs (p .rest)) ∙ zeros-after n xs room (o .filled))
       ∙ sym (append-snoc (take n out) next (replicate (inputRoom - suc n) 0))
@@ -476,7 +476,7 @@ module _ (xs : List ℕ) (n c : ℕ) (room : n < inputRoom) (o : Ordered n xs) w
       size = insert-length c (take n xs) ∙ ap suc (length-take-le n xs (omega (arith, shape)))
 
 -- the first n of the codes `cs` put among the first m of `xs`, from the last code on: those from i on are there
-pub record Gathered (cs : List ℕ) (n : ℕ) (ys out : List ℕ) (size i : ℕ) : Type 0 where
+pub record InsertedFrom (cs : List ℕ) (n : ℕ) (ys out : List ℕ) (size i : ℕ) : Type 0 where
   pub within : i ≤ n
   pub count : size ≡ n - i + length ys
   pub made : out ≡ padded (sorted (slice i n cs ++ ys))
@@ -488,22 +488,22 @@ module _ (cs : List ℕ) (n : ℕ) (r : MergeRoom n cs) (xs : List ℕ) (m : ℕ
   ys-length : length (take m xs) ≡ m
   ys-length = length-take-le m xs (omega (arith, ordered-shape o))
 
-  pub gathered-none : Gathered cs n (take m xs) xs m n
-  gathered-none = record {
+  pub inserted-none : InsertedFrom cs n (take m xs) xs m n
+  inserted-none = record {
     within = omega arith;
     count = omega (arith, ys-length);
     made = o .filled .zeros ∙ ap padded (sym (ap (λ ws. sorted (ws ++ take m xs)) (slice-empty n cs) ∙ sorted-only (permuted-refl (take m xs)) (o .sorted)));
   }
 
-  module _ {out : List ℕ} {size i : ℕ} (g : Gathered cs n (take m xs) out size i) where
+  module _ {out : List ℕ} {size i : ℕ} (g : InsertedFrom cs n (take m xs) out size i) where
     first-are : take size out ≡ sorted (slice i n cs ++ take m xs)
     first-are =
         ap (take size) (g .made)
         ∙ take-at (sorted (slice i n cs ++ take m xs)) _ size
         (sorted-length (slice i n cs ++ take m xs) ∙ length-append (slice i n cs) (take m xs) ∙ omega (arith, g .count, length-slice i n cs (omega (arith, r .shape))))
 
-    pub gathered-ordered : 0 < i → (size < inputRoom) × Ordered size out
-    gathered-ordered p = (
+    pub inserted-ordered : 0 < i → (size < inputRoom) × Ordered size out
+    inserted-ordered p = (
       omega (arith, g .count, g .within, ys-length),
       record {
         filled = record { fits = omega (arith, g .count, g .within, ys-length); zeros = g .made ∙ ap padded (sym first-are) };
@@ -511,8 +511,8 @@ module _ (cs : List ℕ) (n : ℕ) (r : MergeRoom n cs) (xs : List ℕ) (m : ℕ
       },
     )
 
-    pub gathered-next : {out′ : List ℕ} → 0 < i → out′ ≡ padded (insert (getD cs (i - 1) 0) (take size out)) → Gathered cs n (take m xs) out′ (size + 1) (i - 1)
-    gathered-next p e = record {
+    pub inserted-next : {out′ : List ℕ} → 0 < i → out′ ≡ padded (insert (getD cs (i - 1) 0) (take size out)) → InsertedFrom cs n (take m xs) out′ (size + 1) (i - 1)
+    inserted-next p e = record {
       within = omega (arith, g .within);
       count = omega (arith, g .count, g .within);
       made =
@@ -520,8 +520,8 @@ module _ (cs : List ℕ) (n : ℕ) (r : MergeRoom n cs) (xs : List ℕ) (m : ℕ
           ∙ ap (λ ws. padded (sorted (ws ++ take m xs))) (sym (slice-down i n cs p (g .within) (omega (arith, r .shape, r .fits))));
     }
 
-    pub gathered-all : i ≡ 0 → out ≡ padded (sorted (take n cs ++ take m xs))
-    gathered-all z = g .made ∙ ap (λ k. padded (sorted (slice k n cs ++ take m xs))) z
+    pub inserted-all : i ≡ 0 → out ≡ padded (sorted (take n cs ++ take m xs))
+    inserted-all z = g .made ∙ ap (λ k. padded (sorted (slice k n cs ++ take m xs))) z
 
 -- ---- the whole
 
@@ -538,7 +538,7 @@ rows-low n l = rw (rows-are n l) (pow-mono {i = n} {j = 6} l)
 abbrev operandAt : Pending → List ℕ → ℕ → Bool
 operandAt x zs row = turned (x .inverted) (output (tableOf (x .table)) (λ c. bit row (place c zs)))
 
-operand-is : {v w : ℕ} (x : Pending) (zs : List ℕ) → Rows (valueAt (x .table .truth) (columnsOf (reads (x .table)) zs)) v →
+operand-is : {v w : ℕ} (x : Pending) (zs : List ℕ) → Rows (rowValue (x .table .truth) (columnsOf (reads (x .table)) zs)) v →
     Rows (λ row. turned (x .inverted) (bit v row)) w → Rows (operandAt x zs) w
 operand-is x zs e f = record {
   bits = λ row l. f .bits row l ∙ ap (turned (x .inverted)) (e .bits row l ∙ ap (λ bs. bit (x .table .truth) (index bs)) (each row l (reads (x .table))));
@@ -567,8 +567,8 @@ module _ (x y : Pending) (m : Mergeable x y) (shape : length (x .table .inputs) 
   pub inputs-room : MergeRoom (count x y) inputs
   inputs-room = record { fits = m .fits; shape = ap length i ∙ padded-length (sorted (codes x y)) (omega (arith, codes-count, m .fits)) }
 
-  pub merged-is : (k : Kind) {v v′ w w′ t : ℕ} → Rows (valueAt (x .table .truth) (columnsOf (reads (x .table)) (take (count x y) inputs))) v →
-      Rows (valueAt (y .table .truth) (columnsOf (reads (y .table)) (take (count x y) inputs))) v′ → Rows (λ row. turned (x .inverted) (bit v row)) w →
+  pub merged-is : (k : Kind) {v v′ w w′ t : ℕ} → Rows (rowValue (x .table .truth) (columnsOf (reads (x .table)) (take (count x y) inputs))) v →
+      Rows (rowValue (y .table .truth) (columnsOf (reads (y .table)) (take (count x y) inputs))) v′ → Rows (λ row. turned (x .inverted) (bit v row)) w →
       Rows (λ row. turned (y .inverted) (bit v′ row)) w′ → Rows (λ row. meet k (bit w row) (bit w′ row)) t →
       _≡_ {A = Table} (record { net = 0; count = count x y; inputs = inputs; truth = bitAnd t (2 ^ 2 ^ count x y - 1) })
       (recordOf (merged k (operandOf x) (operandOf y)))

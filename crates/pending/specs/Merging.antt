@@ -22,8 +22,8 @@ abbrev pub columnsOf : List ℕ → List ℕ → List ℕ
 columnsOf cs xs = map (λ c. columnOf (place c xs)) cs
 
 -- the value of a truth table in a row, where the inputs have the row's bits of the words `ms`
-abbrev pub valueAt : ℕ → List ℕ → ℕ → Bool
-valueAt truth ms row = bit truth (index (map (λ m. bit m row) ms))
+abbrev pub rowValue : ℕ → List ℕ → ℕ → Bool
+rowValue truth ms row = bit truth (index (map (λ m. bit m row) ms))
 
 -- the word w has the value `f row` as its bit of each row
 pub record Rows (f : ℕ → Bool) (w : ℕ) : Type 0 where

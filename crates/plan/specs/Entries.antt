@@ -7,7 +7,8 @@ use lib.ListN.{length, getD, take}
 use Rattle.lists.specs.Trusted.Lists.{Every, sum}
 use Rattle.plan.specs.declared.Key.{Key}
 use Rattle.plan.specs.Key.{key, leaf-key, _≼_, join}
-use Rattle.plan.specs.Limits.{leastInputs, mostInputs, leastFanins, mostFanins, mostBelow, mostReached, mostJoined, masks}
+use Rattle.tree.specs.Trusted.Limits.{fewestFanins, mostFanins}
+use Rattle.plan.specs.Limits.{leastInputs, mostInputs, mostBelow, mostReached, mostJoined, masks}
 use Rattle.plan.specs.Masks.{select, MaskWithin}
 use Rattle.plan.specs.Reach.{LeastReach}
 use Rattle.plan.specs.Volume.{volume}
@@ -88,7 +89,7 @@ pub record FaninKey (K : ℕ) (a : Key) : Type 0 where
 -- what can be searched: the keys of from 2 to 10 fanins
 pub record GoodKeys (K : ℕ) (ks : List Key) : Type 0 where
   pub table : (leastInputs ≤ K) × (K ≤ mostInputs)
-  pub count : (leastFanins ≤ length ks) × (length ks ≤ mostFanins)
+  pub count : (fewestFanins ≤ length ks) × (length ks ≤ mostFanins)
   pub keys : Every (FaninKey K) ks
 
 -- and the arrays for it: one place for each mask of ten fanins

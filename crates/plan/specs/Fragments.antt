@@ -12,7 +12,7 @@ use Rattle.tree.specs.Trusted.Tree.{Node, Edges, none, edge}
 use Rattle.cover.specs.Trusted.Cover.{Cover, net, top, Fanins, end, pick, arity, frontier, tables, tables*, width, widths, Fits*, Fits, SplitOf, same, split, Matched, done, match}
 use Rattle.plan.specs.declared.Key.{Key}
 use Rattle.plan.specs.Key.{leaf-key, KeyTaken, held, cut, Way}
-use Rattle.plan.specs.Plans.{Fragment, drawn, made, marked, place, PlanSays, Standing, Ready, ready-none, ready-edge}
+use Rattle.plan.specs.Plans.{Fragment, drawn, made, marked, placeFragment, PlanSays, Standing, Ready, ready-none, ready-edge}
 
 -- ---- which fanin a cover stands for
 
@@ -48,11 +48,11 @@ abbrev listed : ℕ → Fragment → List (Bool × Cover)
 listed m (drawn q) = (q .0, marked m (q .1)) ∷ []
 listed m (made s) = frontier s
 
-place-frontier : (m : ℕ) (f : Fragment) (fs : Fanins) → frontier (place m f fs) ≡ listed m f ++ frontier fs
+place-frontier : (m : ℕ) (f : Fragment) (fs : Fanins) → frontier (placeFragment m f fs) ≡ listed m f ++ frontier fs
 place-frontier m (drawn q) fs = refl
 place-frontier m (made s) fs = refl
 
-place-arity : (m : ℕ) (f : Fragment) (fs : Fanins) → arity (place m f fs) ≡ 1 + arity fs
+place-arity : (m : ℕ) (f : Fragment) (fs : Fanins) → arity (placeFragment m f fs) ≡ 1 + arity fs
 place-arity m (drawn q) fs = refl
 place-arity m (made s) fs = refl
 
@@ -82,22 +82,22 @@ module _ (K : ℕ) where
   ready-names (ready-edge s r) (suc n) l = ready-names r n (omega arith)
 
   module _ (es : Edges) where
-    pub data Stands : Fragment → List ℕ → Key → Type 0 where
+    pub data FragmentOf : Fragment → List ℕ → Key → Type 0 where
       as-drawn : {q : Bool × Cover} {n : ℕ} {t : Node} {k : Key} →
-          Standing K t k (q .1) → ((m : ℕ) → Names es n (q .0, marked m (q .1))) → Stands (drawn q) (n ∷ []) k
+          Standing K t k (q .1) → ((m : ℕ) → Names es n (q .0, marked m (q .1))) → FragmentOf (drawn q) (n ∷ []) k
       as-made : {s : Fanins} {ns : List ℕ} {k : Key} → Paired (Names es) ns (frontier s) → 2 ≤ arity s → Fits* s K → widths s ≤ K →
-          tables* s ≡ k .below → widths s ≡ k .width → Stands (made s) ns k
+          tables* s ≡ k .below → widths s ≡ k .width → FragmentOf (made s) ns k
 
     -- as a fanin of a gate, with the mark m and the key k
     record Item (ns : List ℕ) (k : Key) (m : ℕ) (f : Fragment) : Type 0 where
       names : Paired (Names es) ns (listed m f)
-      fits : (fs : Fanins) → Fits* fs K → Fits* (place m f fs) K
-      count : (fs : Fanins) → tables* (place m f fs) ≡ k .below + tables* fs
-      inputs : (fs : Fanins) → widths (place m f fs) ≡ k .width + widths fs
+      fits : (fs : Fanins) → Fits* fs K → Fits* (placeFragment m f fs) K
+      count : (fs : Fanins) → tables* (placeFragment m f fs) ≡ k .below + tables* fs
+      inputs : (fs : Fanins) → widths (placeFragment m f fs) ≡ k .width + widths fs
 
-    stands-item : {f : Fragment} {ns : List ℕ} {a x : Key} {l : Bool} (m : ℕ) → Stands f ns a → KeyTaken a l x → PlanSays l m →
+    fragment-item : {f : Fragment} {ns : List ℕ} {a x : Key} {l : Bool} (m : ℕ) → FragmentOf f ns a → KeyTaken a l x → PlanSays l m →
         Item ns x m f
-    stands-item m (as-drawn {q = q} s h) g e =
+    fragment-item m (as-drawn {q = q} s h) g e =
         let r = mark-cover (q .1) m s g e in
         record {
           names = pair (h m) no-pair;
@@ -105,7 +105,7 @@ module _ (K : ℕ) where
           count = λ fs. rw (r .1);
           inputs = λ fs. rw (r .2);
         }
-    stands-item m (as-made {s = s} p h f w c i) g e =
+    fragment-item m (as-made {s = s} p h f w c i) g e =
         let r = mark-gate m (widths s) (tables* s) w c i g e in
         record {
           names = p;
@@ -114,13 +114,13 @@ module _ (K : ℕ) where
           inputs = λ fs. rw (r .2);
         }
 
-    pub stands-join : {f g : Fragment} {ms ns : List ℕ} {a b k : Key} {l r : Bool} (m n : ℕ) → Stands f ms a → Stands g ns b →
-        Way K l r a b k → PlanSays l m → PlanSays r n → Stands (made (place m f (place n g end))) (ms ++ ns) k
-    stands-join {f} {g} {ms} {ns} {k = k} m n s t w d e =
-        let x = stands-item m s (w .took-left) d in
-        let y = stands-item n t (w .took-right) e in
-        let fs = place n g end in
-        as-made {s = place m f fs} {ns = ms ++ ns} {k = k}
+    pub fragment-join : {f g : Fragment} {ms ns : List ℕ} {a b k : Key} {l r : Bool} (m n : ℕ) → FragmentOf f ms a → FragmentOf g ns b →
+        Way K l r a b k → PlanSays l m → PlanSays r n → FragmentOf (made (placeFragment m f (placeFragment n g end))) (ms ++ ns) k
+    fragment-join {f} {g} {ms} {ns} {k = k} m n s t w d e =
+        let x = fragment-item m s (w .took-left) d in
+        let y = fragment-item n t (w .took-right) e in
+        let fs = placeFragment n g end in
+        as-made {s = placeFragment m f fs} {ns = ms ++ ns} {k = k}
         (rw (place-frontier m f fs, place-frontier n g end, append-nil (listed n g)) (paired-append (x .names) (y .names)))
         (omega (arith, place-arity m f fs, place-arity n g end))
         (x .fits fs (y .fits end tt))

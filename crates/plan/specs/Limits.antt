@@ -1,18 +1,13 @@
 -- The numbers that bound the search for one gate, each named once; the code's are in src/lib.rt. Internal definitions.
 use Prim.Native.Nat.{ℕ, _+_, _-_, _*_}
+use Rattle.tree.specs.Trusted.Limits.{mostFanins}
 
--- a table has from 2 to 6 inputs, and a gate from 2 to 10 fanins
+-- a table has from 2 to 6 inputs
 abbrev pub leastInputs : ℕ
 leastInputs = 2
 
 abbrev pub mostInputs : ℕ
 mostInputs = 6
-
-abbrev pub leastFanins : ℕ
-leastFanins = 2
-
-abbrev pub mostFanins : ℕ
-mostFanins = 10
 
 -- the most tables below one fanin's root
 abbrev pub mostBelow : ℕ

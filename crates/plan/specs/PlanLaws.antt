@@ -17,8 +17,8 @@ use Rattle.plan.specs.declared.Key.{Key}
 use Rattle.plan.specs.Key.{leaf-key}
 use Rattle.plan.specs.declared.Token.{Token}
 use Rattle.plan.specs.declared.Token.the-variants.{Push as push, Join as join}
-use Rattle.plan.specs.Plans.{Denotes, fanin, binary, Planned, Fragment, made, place, PlanSays, Runs, stop, pushed, joined, Standing, Ready, ready-none, ready-edge, Body}
-use Rattle.plan.specs.Fragments.{names-matched, edges, Stands, as-drawn, as-made, ready-names, stands-join}
+use Rattle.plan.specs.Plans.{Denotes, fanin, binary, Planned, Fragment, made, placeFragment, PlanSays, Runs, stop, pushed, joined, Standing, Ready, ready-none, ready-edge, Body}
+use Rattle.plan.specs.Fragments.{names-matched, edges, FragmentOf, as-drawn, as-made, ready-names, fragment-join}
 
 -- ---- a run
 
@@ -36,13 +36,13 @@ runs-split (join l c ∷ p) (joined m n d e a) = let r = runs-split p a in (r .0
 
 last-join : {ds : List (Bool × Cover)} {l c : Bool} {x y : Fragment} {st st′ : List Fragment} →
     Runs ds (join l c ∷ []) (y ∷ x ∷ st) st′ →
-    (m : ℕ) × (n : ℕ) × PlanSays l m × PlanSays c n × (st′ ≡ made (place m x (place n y end)) ∷ st)
+    (m : ℕ) × (n : ℕ) × PlanSays l m × PlanSays c n × (st′ ≡ made (placeFragment m x (placeFragment n y end)) ∷ st)
 last-join (joined m n d e stop) = (m, n, d, e, refl)
 
 module _ (K : ℕ) where
   module _ {es : Edges} {ds : List (Bool × Cover)} {ks : List Key} (r : Ready K es ds ks) where
     run-stands : {p : List Token} {ns : List ℕ} {k : Key} → Denotes K ks p ns k → (st st′ : List Fragment) → Runs ds p st st′ →
-        (f : Fragment) × (st′ ≡ f ∷ st) × Stands K es f ns k
+        (f : Fragment) × (st′ ≡ f ∷ st) × FragmentOf K es f ns k
     run-stands (fanin i l) st _ (pushed stop) = let q = ready-names K r i l in (_, refl, as-drawn (q .1) (q .2))
     run-stands (binary {p = p} {q = q} {l = l} {r = c} a b w) st st′ h =
         let u = runs-split p h in
@@ -50,7 +50,7 @@ module _ (K : ℕ) where
         let v = runs-split q {q = join l c ∷ []} (subst (λ s. Runs ds (q ++ (join l c ∷ [])) s st′) (x .1) (u .2)) in
         let y = run-stands b (x .0 ∷ st) (v .0) (v .1) in
         let z = last-join {l = l} {c = c} (subst (λ s. Runs ds (join l c ∷ []) s st′) (y .1) (v .2)) in
-        (made (place (z .0) (x .0) (place (z .1) (y .0) end)), z .4, stands-join K es (z .0) (z .1) (x .2) (y .2) w (z .2) (z .3))
+        (made (placeFragment (z .0) (x .0) (placeFragment (z .1) (y .0) end)), z .4, fragment-join K es (z .0) (z .1) (x .2) (y .2) w (z .2) (z .3))
 
   -- ---- what it makes
 
@@ -58,10 +58,10 @@ module _ (K : ℕ) where
   ready-edges ready-none = refl
   ready-edges (ready-edge s r) = ap suc (ready-edges r)
 
-  stands-body : {es : Edges} {f : Fragment} {ns : List ℕ} {k : Key} → Stands K es f ns k → Permuted ns (upto (edges es)) →
+  fragment-body : {es : Edges} {f : Fragment} {ns : List ℕ} {k : Key} → FragmentOf K es f ns k → Permuted ns (upto (edges es)) →
       2 ≤ edges es → (body : Fanins) × (f ≡ made body) × Body K es k body
-  stands-body {es} (as-drawn s h) p two = absurd (omega (arith, permuted-length p, upto-length (edges es)))
-  stands-body {es} (as-made {s = s} d h f w c i) p two =
+  fragment-body {es} (as-drawn s h) p two = absurd (omega (arith, permuted-length p, upto-length (edges es)))
+  fragment-body {es} (as-made {s = s} d h f w c i) p two =
       let q = paired-permuted p d in
       (s, refl, record { many = h; matched = names-matched es (q .2) (q .1); fits = f; small = w; count = c; inputs = i })
 
@@ -72,7 +72,7 @@ module _ (K : ℕ) where
   plan-body {es} r two pl h =
       let x = run-stands r (pl .denotes) [] _ h in
       let e = ready-edges r in
-      let b = stands-body (x .2) (rw e at (pl .once)) (omega arith) in
+      let b = fragment-body (x .2) (rw e at (pl .once)) (omega arith) in
       (b .0, x .1 ∙ ap (λ f. f ∷ []) (b .1), b .2)
 
   some-mark : (l : Bool) → (m : ℕ) × PlanSays l m

@@ -11,7 +11,8 @@ use Rattle.plan.specs.declared.Key.{Key}
 use Rattle.plan.specs.declared.Token.the-variants.{Push as push}
 use Rattle.plan.specs.declared.Plan.{Plan}
 use Rattle.plan.specs.Key.{key}
-use Rattle.plan.specs.Limits.{leastInputs, mostInputs, leastFanins, mostFanins, mostBelow, mostSteps}
+use Rattle.tree.specs.Trusted.Limits.{fewestFanins, mostFanins}
+use Rattle.plan.specs.Limits.{leastInputs, mostInputs, mostBelow, mostSteps}
 use Rattle.plan.specs.Plans.{Planned}
 use Rattle.plan.specs.Reach.{LeastReach}
 use Rattle.plan.specs.Steps.{tokens}
@@ -23,11 +24,11 @@ faninTest K a = within 1 K (a .width) && leb (a .below) mostBelow
 -- the first `count` keys can be searched
 unfoldable pub goodInput : ℕ → ℕ → List Key → Bool
 goodInput K count keys =
-    within leastInputs mostInputs K && (within leastFanins mostFanins count && all (faninTest K) (take count keys))
+    within leastInputs mostInputs K && (within fewestFanins mostFanins count && all (faninTest K) (take count keys))
 
 -- a plan of no steps
-abbrev pub blank : Bool → Key → Plan
-blank b a = record { ok = b; key = a; len = 0; steps = replicate mostSteps (record { token = push 0 }) }
+abbrev pub emptyPlan : Bool → Key → Plan
+emptyPlan b a = record { ok = b; key = a; len = 0; steps = replicate mostSteps (record { token = push 0 }) }
 
 -- a plan for fanins with these keys: it joins each of them once, and no plan has a better key
 pub record PlanAnswer (K : ℕ) (ks : List Key) (r : Plan) : Type 0 where
@@ -39,4 +40,4 @@ pub record PlanAnswer (K : ℕ) (ks : List Key) (r : Plan) : Type 0 where
 
 -- the promise: input that is not good is answered by zeros
 abbrev pub PlanOf : ℕ → ℕ → List Key → Plan → Type 0
-PlanOf K count keys r = either (goodInput K count keys) (PlanAnswer K (take count keys) r) (r ≡ blank false (key 0 0))
+PlanOf K count keys r = either (goodInput K count keys) (PlanAnswer K (take count keys) r) (r ≡ emptyPlan false (key 0 0))

@@ -11,7 +11,8 @@ use Rattle.lists.specs.Trusted.Tests.{within}
 use Rattle.lists.specs.TestLaws.{Reflects, reflects-le, reflects-map, reflects-and, reflects-all, reflects-within, by-either}
 use Rattle.plan.specs.declared.Key.{Key}
 use Rattle.plan.specs.declared.Plan.{Plan}
-use Rattle.plan.specs.Limits.{leastInputs, mostInputs, leastFanins, mostFanins, mostBelow, mostSteps}
+use Rattle.tree.specs.Trusted.Limits.{fewestFanins, mostFanins}
+use Rattle.plan.specs.Limits.{leastInputs, mostInputs, mostBelow, mostSteps}
 use Rattle.plan.specs.Entries.{FaninKey, GoodKeys}
 use Rattle.plan.specs.PlanOf.{faninTest, goodInput, PlanAnswer, PlanOf}
 
@@ -30,15 +31,15 @@ reflects-good K count keys e =
     (λ h. record { table = h .0; count = rw e (h .1 .0); keys = h .1 .1 })
     (λ g. (g .table, (rw e at (g .count), g .keys)))
     (reflects-and (reflects-within leastInputs mostInputs K)
-    (reflects-and (reflects-within leastFanins mostFanins count) (reflects-all (faninTest K) (reflects-fanin K) (take count keys))))
+    (reflects-and (reflects-within fewestFanins mostFanins count) (reflects-all (faninTest K) (reflects-fanin K) (take count keys))))
 
 -- and then there are as many keys as are counted
 pub good-size : (K count : ℕ) (keys : List Key) → mostFanins ≤ length keys → T (goodInput K count keys) → length (take count keys) ≡ count
 unfolding goodInput
 good-size K count keys l h =
     let p = and-split (within leastInputs mostInputs K) _ h in
-    let q = and-split (within leastFanins mostFanins count) _ (p .1) in
-    length-take-le count keys (omega (arith, (reflects-within leastFanins mostFanins count) .to (q .0)))
+    let q = and-split (within fewestFanins mostFanins count) _ (p .1) in
+    length-take-le count keys (omega (arith, (reflects-within fewestFanins mostFanins count) .to (q .0)))
 
 -- good input has an answer
 pub plan-answer : (K count : ℕ) (keys : List Key) {r : Plan} → length (take count keys) ≡ count → GoodKeys K (take count keys) →

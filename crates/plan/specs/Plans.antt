@@ -13,7 +13,7 @@ use Rattle.plan.specs.declared.Key.{Key}
 use Rattle.plan.specs.declared.Token.{Token}
 use Rattle.plan.specs.declared.Token.the-variants.{Push as push, Join as join}
 use Rattle.plan.specs.Key.{leaf-key, Way}
-use Rattle.cover.specs.Trusted.Placed.{number}
+use Rattle.cover.specs.Trusted.Placed.{rootNumber}
 
 -- ---- what a plan gives: its key
 
@@ -42,9 +42,9 @@ marked m (net n) = net n
 marked m (top x k fs) = top m k fs
 
 -- the fragment, with the mark m, put before the fanins `fs`
-abbrev pub place : ℕ → Fragment → Fanins → Fanins
-place m (drawn q) fs = old (q .0) (marked m (q .1)) fs
-place m (made s) fs = new m s fs
+abbrev pub placeFragment : ℕ → Fragment → Fanins → Fanins
+placeFragment m (drawn q) fs = old (q .0) (marked m (q .1)) fs
+placeFragment m (made s) fs = new m s fs
 
 -- the mark m says what the flag says
 abbrev pub PlanSays : Bool → ℕ → Type 0
@@ -57,14 +57,14 @@ pub data Runs (ds : List (Bool × Cover)) : List Token → List Fragment → Lis
   pushed : {i : ℕ} {p : List Token} {st st′ : List Fragment} →
       Runs ds p (drawn (getD ds i (false, net 0)) ∷ st) st′ → Runs ds (push i ∷ p) st st′
   joined : {l r : Bool} {p : List Token} {x y : Fragment} {st st′ : List Fragment} (m n : ℕ) → PlanSays l m → PlanSays r n →
-      Runs ds p (made (place m x (place n y end)) ∷ st) st′ → Runs ds (join l r ∷ p) (y ∷ x ∷ st) st′
+      Runs ds p (made (placeFragment m x (placeFragment n y end)) ∷ st) st′ → Runs ds (join l r ∷ p) (y ∷ x ∷ st) st′
 
 -- ---- what a run makes
 
 -- a cover of the tree with the key k, its root not placed
 pub record Standing (K : ℕ) (t : Node) (k : Key) (c : Cover) : Type 0 where
   pub splits : SplitOf t c
-  pub free : number c ≡ 0
+  pub free : rootNumber c ≡ 0
   pub fits : Fits c K
   pub small : width c ≤ K
   pub count : tables c ≡ k .below

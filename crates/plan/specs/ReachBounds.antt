@@ -15,7 +15,8 @@ use Rattle.plan.specs.MaskLaws.{select-every}
 use Rattle.plan.specs.Reach.{Reach, one, both, Wide}
 use Rattle.plan.specs.ReachLaws.{reach-wide}
 use Rattle.plan.specs.Entries.{Small, FaninKey, GoodKeys}
-use Rattle.plan.specs.Limits.{mostFanins, mostBelow}
+use Rattle.tree.specs.Trusted.Limits.{mostFanins}
+use Rattle.plan.specs.Limits.{mostBelow}
 
 -- the tables below a fanin, and two for it
 abbrev cost : Key → ℕ

@@ -15,7 +15,7 @@ use Rattle.plan.specs.Key.{leaf-key, _≼_, join}
 use Rattle.plan.specs.KeyLaws.{≼-refl, ≼-trans, better-cases, join-comm, join-mono}
 use Rattle.plan.specs.Reach.{Reach, one, both, LeastReach, Wide}
 use Rattle.plan.specs.ReachLaws.{no-reach, reach-wide}
-use Rattle.plan.specs.Subsets.{SubsetEntries, tip, fork, better-of, join-of, betters, joins, solve, blank, only, entries, full, least-of}
+use Rattle.plan.specs.Subsets.{SubsetEntries, tip, fork, better-of, join-of, betters, joins, solve, noEntries, only, entries, full, least-of}
 
 -- What the entries are: each is the least key that has a property of its part, or there is no such key.
 
@@ -72,13 +72,13 @@ abbrev Only : Key → Property
 Only k [] r = r ≡ k
 Only k (z ∷ zs) r = ⊥
 
-blank-exact : (P : Property) (ks : List Key) → ((zs : List Key) (r : Key) → P zs r → ⊥) → Each (blank ks) P
-blank-exact P [] f = f []
-blank-exact P (k ∷ ks) f = (blank-exact P ks f, blank-exact (plus k P) ks (λ zs. f (k ∷ zs)))
+no-entries-exact : (P : Property) (ks : List Key) → ((zs : List Key) (r : Key) → P zs r → ⊥) → Each (noEntries ks) P
+no-entries-exact P [] f = f []
+no-entries-exact P (k ∷ ks) f = (no-entries-exact P ks f, no-entries-exact (plus k P) ks (λ zs. f (k ∷ zs)))
 
 only-exact : (ks : List Key) (r : Key) → Each (only ks r) (Only r)
 only-exact [] r = (refl, λ s e. rw e (≼-refl r))
-only-exact (k ∷ ks) r = (only-exact ks r, blank-exact (plus k (Only r)) ks (λ zs s b. b))
+only-exact (k ∷ ks) r = (only-exact ks r, no-entries-exact (plus k (Only r)) ks (λ zs s b. b))
 
 full-exact : {ks : List Key} (P : Property) (t : SubsetEntries ks) → Each t P → Exact (P ks) (full t)
 full-exact P (tip a) h = h

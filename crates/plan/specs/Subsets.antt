@@ -36,14 +36,14 @@ abbrev pub solve : {ks : List Key} → ℕ → SubsetEntries ks → SubsetEntrie
 solve K (tip f) h = h
 solve K (fork f g) (fork h l) = let s = solve K f h in fork s (solve K f (betters l (joins K s g)))
 
-abbrev pub blank : (ks : List Key) → SubsetEntries ks
-blank [] = tip none
-blank (k ∷ ks) = let b = blank ks in fork b b
+abbrev pub noEntries : (ks : List Key) → SubsetEntries ks
+noEntries [] = tip none
+noEntries (k ∷ ks) = let b = noEntries ks in fork b b
 
 -- an entry at the empty part, and no other
 abbrev pub only : (ks : List Key) → Key → SubsetEntries ks
 only [] r = tip (some r)
-only (k ∷ ks) r = fork (only ks r) (blank ks)
+only (k ∷ ks) r = fork (only ks r) (noEntries ks)
 
 -- at each part, the least key that it reaches
 abbrev pub entries : ℕ → (ks : List Key) → SubsetEntries ks

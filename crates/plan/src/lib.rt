@@ -5,11 +5,6 @@ pub const LEAST_INPUTS: u8 = 2;
 
 pub const MOST_INPUTS: u8 = 6;
 
-// The fanins of a gate.
-pub const LEAST_FANINS: usize = 2;
-
-pub const MOST_FANINS: usize = 10;
-
 // The most tables below the root of a fanin.
 pub const MOST_BELOW: u16 = 255;
 

@@ -14,7 +14,7 @@ use Rattle.lists.specs.Cases.{by-leb}
 use Rattle.lists.specs.TestLaws.{reflects-true}
 use Rattle.decimal.specs.Trusted.Number.{Number, columns}
 use Rattle.decimal.specs.Trusted.Columns.{fieldOf, signedFieldOf}
-use Rattle.decimal.specs.Reading.{numberOf}
+use Rattle.decimal.specs.Reading.{numberOfInt}
 use Rattle.decimal.specs.Writing as writing
 use Rattle.decimal.specs.WritingLaws.{signed-written-at}
 use Rattle.decimal.proofs.SignLaws.{minus-bits, negated-fits}
@@ -73,9 +73,9 @@ byte-fits n h = record { sfits = omega arith }
 pub minus-held : (n : ℕ) → n < 256 → SFits w32 (pos 0 -ℤ toZ w32 n)
 minus-held n h = rw (minus-bits n (byte-fits n h)) (negated-fits n (byte-fits n h))
 
-pub minus-number : (n : ℕ) → 0 < n → n < 256 → numberOf (toZ w32 (ofZ w32 (pos 0 -ℤ toZ w32 n))) ≡ minus n
+pub minus-number : (n : ℕ) → 0 < n → n < 256 → numberOfInt (toZ w32 (ofZ w32 (pos 0 -ℤ toZ w32 n))) ≡ minus n
 minus-number zero s h = absurd (omega arith)
-minus-number (suc n) s h = rw (minus-bits (suc n) (byte-fits (suc n) h)) (ap numberOf (toZ-ofZ (negated-fits (suc n) (byte-fits (suc n) h))))
+minus-number (suc n) s h = rw (minus-bits (suc n) (byte-fits (suc n) h)) (ap numberOfInt (toZ-ofZ (negated-fits (suc n) (byte-fits (suc n) h))))
 
 module _ (old : List ℕ) (number sheet place : ℕ) where
   pub refusal-out : length old < 19 → turnedDown 14 old ≡ fitted old 0 (refusalLine number sheet place)

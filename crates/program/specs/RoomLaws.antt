@@ -9,7 +9,7 @@ use borrow.Author.Tests.{le-leb}
 use Rattle.part.specs.Trusted.Parts.{Shaped}
 use Rattle.part.specs.Trusted.Sound.{Sound}
 use Rattle.part.specs.Trusted.Answers.{Answer, accepted, refused}
-use Rattle.demands.specs.AddLaws.{kept, outcome}
+use Rattle.demands.specs.AddLaws.{kept, add-case}
 use Rattle.part.specs.declared.Part.{Part}
 use Rattle.list_line.specs.Trusted.Writes as writes
 use Rattle.listing.specs.Lines.{longest}
@@ -33,7 +33,7 @@ mapped-short : {p : Part} {n : ℕ} {text out : List ℕ} → Shaped p → Sound
 mapped-short {p} f h ended = list-short p h
 mapped-short f h (stopped q number place l a) = refusal-short
 mapped-short {p} f h (added q l a m) =
-    let k = kept p f (outcome p _ q accepted a) in
+    let k = kept p f (add-case p _ q accepted a) in
     mapped-short (k .shaped) (k .sound h) m
 
 after-short : (p : Part) (a : Answer) → (a ≡ accepted → Shaped p × Sound p) → (text out : List ℕ) → After (record { part = p; answer = a }) text out → length out ≤ longest

@@ -15,7 +15,7 @@ use Rattle.part.specs.Trusted.Parts.{Shaped}
 use Rattle.part.specs.Trusted.Sound.{Sound}
 use Rattle.part.specs.Trusted.Answers.{Answer, accepted, refused, Result}
 use Rattle.part.specs.Trusted.Add.{opened, Add}
-use Rattle.demands.specs.AddLaws.{kept, outcome, opened-shaped, opened-sound, not-refused}
+use Rattle.demands.specs.AddLaws.{kept, add-case, opened-shaped, opened-sound, not-refused}
 use Rattle.demands.specs.Trusted.Calls.{Call, add, final, Chain, done, call}
 use Rattle.demands.specs.CountLaws.{call-kept}
 use Rattle.listing.specs.Trusted.Listing.{listOf}
@@ -41,7 +41,7 @@ add-alike p q f g l text r t h i =
     (cc, x .1)
 
 add-shaped : (p : Part) → Shaped p → (text : List ℕ) (r : Result) → Add p text (r .part) (r .answer) → Shaped (r .part)
-add-shaped p f text r h = kept p f (outcome p text (r .part) (r .answer) h) .shaped
+add-shaped p f text r h = kept p f (add-case p text (r .part) (r .answer) h) .shaped
 
 -- the calls, the answers and the used counts are the same
 record Agree (p q : Part) (cs ds : List Call) (rs ts : List Result) : Type 0 where

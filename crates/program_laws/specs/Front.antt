@@ -1,5 +1,5 @@
 -- How many bytes of an input decide what is printed for it. Internal definitions: the law is `front-decides` in FrontLaws.
 use Prim.Native.Nat.{ℕ}
 
-unfoldable pub room : ℕ
-room = 131072
+unfoldable pub frontBytes : ℕ
+frontBytes = 131072

@@ -1,4 +1,4 @@
--- What the program prints is decided by the first `room` bytes of its input: an accepted sheet has at most 138 bytes for each of its tables,
+-- What the program prints is decided by the first `frontBytes` bytes of its input: an accepted sheet has at most 138 bytes for each of its tables,
 -- of which a part has at most 800, and what comes of the next sheet is decided by as many bytes as 256 lines may have.
 use Prim.Native.Nat.{ℕ, suc, _+_, _-_, _*_, _≤_}
 use native.Mathlib.Omega.{arith}
@@ -24,7 +24,7 @@ use Rattle.part.specs.Trusted.Sound.{Sound}
 use Rattle.part.specs.Trusted.Answers.{Answer, accepted, refused, Result}
 use Rattle.part.specs.Trusted.Add.{Add}
 use Rattle.part.specs.Trusted.Reading.{readOf}
-use Rattle.demands.specs.AddLaws.{kept, outcome}
+use Rattle.demands.specs.AddLaws.{kept, add-case}
 use Rattle.demands.specs.Trusted.Calls.{add, call, done, here}
 use Rattle.demands.specs.Theorems.{demand-3}
 use Rattle.demands.specs.ReadingLaws.{drawn-back}
@@ -34,7 +34,7 @@ use Rattle.sheets.specs.Trusted.Sheets.{SheetsPrint, ended, stopped, added}
 use Rattle.program.specs.Trusted.Program.{After, Prints}
 use Rattle.sheets.specs.SheetsLaws.{grown}
 use Rattle.program.specs.ProgramLaws.{opened-good}
-use Rattle.program_laws.specs.Front.{room}
+use Rattle.program_laws.specs.Front.{frontBytes}
 
 -- the most bytes of an accepted sheet for each of its tables
 abbrev tableBytes : ℕ
@@ -81,7 +81,7 @@ module _ (more : List ℕ) where
       stopped {text = text ++ more} q number place (omega (arith, length-append text more)) (add-read p (sheetText text .0) (sheetText (text ++ more) .0) q _ (front-read text more long) a)
   mapped-front {p} {n} {text} {out} shape sound l (added q h a m) =
       let t = took p shape sound (sheetText text .0) q a in
-      let g = kept p shape (outcome p (sheetText text .0) q accepted a) in
+      let g = kept p shape (add-case p (sheetText text .0) q accepted a) in
       let e = front-rest text more (t .sheet) (t .read) in
       added {text = text ++ more} q (omega (arith, length-append text more))
       (subst (λ (r : List ℕ × List ℕ). Add p (r .0) q accepted) (sym e) a)
@@ -103,19 +103,19 @@ module _ (more : List ℕ) where
 -- ---- the whole input
 
 -- the opening line, all tables of a part, and the sheet after them
-room-enough : 13 + enough ≤ room
-unfolding room
-room-enough = omega arith
+front-enough : 13 + enough ≤ frontBytes
+unfolding frontBytes
+front-enough = omega arith
 
 -- THE FIRST BYTES OF AN INPUT DECIDE WHAT IS PRINTED FOR IT
-pub front-decides : (input out : List ℕ) → Prints (take room input) out → Prints input out
+pub front-decides : (input out : List ℕ) → Prints (take frontBytes input) out → Prints input out
 front-decides input out h =
-    by-leb (λ b. Prints input out) (length input) room
-    (λ l. subst (λ t. Prints t out) (take-all room input l) h)
-    (λ l. subst (λ t. Prints t out) (take-append-drop room input) (on (take room input) (drop room input) (length-take-le room input (omega arith)) h))
+    by-leb (λ b. Prints input out) (length input) frontBytes
+    (λ l. subst (λ t. Prints t out) (take-all frontBytes input l) h)
+    (λ l. subst (λ t. Prints t out) (take-append-drop frontBytes input) (on (take frontBytes input) (drop frontBytes input) (length-take-le frontBytes input (omega arith)) h))
   where
-    on : (text more : List ℕ) → length text ≡ room → Prints text out → Prints (text ++ more) out
+    on : (text more : List ℕ) → length text ≡ frontBytes → Prints text out → Prints (text ++ more) out
     on text more l h =
-        rw (opening-front more text (omega (arith, room-enough)), drop-append-le 13 text more (omega (arith, room-enough)))
+        rw (opening-front more text (omega (arith, front-enough)), drop-append-le 13 text more (omega (arith, front-enough)))
         (let r = openedBy (openingNumbers text) in
-        after-front more (r .part) (r .answer) (opened-good (openingNumbers text)) (drop 13 text) out (omega (arith, room-enough, length-drop 13 text)) h)
+        after-front more (r .part) (r .answer) (opened-good (openingNumbers text)) (drop 13 text) out (omega (arith, front-enough, length-drop 13 text)) h)

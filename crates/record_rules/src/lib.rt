@@ -3,7 +3,7 @@ ghost use mathlib.Core.Path.{_≡_};
 ghost use mathlib.Core.Bool.{true, false};
 ghost use Prim.Native.Nat.{_^_};
 ghost use lib.Dec.{ltb};
-ghost use Rattle.table.specs.Trusted.RecordTest.{padded as isPadded, coded as isCoded, sized as isSized, isBlank};
+ghost use Rattle.table.specs.Trusted.RecordTest.{isPadded, isCoded, isSized, isBlank};
 use table::Table;
 use table::in_use;
 use table_inputs::GREATEST_NET;

@@ -8,13 +8,13 @@ use Rattle.bytes.specs.Bytes.{indexOf}
 use Rattle.refusals.specs.Trusted.Sentences.{Entry, _means_, bytesOf}
 
 -- the text after its first n lines
-abbrev pub after : ℕ → List ℕ → List ℕ
-after n [] = []
-after n (b ∷ bs) = cond (eqb n 0) (b ∷ bs) (after (cond (eqb b 10) (n - 1) n) bs)
+abbrev pub afterLines : ℕ → List ℕ → List ℕ
+afterLines n [] = []
+afterLines n (b ∷ bs) = cond (eqb n 0) (b ∷ bs) (afterLines (cond (eqb b 10) (n - 1) n) bs)
 
 -- the line after the first n, without its line feed
-abbrev pub line : ℕ → List ℕ → List ℕ
-line n text = take (indexOf 10 (after n text)) (after n text)
+abbrev pub textLine : ℕ → List ℕ → List ℕ
+textLine n text = take (indexOf 10 (afterLines n text)) (afterLines n text)
 
 -- the sentences of entries as the lines of their numbers, from line k on; a line before the next number is empty
 abbrev pub textFrom : ℕ → List Entry → List ℕ

@@ -3,7 +3,7 @@ ghost use mathlib.Core.Path.{_≡_};
 ghost use Prim.Native.Nat.{_≤_};
 ghost use lib.ListN.{length, drop};
 ghost use Rattle.refusals.specs.Trusted.Sentences.{refusalText, frontWrite};
-ghost use Rattle.refusals.specs.Lines.{after, line};
+ghost use Rattle.refusals.specs.Lines.{afterLines, textLine};
 
 // Writes a text to the front of the buffer and gives its length; 0, with the buffer as it was, where it does not fit.
 fn put(text: &[u8], out: &mut [u8]) -> usize
@@ -17,7 +17,7 @@ fn put(text: &[u8], out: &mut [u8]) -> usize
 
 // Where the line of a number starts in a text whose lines are counted from 0; the text's end, where it has no such line.
 fn line_start(text: &[u8], number: u32) -> usize
-    ensures { λ r. ⌜ (r ≤ length (now (text .entry))) × (drop r (now (text .entry)) ≡ after number (now (text .entry))) ⌝ }
+    ensures { λ r. ⌜ (r ≤ length (now (text .entry))) × (drop r (now (text .entry)) ≡ afterLines number (now (text .entry))) ⌝ }
 {
     let mut left = number;
     let mut i = 0;
@@ -35,7 +35,7 @@ fn line_start(text: &[u8], number: u32) -> usize
 
 // Writes the line of a number to the front of the buffer, as `put` does.
 fn put_line(text: &[u8], number: u32, out: &mut [u8]) -> usize
-    ensures { λ r. ⌜ record { count = r; bytes = now (out .exit) } ≡ frontWrite (line number (now (text .entry))) (now (out .entry)) ⌝ }
+    ensures { λ r. ⌜ record { count = r; bytes = now (out .exit) } ≡ frontWrite (textLine number (now (text .entry))) (now (out .entry)) ⌝ }
 {
     let start = line_start(text, number);
     let end = bytes::scan::find(text, start, text.len(), b'\n');

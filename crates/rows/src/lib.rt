@@ -5,7 +5,7 @@ ghost use lib.ListN.{length, take, getD};
 ghost use Rattle.tree.specs.Trusted.Tree.{turned, meet as meetOf};
 ghost use Rattle.cover.specs.Trusted.Bits.{bit as bitOf, digit as digitOf, place as placeOf};
 ghost use Rattle.table.specs.Trusted.Limits.{inputRoom};
-ghost use Rattle.pending.specs.Merging.{padded, columnsOf, valueAt, Rows, Words, MergeRoom, Filled};
+ghost use Rattle.pending.specs.Merging.{padded, columnsOf, rowValue, Rows, Words, MergeRoom, Filled};
 use tree::Kind;
 
 // For each place of an input the rows' bits there. No row has a bit at 6.
@@ -105,7 +105,7 @@ fn fold(words: &mut [u64; 32], size: usize, column: u64)
 // The values of a table in the rows, by the columns of its first n inputs.
 fn spread(truth: u64, columns: &[u64; 6], n: usize) -> u64
     requires { ⌜ Filled n (now columns) ⌝ }
-    ensures { λ r. ⌜ Rows (valueAt truth (take n (now (columns .entry)))) r ⌝ }
+    ensures { λ r. ⌜ Rows (rowValue truth (take n (now (columns .entry)))) r ⌝ }
 {
     let mut words = [0u64; 32];
     pairs(&mut words, ((1usize << n) + 1) / 2, truth, columns[0]);
@@ -126,7 +126,7 @@ pub fn values<'a>(
     count: usize,
 ) -> u64
     requires { ⌜ MergeRoom n (now codes) × MergeRoom count (now inputs) ⌝ }
-    ensures { λ r. ⌜ Rows (valueAt truth (columnsOf (take n (now (codes .entry))) (take count (now (inputs .entry))))) r ⌝ }
+    ensures { λ r. ⌜ Rows (rowValue truth (columnsOf (take n (now (codes .entry))) (take count (now (inputs .entry))))) r ⌝ }
 {
     let cs = columns(codes, n, inputs, count);
     spread(truth, &cs, n)

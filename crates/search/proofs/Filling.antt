@@ -14,7 +14,8 @@ use Rattle.lists.specs.Trusted.Lists.{sum}
 use Rattle.lists.specs.ListLaws.{every-at}
 use Rattle.lists.specs.NumberLaws.{sum-mix}
 use Rattle.plan.specs.declared.Key.{Key}
-use Rattle.plan.specs.Limits.{masks, mostFanins}
+use Rattle.tree.specs.Trusted.Limits.{mostFanins}
+use Rattle.plan.specs.Limits.{masks}
 use Rattle.plan.specs.Key.{leaf-key}
 use Rattle.plan.specs.Entries.{BestJoin, Entered, Entries, Volumes, Joined, Split, GoodKeys}
 use Rattle.plan.specs.EntryLaws.{entries-more, entries-small, entered-one, entered-join, volumes-more, volumes-few, volume-one, join-bound}

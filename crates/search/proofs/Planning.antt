@@ -11,7 +11,8 @@ use Rattle.lists.specs.Trusted.Lists.{upto}
 use Rattle.lists.specs.NumberLaws.{upto-length}
 use Rattle.plan.specs.declared.Key.{Key}
 use Rattle.plan.specs.declared.Plan.{Plan}
-use Rattle.plan.specs.Limits.{masks, mostFanins}
+use Rattle.tree.specs.Trusted.Limits.{mostFanins}
+use Rattle.plan.specs.Limits.{masks}
 use Rattle.plan.specs.Key.{key}
 use Rattle.plan.specs.Masks.{select}
 use Rattle.plan.specs.MaskLaws.{select-all}
@@ -21,7 +22,7 @@ use Rattle.plan.specs.PlanBounds.{planned-length}
 use Rattle.plan.specs.Entries.{entry, Entries, GoodKeys}
 use Rattle.plan.specs.Steps.{Writable, Writes}
 use Rattle.plan.specs.PlanOfLaws.{reflects-good, good-size}
-use Rattle.plan.specs.PlanOf.{goodInput, blank, PlanAnswer, PlanOf}
+use Rattle.plan.specs.PlanOf.{goodInput, emptyPlan, PlanAnswer, PlanOf}
 
 module _ {K : ℕ} {ks : List Key} (good : GoodKeys K ks) {n : ℕ} (size : n ≡ 2 ^ length ks) where
   pub whole-place : (0 < n - 1) × (n - 1 < masks)
@@ -42,7 +43,7 @@ module _ {K : ℕ} {ks : List Key} (good : GoodKeys K ks) {n : ℕ} (size : n �
     whole-entries : Entries K ks bs ws us (n - 1 + 1)
     whole-entries = let e : n - 1 + 1 ≡ n = omega (arith, whole-place) in rw e es
 
-    pub whole-writable : (a : Key) → Writable K bs ws us (n - 1) (blank true a)
+    pub whole-writable : (a : Key) → Writable K bs ws us (n - 1) (emptyPlan true a)
     whole-writable a =
         let p = whole-place in record {
           keys = ks;
@@ -54,7 +55,7 @@ module _ {K : ℕ} {ks : List Key} (good : GoodKeys K ks) {n : ℕ} (size : n �
           room = rw whole-bits (omega (arith, upto-length (length ks), good .count .1));
         }
 
-    pub whole-answer : {a : Key} {r : Plan} → a ≡ entry bs ws (n - 1) → Writes K bs ws us (n - 1) (blank true a) r → PlanAnswer K ks r
+    pub whole-answer : {a : Key} {r : Plan} → a ≡ entry bs ws (n - 1) → Writes K bs ws us (n - 1) (emptyPlan true a) r → PlanAnswer K ks r
     whole-answer {a} {r} e w =
         let p = whole-place in
         let x = w ks whole-entries in
@@ -77,7 +78,7 @@ plan-keys K count keys l e =
     (s, (reflects-good K count keys s) .to t)
 
 -- the promise, by the test's result
-pub plan-refused : (K count : ℕ) (keys : List Key) {r : Plan} → goodInput K count keys ≡ false → r ≡ blank false (key 0 0) →
+pub plan-refused : (K count : ℕ) (keys : List Key) {r : Plan} → goodInput K count keys ≡ false → r ≡ emptyPlan false (key 0 0) →
     PlanOf K count keys r
 plan-refused K count keys e h = rw e h
 

@@ -17,7 +17,7 @@ use Rattle.plan.specs.Volume.{volume}
 use Rattle.plan.specs.VolumeLaws.{volume-first}
 
 -- the key `a`, made by w, is no worse than the join by any submask above u, which is the next to be tried
-pub record Passed (K : ℕ) (bs ws : List ℕ) (top r : ℕ) (a : Key) (w u : ℕ) : Type 0 where
+pub record Tried (K : ℕ) (bs ws : List ℕ) (top r : ℕ) (a : Key) (w u : ℕ) : Type 0 where
   pub made : Made K bs ws top r a w
   pub at : MaskWithin u r
   pub here : u ≤ r
@@ -50,8 +50,8 @@ module _ (K : ℕ) (bs ws : List ℕ) (top r : ℕ) where
       let e : v ≡ u = omega arith in
       rw e here
 
-  pub passed-first : 0 < r → (a : Key) → a ≡ by r → Passed K bs ws top r a r (bitAnd (r - 1) r)
-  passed-first p a e = record {
+  pub tried-first : 0 < r → (a : Key) → a ≡ by r → Tried K bs ws top r a r (bitAnd (r - 1) r)
+  tried-first p a e = record {
     made = record { some = p; part = and-self r; is = e };
     at = next-within r r;
     here = within-le _ r (next-within r r);
@@ -59,8 +59,8 @@ module _ (K : ℕ) (bs ws : List ℕ) (top r : ℕ) where
   }
 
   -- the best so far stays
-  pub passed-stay : {a : Key} {w u : ℕ} → Passed K bs ws top r a w u → a ≼ by u → Passed K bs ws top r a w (bitAnd (u - 1) r)
-  passed-stay {a} {w} {u} p l = record {
+  pub tried-stay : {a : Key} {w u : ℕ} → Tried K bs ws top r a w u → a ≼ by u → Tried K bs ws top r a w (bitAnd (u - 1) r)
+  tried-stay {a} {w} {u} p l = record {
     made = p .made;
     at = next-within u r;
     here = within-le _ r (next-within u r);
@@ -68,9 +68,9 @@ module _ (K : ℕ) (bs ws : List ℕ) (top r : ℕ) where
   }
 
   -- or the join by u takes its place
-  pub passed-take : {a : Key} {w u : ℕ} (b : Key) → Passed K bs ws top r a w u → 0 < u → b ≡ by u → b ≼ a →
-      Passed K bs ws top r b u (bitAnd (u - 1) r)
-  passed-take {u = u} b p s e l = record {
+  pub tried-take : {a : Key} {w u : ℕ} (b : Key) → Tried K bs ws top r a w u → 0 < u → b ≡ by u → b ≼ a →
+      Tried K bs ws top r b u (bitAnd (u - 1) r)
+  tried-take {u = u} b p s e l = record {
     made = record { some = s; part = p .at; is = e };
     at = next-within u r;
     here = within-le _ r (next-within u r);
@@ -89,8 +89,8 @@ module _ (K : ℕ) (bs ws : List ℕ) (top r : ℕ) where
       })
 
   -- no submask is left
-  pub passed-last : {a : Key} {w u : ℕ} → Passed K bs ws top r a w u → u ≡ 0 → BestJoin K bs ws top r a w
-  passed-last p z = record { made = p .made; low = λ v h. p .low v (omega arith) }
+  pub tried-last : {a : Key} {w u : ℕ} → Tried K bs ws top r a w u → u ≡ 0 → BestJoin K bs ws top r a w
+  tried-last p z = record { made = p .made; low = λ v h. p .low v (omega arith) }
 
   -- or the bound is met: no join has a lesser volume, so none is better
   pub made-least : {least : ℕ} {a : Key} {w : ℕ} → Split K top r least bs ws → Made K bs ws top r a w → volume K a ≡ least →

@@ -19,7 +19,8 @@ use Rattle.plan.specs.declared.Key.{Key}
 use Rattle.plan.specs.declared.Token.{Token}
 use Rattle.plan.specs.declared.Token.the-variants.{Push as push, Join as join}
 use Rattle.plan.specs.declared.Plan.{Plan}
-use Rattle.plan.specs.Limits.{mostFanins, mostSteps}
+use Rattle.tree.specs.Trusted.Limits.{mostFanins}
+use Rattle.plan.specs.Limits.{mostSteps}
 use Rattle.plan.specs.Key.{leaf-key, cuts, Way}
 use Rattle.plan.specs.KeyLaws.{join-way}
 use Rattle.plan.specs.Masks.{select, MaskWithin}
@@ -31,8 +32,8 @@ use Rattle.plan.specs.EntryLaws.{entries-small}
 use Rattle.plan.specs.Steps.{tokens, stepped, joinToken, Took, Writable, StepsWritten, Writes}
 
 -- how many of the at most ten fanins a mask has
-abbrev pub fanins : ℕ → ℕ
-fanins s = length (select s (upto mostFanins))
+abbrev pub faninCount : ℕ → ℕ
+faninCount s = length (select s (upto mostFanins))
 
 -- the fanins of a mask are those of a submask and of the rest
 parts-length : {A : Type 0} (xs : List A) (u s : ℕ) → MaskWithin u s →
@@ -112,13 +113,13 @@ module _ {K : ℕ} {bs ws us : List ℕ} {s : ℕ} {p : Plan} (w : Writable K bs
     some : 0 < u
     some = by-cases (decLt 0 u) (λ l. l) (λ l. absurd (n (omega arith)))
 
-    pub part : MaskWithin u s × (u < s) × (0 < u)
-    part = let a = own (w .entries) .apart some in (a .0, a .1, some)
+    pub proper-part : MaskWithin u s × (u < s) × (0 < u)
+    proper-part = let a = own (w .entries) .apart some in (a .0, a .1, some)
 
     -- each part has fewer fanins than the mask
-    pub fewer : (fanins (s - u) < fanins s) × (fanins u < fanins s)
+    pub fewer : (faninCount (s - u) < faninCount s) × (faninCount u < faninCount s)
     fewer =
-        let p = part in
+        let p = proper-part in
         let l = p .1 in
         let h = w .place in
         let e = parts-length (upto mostFanins) u s (p .0) in
@@ -132,18 +133,18 @@ module _ {K : ℕ} {bs ws us : List ℕ} {s : ℕ} {p : Plan} (w : Writable K bs
 
     shared : bits s ≡ bits (s - u) + bits u
     unfolding bits
-    shared = parts-length (upto (length (w .keys))) u s (part .0)
+    shared = parts-length (upto (length (w .keys))) u s (proper-part .0)
 
     rest-entries : {ks : List Key} → Entries K ks bs ws us (s + 1) → Entries K ks bs ws us (s - u + 1)
     rest-entries = entries-below (omega arith)
 
     part-entries : {ks : List Key} → Entries K ks bs ws us (s + 1) → Entries K ks bs ws us (u + 1)
-    part-entries = let l = part .1 in entries-below (omega arith)
+    part-entries = let l = proper-part .1 in entries-below (omega arith)
 
     pub first-writable : Writable K bs ws us (s - u) p
     unfolding bits
     first-writable =
-        let l = part .1 in record {
+        let l = proper-part .1 in record {
           keys = w .keys;
           good = w .good;
           entries = rest-entries (w .entries);
@@ -160,7 +161,7 @@ module _ {K : ℕ} {bs ws us : List ℕ} {s : ℕ} {p : Plan} (w : Writable K bs
       pub second-writable : Writable K bs ws us u q
       unfolding bits
       second-writable =
-          let l = part .1 in record {
+          let l = proper-part .1 in record {
             keys = w .keys;
             good = w .good;
             entries = part-entries (w .entries);
@@ -183,7 +184,7 @@ module _ {K : ℕ} {bs ws us : List ℕ} {s : ℕ} {p : Plan} (w : Writable K bs
 
         pub join-able : JoinableAt K bs ws (s - u) u × (r .len < mostSteps)
         join-able =
-            let l = part .1 in
+            let l = proper-part .1 in
             let h = w .place in
             let m = entries-small (w .good) (w .entries) in (
               record {

@@ -5,8 +5,9 @@ ghost use Prim.Native.Nat.{_≤_, _<_, _^_};
 ghost use lib.ListN.{take};
 ghost use Rattle.plan.specs.Key.{join as joinOf};
 ghost use Rattle.lists.specs.Trusted.Tests.{all};
-ghost use Rattle.plan.specs.Limits.{mostFanins, masks, mostSteps};
-ghost use Rattle.plan.specs.PlanOf.{faninTest, goodInput, blank as blankOf, PlanOf};
+ghost use Rattle.tree.specs.Trusted.Limits.{mostFanins};
+ghost use Rattle.plan.specs.Limits.{masks, mostSteps};
+ghost use Rattle.plan.specs.PlanOf.{faninTest, goodInput, emptyPlan, PlanOf};
 ghost use Rattle.plan.specs.Steps.{stepped, joinToken, Took, Writable, Writes};
 ghost use Rattle.plan.specs.Entries.{Joinable, JoinableAt, Split, BestJoin, Fillable, Entries, OneBit, entry};
 use keys::cuts_of;
@@ -14,16 +15,16 @@ use keys::join;
 use keys::precedes;
 use keys::volume;
 use plan::Key;
-use plan::LEAST_FANINS;
 use plan::LEAST_INPUTS;
 use plan::MASKS;
 use plan::MOST_BELOW;
-use plan::MOST_FANINS;
 use plan::MOST_INPUTS;
 use plan::MOST_STEPS;
 use plan::Plan;
 use plan::PlanStep;
 use plan::Token;
+use tree::FEWEST_FANINS;
+use tree::MOST_FANINS;
 
 // The token of that join.
 fn join_token(k: u8, a: Key, b: Key) -> Token
@@ -256,7 +257,7 @@ fn is_good(k: u8, count: u8, keys: [Key; MOST_FANINS]) -> bool
         return false;
     }
     let n = count as usize;
-    if n < LEAST_FANINS {
+    if n < FEWEST_FANINS {
         return false;
     }
     if MOST_FANINS < n {
@@ -267,7 +268,7 @@ fn is_good(k: u8, count: u8, keys: [Key; MOST_FANINS]) -> bool
 
 // A plan of no steps.
 fn blank(ok: bool, key: Key) -> Plan
-    ensures { λ r. ⌜ r ≡ blankOf ok key ⌝ }
+    ensures { λ r. ⌜ r ≡ emptyPlan ok key ⌝ }
 {
     let step = PlanStep {
         token: Token::Push(0),

@@ -13,7 +13,7 @@ use Rattle.sheet.specs.Trusted.Line.{after, line}
 use Rattle.sheet.specs.Trusted.Sheet.{DrawnGate, DrawnSheet, sheet, from}
 use Rattle.sheet.specs.Trusted.Step.{Step, good, bad, _>>=_, require, given}
 use Rattle.sheet.specs.StepLaws.{Meets, on, off, meets-any, meets-self, meets-bind, meets-require, meets-given}
-use Rattle.sheet.specs.Trusted.Read.{empty, Head, Seen, nothing, readHead, readGate, readLeft, readUnread, readAll, reading, readSheet}
+use Rattle.sheet.specs.Trusted.Read.{isEmpty, Head, Seen, nothing, readHead, readGate, readLeft, readUnread, readAll, reading, readSheet}
 use Rattle.sheet.specs.Trusted.Cut.{lines, gatesOf, sheetText, readNext}
 
 -- ---- a line
@@ -140,7 +140,7 @@ abbrev pub withRest : Head → Step Gates → Step (DrawnSheet × List ℕ)
 withRest h f = f >>= λ r. readUnread (from 1 (h .count - 1)) (r .1 .gates) >>= λ _. good (sheetOf h (r .0), r .2)
 
 abbrev withNone : Head → Step Gates → Step DrawnSheet
-withNone h k = k >>= λ r. require (empty (r .2)) 1 (h .count + 2) >>= λ _. readUnread (from 1 (h .count - 1)) (r .1 .gates) >>= λ _. good (sheetOf h (r .0))
+withNone h k = k >>= λ r. require (isEmpty (r .2)) 1 (h .count + 2) >>= λ _. readUnread (from 1 (h .count - 1)) (r .1 .gates) >>= λ _. good (sheetOf h (r .0))
 
 pub next-none : (text : List ℕ) → line text ≡ none → (readNext text ≡ bad 1 1) × (readAll text ≡ bad 1 1)
 unfolding _>>=_ given
@@ -253,7 +253,7 @@ left-on out (suc n) g seen text =
     lines-some n (text ++ rest) (p .0, p .1 ++ rest) (line-on text p rest e)
     ∙ (ap (λ (x : List ℕ × List ℕ). (p .0 ++ (10 ∷ x .0), x .1)) (f z rest) ∙ ap (λ l. (l, rest)) (sym (line-cut text p e .whole)))))))
 
-pub empty-is : {A : Type 0} (xs : List A) → T (empty xs) → xs ≡ []
+pub empty-is : {A : Type 0} (xs : List A) → T (isEmpty xs) → xs ≡ []
 empty-is [] t = refl
 empty-is (x ∷ xs) t = absurd t
 

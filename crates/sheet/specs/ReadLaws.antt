@@ -12,9 +12,9 @@ use Rattle.lists.specs.ListLaws.{every-none, every-cons, every-head, every-appe
 use Rattle.lists.specs.Cases.{and-split}
 use Rattle.lists.specs.Trusted.Tests.{within}
 use Rattle.lists.specs.TestLaws.{reflects-elem, reflects-within}
-use Rattle.tree.specs.Trusted.Limits.{greatestNet}
+use Rattle.tree.specs.Trusted.Limits.{greatestNet, fewestFanins, mostFanins}
 use Rattle.decimal.specs.Trusted.Number.{Number}
-use Rattle.sheet.specs.Trusted.Limits.{gateBase, mostGates, fewestFanins, mostFanins, mostLeaves}
+use Rattle.sheet.specs.Trusted.Limits.{gateBase, mostGates, mostLeaves}
 use Rattle.sheet.specs.Trusted.Line.{fields}
 use Rattle.sheet.specs.declared.Source.{Source}
 use Rattle.sheet.specs.declared.Source.the-variants.{Net as net, Gate as gate}

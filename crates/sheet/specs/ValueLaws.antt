@@ -36,9 +36,9 @@ module _ (σ : ℕ → Bool) where
       ∙ gates-values (ts ++ (t ∷ [])) gs
 
   -- THE ROOT'S VALUE IS THE TREE'S
-  pub root-value : (s : DrawnSheet) → rootValue s σ ≡ value (treeOf s) σ
-  root-value s =
+  pub drawn-root-value : (s : DrawnSheet) → rootValue s σ ≡ value (treeOf s) σ
+  drawn-root-value s =
       ap (λ vs. valueAt σ vs (length (s .gates))) (gates-values [] (s .gates)) ∙ at-value (treesOf [] (s .gates)) (length (s .gates))
 
   pub sheet-value : (s : DrawnSheet) → sheetValue s σ ≡ turned (s .inverted) (value (treeOf s) σ)
-  sheet-value s = ap (turned (s .inverted)) (root-value s)
+  sheet-value s = ap (turned (s .inverted)) (drawn-root-value s)

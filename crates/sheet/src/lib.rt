@@ -3,12 +3,8 @@ ghost use mathlib.Core.Path.{_≡_};
 ghost use Rattle.sheet.specs.Trusted.Answers.{numberOf};
 use tree::Kind;
 
-// The most gates of a sheet, and the fewest and the most fanins of a gate.
+// The most gates of a sheet.
 pub const MOST_GATES: usize = 255;
-
-pub const FEWEST_FANINS: usize = 2;
-
-pub const MOST_FANINS: usize = 10;
 
 // The most leaves of a sheet.
 pub const MOST_LEAVES: u16 = 256;

@@ -20,7 +20,7 @@ use Rattle.sheet.specs.Trusted.Sheet.{netOf}
 use Rattle.sheet.specs.Trusted.Step.{good, bad, _>>=_, require, given}
 use Rattle.sheet.specs.Trusted.Read.{Seen, nothing, sourceOf, readFanin}
 use Rattle.sheet.specs.ReadLaws.{source-named}
-use Rattle.sheet_line.specs.Inside.{Flagged, codes, Marked, saw}
+use Rattle.sheet_line.specs.Inside.{Flagged, flagCount, Marked, saw}
 
 -- ---- what comes of a fanin
 
@@ -92,16 +92,16 @@ flag-out : (base size : ℕ) (flags : List Bool) (xs : List ℕ) (i : ℕ) → (
     Flagged base size (set flags i true) xs
 flag-out base size flags xs i d h n k = getD-set-other flags i (base + n) true false (d n k) ∙ h n k
 
-pub marked-start : Marked (replicate codes false) 0 nothing
+pub marked-start : Marked (replicate flagCount false) 0 nothing
 marked-start = record {
-  whole = length-replicate codes false;
-  nets = λ n l. getD-replicate codes (0 + n) false false (omega arith);
-  gates = λ n l. getD-replicate codes (gateBase + n) false false (omega arith);
+  whole = length-replicate flagCount false;
+  nets = λ n l. getD-replicate flagCount (0 + n) false false (omega arith);
+  gates = λ n l. getD-replicate flagCount (gateBase + n) false false (omega arith);
   count = refl;
 }
 
 module _ (g n : ℕ) (few : g ≤ mostGates) where
-  pub code-below : (s : Source) → sourceOf g n ≡ some s → n < codes
+  pub code-below : (s : Source) → sourceOf g n ≡ some s → n < flagCount
   code-below (net m) e =
       let h = source-named g n (net m) e in
       let k = every-head (h .is-net) in

@@ -9,10 +9,10 @@ use lib.Dec.{eqb}
 use lib.ListN.{length, take, drop}
 use lib.Seq.{take-nil}
 use Rattle.tree.specs.declared.Kind.{Kind}
+use Rattle.tree.specs.Trusted.Limits.{fewestFanins, mostFanins}
 use Rattle.decimal.specs.Trusted.Number.{Number}
 use Rattle.sheet_line.specs.declared.FieldValue.{FieldValue}
 use Rattle.sheet_line.specs.declared.Fields.{Fields}
-use Rattle.sheet.specs.Trusted.Limits.{fewestFanins, mostFanins}
 use Rattle.sheet.specs.Trusted.Line.{line, fields}
 use Rattle.sheet.specs.Trusted.Step.{good, bad, _>>=_, require, given}
 use Rattle.sheet.specs.Trusted.Read.{counts, kindOf, gateHeadOf}

@@ -15,7 +15,7 @@ use Rattle.sheet_line.specs.declared.Fields.{Fields}
 use Rattle.sheet.specs.Trusted.Limits.{mostGates}
 use Rattle.sheet.specs.Trusted.Step.{good, bad, _>>=_, require, given}
 use Rattle.sheet.specs.Trusted.Read.{counts, headOf}
-use Rattle.sheet_line.specs.Inside.{valueOf, valuesOf, fieldsOf, FieldsRoom}
+use Rattle.sheet_line.specs.Inside.{valueOf, valuesOf, numbersOf, FieldsRoom}
 
 -- ---- the fields as a list
 
@@ -26,10 +26,10 @@ zeroValue = record { sign = 0; magnitude = 0 }
 abbrev pub fieldAt : Fields → ℕ → Number
 fieldAt f i = valueOf (getD (f .numbers) i zeroValue)
 
-pub fields-none : (f : Fields) → f .laid ≡ false → fieldsOf f ≡ none
+pub fields-none : (f : Fields) → f .laid ≡ false → numbersOf f ≡ none
 fields-none f e = ap (λ b. cond b (some (valuesOf f)) none) e
 
-pub fields-some : (f : Fields) → f .laid ≡ true → fieldsOf f ≡ some (valuesOf f)
+pub fields-some : (f : Fields) → f .laid ≡ true → numbersOf f ≡ some (valuesOf f)
 fields-some f e = ap (λ b. cond b (some (valuesOf f)) none) e
 
 pub values-count : (f : Fields) → FieldsRoom f → length (valuesOf f) ≡ f .count

@@ -8,6 +8,7 @@ use lib.Dec.{eqb}
 use lib.ListN.{length, getD, take, drop}
 use Rattle.lists.specs.Trusted.Tests.{elem}
 use Rattle.tree.specs.declared.Kind.{Kind}
+use Rattle.tree.specs.Trusted.Limits.{mostFanins}
 use Rattle.decimal.specs.Trusted.Number.{Number}
 use Rattle.sheet.specs.declared.Source.{Source}
 use Rattle.sheet_line.specs.declared.Ending.{Ending}
@@ -28,7 +29,7 @@ use Rattle.sheet_line.specs.declared.Fault.{Fault}
 use Rattle.sheet_line.specs.declared.Fault.the-variants.{Nothing, Is as IsFault}
 use Rattle.sheet_line.specs.declared.GateLine.{GateLine}
 use Rattle.sheet.specs.Trusted.Sheet.{netOf}
-use Rattle.sheet.specs.Trusted.Limits.{gateBase, mostFields, mostGates, mostFanins, mostLeaves}
+use Rattle.sheet.specs.Trusted.Limits.{gateBase, mostFields, mostGates, mostLeaves}
 use Rattle.sheet.specs.Trusted.Line.{line, fields}
 use Rattle.sheet.specs.Trusted.Step.{Step, good, bad, _>>=_, given}
 use Rattle.sheet.specs.Trusted.Read.{Head as LineOne, gateHeadOf, Seen, sourceOf, readFanin}
@@ -53,8 +54,8 @@ valueOf x = record { negative = not (eqb (x .sign) 0); magnitude = x .magnitude 
 abbrev pub valuesOf : Fields → List Number
 valuesOf f = map valueOf (take (f .count) (f .numbers))
 
-abbrev pub fieldsOf : Fields → Option (List Number)
-fieldsOf f = cond (f .laid) (some (valuesOf f)) none
+abbrev pub numbersOf : Fields → Option (List Number)
+numbersOf f = cond (f .laid) (some (valuesOf f)) none
 
 -- the numbers fill their array, and the count is at most as many
 pub record FieldsRoom (f : Fields) : Type 0 where
@@ -62,7 +63,7 @@ pub record FieldsRoom (f : Fields) : Type 0 where
   pub within : f .count ≤ mostFields
 
 pub record FieldsRead (bytes : List ℕ) (f : Fields) : Type 0 where
-  pub same : fields bytes ≡ fieldsOf f
+  pub same : fields bytes ≡ numbersOf f
   pub room : FieldsRoom f
 
 -- ---- line 1
@@ -83,7 +84,7 @@ gateHeadStep g f (BadGate why) = bad (numberOf why) (suc g)
 
 -- of gate g, whichever it is
 pub record GateHeadRead (f : Fields) (r : GateHead) : Type 0 where
-  pub step : (g : ℕ) → gateHeadOf g (fieldsOf f) ≡ gateHeadStep g f r
+  pub step : (g : ℕ) → gateHeadOf g (numbersOf f) ≡ gateHeadStep g f r
   pub fanins : (kind : Kind) (count : ℕ) → r ≡ GoodGate kind count → (count + 2 ≡ f .count) × (count ≤ mostFanins)
 
 -- ---- a gate's line
@@ -122,12 +123,12 @@ abbrev pub Flagged : (base size : ℕ) → List Bool → List ℕ → Type 0
 Flagged base size flags xs = (n : ℕ) → n < size → getD flags (base + n) false ≡ elem n xs
 
 -- how many numbers have a flag: all that a fanin may be written as, and those below
-abbrev pub codes : ℕ
-codes = gateBase + mostGates + 1
+abbrev pub flagCount : ℕ
+flagCount = gateBase + mostGates + 1
 
 -- the flags and the number of leaves stand for what was read so far: a net has its flag at its number, gate g at the base and g
 pub record Marked (flags : List Bool) (leaves : ℕ) (seen : Seen) : Type 0 where
-  pub whole : length flags ≡ codes
+  pub whole : length flags ≡ flagCount
   pub nets : Flagged 0 gateBase flags (seen .nets)
   pub gates : Flagged gateBase (mostGates + 1) flags (seen .gates)
   pub count : length (seen .nets) ≡ leaves

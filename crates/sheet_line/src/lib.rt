@@ -8,15 +8,15 @@ ghost use Rattle.lists.specs.Trusted.Tests.{within};
 ghost use Rattle.sheet.specs.Trusted.Read.{counts, headOf, kindOf, sourceOf};
 ghost use Rattle.sheet.specs.Trusted.Limits.{mostGates, mostLeaves};
 ghost use Rattle.sheet.specs.Trusted.Sheet.{netOf};
-ghost use Rattle.sheet_line.specs.Inside.{LineEnds, valueOf, fieldsOf, FieldsRoom, FieldsRead, headStep, kindStep, GateHeadRead, LineRefused, GateLineRead, sourceStep, FaninRead};
-use sheet::FEWEST_FANINS;
+ghost use Rattle.sheet_line.specs.Inside.{LineEnds, valueOf, numbersOf, FieldsRoom, FieldsRead, headStep, kindStep, GateHeadRead, LineRefused, GateLineRead, sourceStep, FaninRead};
 use sheet::Gate;
-use sheet::MOST_FANINS;
 use sheet::MOST_GATES;
 use sheet::MOST_LEAVES;
 use sheet::Refusal;
 use sheet::Source;
+use tree::FEWEST_FANINS;
 use tree::Kind;
+use tree::MOST_FANINS;
 
 // How many numbers have a flag: all that a fanin may be written as, and those below.
 pub const CODES: usize = tree::CODE_BASE as usize + MOST_GATES + 1;
@@ -147,7 +147,7 @@ pub enum LineHead {
 
 pub fn read_head(f: Fields) -> LineHead
     requires { ⌜ FieldsRoom f ⌝ }
-    ensures { λ r. ⌜ headOf (fieldsOf f) ≡ headStep r ⌝ }
+    ensures { λ r. ⌜ headOf (numbersOf f) ≡ headStep r ⌝ }
 {
     let laid = f.laid;
     let count = f.count;

@@ -11,6 +11,7 @@ use lib.ListN.{length, getD, take, drop, set, replicate, length-set, length-take
 use lib.Seq.{drop-cons, getD-drop, getD-take, length-take-le}
 use Rattle.lists.specs.ListLaws.{every-none}
 use Rattle.tree.specs.declared.Kind.{Kind}
+use Rattle.tree.specs.Trusted.Limits.{mostFanins}
 use Rattle.decimal.specs.Trusted.Number.{Number}
 use Rattle.sheet.specs.declared.Source.{Source}
 use Rattle.sheet.specs.declared.Edge.{Edge}
@@ -23,13 +24,13 @@ use Rattle.sheet_line.specs.declared.Fanin.{Fanin}
 use Rattle.sheet_line.specs.declared.Fanin.the-variants.{Reads, Bad}
 use Rattle.sheet_line.specs.declared.FieldValue.{FieldValue}
 use Rattle.sheet_line.specs.declared.GateLine.{GateLine}
-use Rattle.sheet.specs.Trusted.Limits.{mostFields, mostGates, mostFanins, mostLeaves, faninRoom}
+use Rattle.sheet.specs.Trusted.Limits.{mostFields, mostGates, mostLeaves, faninRoom}
 use Rattle.sheet.specs.Trusted.Line.{line, fields}
 use Rattle.sheet.specs.Trusted.Sheet.{DrawnGate, netOf}
 use Rattle.sheet.specs.Trusted.Step.{Step, good, bad, _>>=_, given}
 use Rattle.sheet.specs.Trusted.Read.{Seen, nothing, readFanin, readFanins, gateHeadOf, readLeft}
 use Rattle.sheet.specs.Trusted.Answers.{numberOf, drawnGate, drawnGates}
-use Rattle.sheet_line.specs.Inside.{valueOf, gateLine, faninNumbers, faultStep, GateLineRead, codes, Marked, saw, faninStep, FaninRead}
+use Rattle.sheet_line.specs.Inside.{valueOf, gateLine, faninNumbers, faultStep, GateLineRead, flagCount, Marked, saw, faninStep, FaninRead}
 use Rattle.sheet_line.proofs.HeadLaws.{zeroValue}
 use Rattle.sheet_line.proofs.FaninLaws.{marked-start, marked-more}
 use Rattle.sheet_reader.proofs.StoreLaws.{readCount, read-most, read-more, Below, drawn-same, taken-more, drawn-more, below-more}
@@ -47,7 +48,7 @@ abbrev gateAhead : List DrawnGate → DrawnGate → Gates → Step Gates
 gateAhead gs x r = good (gs ++ (x ∷ r .0), r .1, r .2)
 
 -- the gates `gs` were read, and so many are left, from gate g on
-abbrev pub lines : (out left g : ℕ) → List DrawnGate → Seen → List ℕ → Step Gates
+abbrev lines : (out left g : ℕ) → List DrawnGate → Seen → List ℕ → Step Gates
 lines out left g gs seen text = readLeft out left g seen text >>= ahead gs
 
 -- the lines after gate g, when its fanins are read
@@ -55,7 +56,7 @@ abbrev linesAfter : (out left g : ℕ) → List DrawnGate → Kind → List Edge
 linesAfter out left g gs kind fs rest r = readLeft out left (suc g) (r .1) rest >>= gateAhead gs (record { kind = kind; fanins = fs ++ r .0 })
 
 -- of gate g the fanins `fs` were read too, and the numbers `xs` are left
-abbrev pub fanins : (out left g : ℕ) → List DrawnGate → Kind → List Edge → Seen → List Number → List ℕ → Step Gates
+abbrev fanins : (out left g : ℕ) → List DrawnGate → Kind → List Edge → Seen → List Number → List ℕ → Step Gates
 fanins out left g gs kind fs seen xs rest = readFanins out g seen xs >>= linesAfter out left g gs kind fs rest
 
 module _ (out left g : ℕ) (gs : List DrawnGate) (seen : Seen) where
@@ -112,11 +113,11 @@ module _ (out left g : ℕ) (gs : List DrawnGate) (seen : Seen) where
       of-line none = refl
       of-line (some p) = of-head (p .1) (gateHeadOf g (fields (p .0)))
 
-  pub line-bad : (text : List ℕ) {number place : ℕ} → gateLine g text ≡ bad number place → lines out (suc left) g gs seen text ≡ bad number place
+  line-bad : (text : List ℕ) {number place : ℕ} → gateLine g text ≡ bad number place → lines out (suc left) g gs seen text ≡ bad number place
   unfolding _>>=_
   line-bad text e = lines-line text ∙ ap (λ m. m >>= faninsOf) e
 
-  pub line-good : (text : List ℕ) {kind : Kind} {xs : List Number} {rest : List ℕ} → gateLine g text ≡ good (kind, xs, rest) →
+  line-good : (text : List ℕ) {kind : Kind} {xs : List Number} {rest : List ℕ} → gateLine g text ≡ good (kind, xs, rest) →
       lines out (suc left) g gs seen text ≡ fanins out left g gs kind [] seen xs rest
   unfolding _>>=_
   line-good text e = lines-line text ∙ ap (λ m. m >>= faninsOf) e
@@ -176,7 +177,7 @@ fanins-over l i h = drop-of-length-le (faninNumbers l) {i = i} (simp (length-map
 -- ---- what holds while the lines are read
 
 module _ (text : List ℕ) (start out count : ℕ) where
-  abbrev pub all : Step Gates
+  abbrev all : Step Gates
   all = readLeft out count 1 nothing (drop start text)
 
   -- at a gate's line
@@ -211,7 +212,7 @@ module _ (text : List ℕ) (start out count : ℕ) where
     pub same : all ≡ fanins out (count - (g + 1)) (g + 1) (drawnGates fs g gates) (l .kind) (take i (drop used fs)) seen (drop i (faninNumbers l)) (drop (l .end) text)
 
   pub at-start : (gates : List Gate) (fs : List Edge) → length gates ≡ mostGates → length fs ≡ faninRoom → start ≤ length text →
-      AtLine gates fs 0 (replicate codes false) 0 Accepted start 0
+      AtLine gates fs 0 (replicate flagCount false) 0 Accepted start 0
   at-start gates fs r w l = record {
     accepted = refl;
     far = omega arith;
@@ -265,7 +266,7 @@ module _ (text : List ℕ) (start out count : ℕ) where
 
   module _ {gates : List Gate} {fs : List Edge} {used : ℕ} {flags : List Bool} {leaves : ℕ} {answer : ReadAnswer} {g : ℕ} {l : GateLine} {i : ℕ}
       (h : AtFanin gates fs used flags leaves answer g l i) where
-    abbrev pub number : FieldValue
+    abbrev number : FieldValue
     number = getD (l .numbers) (i + 2) zeroValue
 
     one-number : i < l .count →

@@ -17,7 +17,7 @@ use Rattle.sheet.specs.declared.Next.{Next}
 use Rattle.sheet.specs.Trusted.Line.{line}
 use Rattle.sheet.specs.Trusted.Sheet.{DrawnGate, DrawnSheet, from}
 use Rattle.sheet.specs.Trusted.Step.{Step, good, bad, _>>=_, require, given}
-use Rattle.sheet.specs.Trusted.Read.{empty, Head, Seen, nothing, readHead, readLeft, readUnread, readAll, reading}
+use Rattle.sheet.specs.Trusted.Read.{isEmpty, Head, Seen, nothing, readHead, readLeft, readUnread, readAll, reading}
 use Rattle.sheet.specs.Trusted.Cut.{readNext}
 use Rattle.sheet.specs.Trusted.Answers.{numberOf, answered, noSheet}
 use Rattle.sheet.specs.Promise.{answerStep, nextStep, NextRead}
@@ -38,14 +38,14 @@ next-refused text m r why place q e = record {
 
 -- ---- after the gates
 
-empty-drop : (end : ℕ) (text : List ℕ) → empty (drop end text) ≡ not (ltb end (length text))
+empty-drop : (end : ℕ) (text : List ℕ) → isEmpty (drop end text) ≡ not (ltb end (length text))
 empty-drop end text = of (ltb end (length text)) refl
   where
-    of : (b : Bool) → ltb end (length text) ≡ b → empty (drop end text) ≡ not b
-    of true e = ap empty (drop-cons text end 0 (ltb-true end (length text) e))
-    of false e = ap empty (drop-of-length-le text (ltb-false end (length text) e))
+    of : (b : Bool) → ltb end (length text) ≡ b → isEmpty (drop end text) ≡ not b
+    of true e = ap isEmpty (drop-cons text end 0 (ltb-true end (length text) e))
+    of false e = ap isEmpty (drop-of-length-le text (ltb-false end (length text) e))
 
-more-is : (last : Bool) (end : ℕ) (text : List ℕ) → (not last || empty (drop end text)) ≡ not (more last end (length text))
+more-is : (last : Bool) (end : ℕ) (text : List ℕ) → (not last || isEmpty (drop end text)) ≡ not (more last end (length text))
 more-is true end text = empty-drop end text
 more-is false end text = refl
 
@@ -58,8 +58,8 @@ module _ (text : List ℕ) (l : Lines) (head : Head) (last : Bool) (m : Step Gat
     pub went : (a : Gates) × (GatesHeld text (head .count) l a × (m ≡ good a))
     went = subst (λ w. Comes w (GatesHeld text (head .count) l) m) e come
 
-    follows : {b : Bool} → more last (l .end) (length text) ≡ b → (not last || empty (went .0 .2)) ≡ not b
-    follows f = ap (λ rest. not last || empty rest) (went .1 .0 .rest) ∙ (more-is last (l .end) text ∙ ap not f)
+    follows : {b : Bool} → more last (l .end) (length text) ≡ b → (not last || isEmpty (went .0 .2)) ≡ not b
+    follows f = ap (λ rest. not last || isEmpty rest) (went .1 .0 .rest) ∙ (more-is last (l .end) text ∙ ap not f)
 
     ending : (m >>= readEnd last head) ≡ readEnd last head (went .0)
     unfolding _>>=_
@@ -124,7 +124,7 @@ front-all text =
     then-step (given (line text) 1 1) _ _ alone (λ p.
     then-step (readHead (p .0)) _ _ alone (λ head.
     then-step (readLeft (head .out) (head .count) 1 nothing (p .1)) _ _ alone (λ a.
-    then-step (require (empty (a .2)) 1 (head .count + 2)) _ _ alone (λ u.
+    then-step (require (isEmpty (a .2)) 1 (head .count + 2)) _ _ alone (λ u.
     then-step (readUnread (from 1 (head .count - 1)) (a .1 .gates)) _ _ alone (λ v. refl)))))
 
 pub reading-alone : (a : ReadAnswer) (s : DrawnSheet) (rest : List ℕ) → reading (answerStep a (s, rest) >>= alone) ≡ answered a s

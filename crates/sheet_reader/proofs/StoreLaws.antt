@@ -19,7 +19,7 @@ use Rattle.sheet.specs.Trusted.Sheet.{netOf}
 use Rattle.sheet.specs.Trusted.Read.{sourceOf}
 use Rattle.sheet.specs.ReadLaws.{source-named}
 use Rattle.sheet.specs.Trusted.Answers.{drawnGate, drawnGates}
-use Rattle.sheet_line.specs.Inside.{codes}
+use Rattle.sheet_line.specs.Inside.{flagCount}
 
 -- ---- flags
 
@@ -45,7 +45,7 @@ raised-set (false ∷ bs) (suc i) l e = raised-set bs i (omega arith) e
 abbrev pub readCount : List Bool → ℕ → ℕ
 readCount flags leaves = leaves + raised (drop gateBase flags)
 
-module _ (flags : List Bool) (whole : length flags ≡ codes) where
+module _ (flags : List Bool) (whole : length flags ≡ flagCount) where
   gates-most : raised (drop gateBase flags) ≤ mostGates + 1
   gates-most = omega (arith, raised-most (drop gateBase flags), length-drop gateBase flags)
 

@@ -16,7 +16,7 @@ use Rattle.sheet.specs.Trusted.Sheet.{DrawnGate, DrawnSheet, from}
 use Rattle.sheet.specs.Trusted.Limits.{gateBase, mostGates}
 use Rattle.sheet.specs.Trusted.Line.{line}
 use Rattle.sheet.specs.Trusted.Step.{Step, good, bad, _>>=_, require, given}
-use Rattle.sheet.specs.Trusted.Read.{empty, Head as LineOne, readHead, Seen, nothing, readLeft, readUnread}
+use Rattle.sheet.specs.Trusted.Read.{isEmpty, Head as LineOne, readHead, Seen, nothing, readLeft, readUnread}
 use Rattle.sheet.specs.Trusted.Answers.{numberOf, drawnGates}
 use Rattle.sheet.specs.Promise.{NextRead}
 
@@ -55,7 +55,7 @@ more last end size = last && ltb end size
 -- what comes after the gates
 abbrev pub readEnd : (last : Bool) → LineOne → List DrawnGate × Seen × List ℕ → Step (DrawnSheet × List ℕ)
 readEnd last head (gates, seen, rest) = do
-  _ ← require (not last || empty rest) 1 (head .count + 2)
+  _ ← require (not last || isEmpty rest) 1 (head .count + 2)
   _ ← readUnread (from 1 (head .count - 1)) (seen .gates)
   good (record { out = head .out; inverted = head .inverted; gates = gates }, rest)
 

@@ -26,8 +26,8 @@ use Rattle.part.specs.Trusted.Parts.{Shaped}
 use Rattle.part.specs.Trusted.Sound.{Sound}
 use Rattle.part.specs.Trusted.Answers.{Answer, accepted, refused}
 use Rattle.part.specs.Trusted.Add.{Offer, Add}
-use Rattle.demands.specs.AddLaws.{AddCase, unsound, misread, driven, read, full, taken, outcome, kept, not-refused}
-use Rattle.part.specs.Storing.{sheetOf}
+use Rattle.demands.specs.AddLaws.{AddCase, unsound, misread, driven, read, full, taken, add-case, kept, not-refused}
+use Rattle.part.specs.Storing.{circuitOf}
 use Rattle.part.specs.StoringLaws.{add-misread, add-offered}
 use Rattle.listing.specs.Trusted.Listing.{listOf}
 use Rattle.part.specs.declared.Part.{Part}
@@ -72,7 +72,7 @@ least-some : {k n : ℕ} {t : _} → Least k t n → 0 < n
 least-some l = let c = l .some in omega (arith, rooted-some (c .1 .root), c .2)
 
 pub grown : (p : Part) (text : List ℕ) (q : Part) (a : Answer) → Add p text q a → a ≡ accepted → p .used < q .used
-grown p text q a h e = of (outcome p text q a h)
+grown p text q a h e = of (add-case p text q a h)
   where
     of : AddCase p text q a → p .used < q .used
     of (unsound n r) = absurd (not-refused (r .1) e)
@@ -149,12 +149,12 @@ module _ (input : List ℕ) (p : Part) (at : ℕ) (sound : Sound p) (shape : Sha
         within = λ z. absurd (not-refused t z);
       }
 
-  pub stepped-offered : r .answer ≡ Read → (q : Part) (a : Answer) (t : Told) → Offer p (sheetOf (r .sheet)) q a → told t ≡ a → Stepped input p at q t (r .end)
+  pub stepped-offered : r .answer ≡ Read → (q : Part) (a : Answer) (t : Told) → Offer p (circuitOf (r .sheet)) q a → told t ≡ a → Stepped input p at q t (r .end)
   stepped-offered i q a t o e =
       let f = read-front i in
       let text = sheetText (drop at input) .0 in
       let g : Add p text q (told t) = subst (Add p text q) (sym e) (add-offered p text sound (drawnSheet (r .sheet)) (f .read) q a o) in
-      let k = kept p shape (outcome p text q (told t) g) in
+      let k = kept p shape (add-case p text q (told t) g) in
       record {
         add = g;
         rest = λ z. f .rest;
@@ -167,16 +167,16 @@ module _ (input : List ℕ) (p : Part) (at : ℕ) (sound : Sound p) (shape : Sha
 -- ---- sheets one after the other
 
 -- `sheet` sheets were accepted up to the place: what comes of the rest is what comes of all
-pub record SoFar (input : List ℕ) (opened : Part) (start : ℕ) (part : Part) (at sheet : ℕ) : Type 0 where
+pub record SheetsSoFar (input : List ℕ) (opened : Part) (start : ℕ) (part : Part) (at sheet : ℕ) : Type 0 where
   pub shaped : Shaped part
   pub sound : Sound part
   pub few : sheet ≤ part .used
   pub whole : (out : List ℕ) → SheetsPrint part sheet (drop at input) out → SheetsPrint opened 0 (drop start input) out
 
-pub so-far-start : (input : List ℕ) (opened : Part) (start : ℕ) → Shaped opened → Sound opened → SoFar input opened start opened start 0
-so-far-start input opened start shape s = record { shaped = shape; sound = s; few = omega arith; whole = λ out m. m }
+pub sheets-start : (input : List ℕ) (opened : Part) (start : ℕ) → Shaped opened → Sound opened → SheetsSoFar input opened start opened start 0
+sheets-start input opened start shape s = record { shaped = shape; sound = s; few = omega arith; whole = λ out m. m }
 
-module _ {input : List ℕ} {opened part : Part} {start at sheet : ℕ} (h : SoFar input opened start part at sheet) where
+module _ {input : List ℕ} {opened part : Part} {start at sheet : ℕ} (h : SheetsSoFar input opened start part at sheet) where
   pub few-sheets : sheet ≤ 800
   few-sheets = omega (arith, h .few, h .sound .used-fits, h .sound .capacity-range)
 
@@ -191,8 +191,8 @@ module _ {input : List ℕ} {opened part : Part} {start at sheet : ℕ} (h : SoF
     left : 0 < length (drop at input)
     left = omega (arith, length-drop at input)
 
-    pub so-far-more : t .number ≡ 0 → SoFar input opened start q end (sheet + 1)
-    so-far-more z =
+    pub sheets-more : t .number ≡ 0 → SheetsSoFar input opened start q end (sheet + 1)
+    sheets-more z =
         let e = told-accepted t z in
         record {
           shaped = s .shaped;

@@ -1,5 +1,5 @@
 -- Every record that a function is handed has six inputs: its type says so.
--- A function's proof has it of its first parameter r: room r (c .good .0 .1 .1 .1 .1 .0 .1 .0 .1)
+-- A function's proof has it of its first parameter r: inputs-fill r (c .good .0 .1 .1 .1 .1 .0 .1 .0 .1)
 use Prim.Native.Nat.{ℕ, min}
 use native.Mathlib.Omega.{arith}
 use mathlib.Core.Path.{_≡_, sym, ap, _∙_}
@@ -11,8 +11,8 @@ use Rattle.table.specs.Trusted.Limits.{inputRoom}
 use Rattle.table.specs.Trusted.Records.{reads}
 use Rattle.table.specs.declared.Table.{Table}
 
-pub room : (r : Table) → length (map (λ n. n) (r .inputs)) ≡ inputRoom → length (r .inputs) ≡ inputRoom
-room r h = sym (length-map (r .inputs) (λ n. n)) ∙ h
+pub inputs-fill : (r : Table) → length (map (λ n. n) (r .inputs)) ≡ inputRoom → length (r .inputs) ≡ inputRoom
+inputs-fill r h = sym (length-map (r .inputs) (λ n. n)) ∙ h
 
 pub reads-count : (r : Table) → length (r .inputs) ≡ inputRoom → length (reads r) ≡ min (r .count) 6
 reads-count r l = length-take (r .count) (r .inputs) ∙ ap (min (r .count)) l

@@ -14,7 +14,7 @@ use Rattle.lists.specs.TestLaws.{reflects-lt, reflects-eq, reflects-same, refle
 use Rattle.tree.specs.Trusted.Limits.{greatestNet}
 use Rattle.table.specs.Trusted.Limits.{tableBase, tableRoom}
 use Rattle.table.specs.Trusted.Records.{reads, blank}
-use Rattle.table.specs.Trusted.RecordTest.{isCode, padded, sized, sourced, clear, unclaimed, keeps}
+use Rattle.table.specs.Trusted.RecordTest.{isCode, isPadded, isSized, sourced, clear, unclaimed, keeps}
 use Rattle.table.specs.PrefixTest.{Stands, emptyPrefix, claimAll, prefixAfter, sourcedIn, unclaimedIn, keepsIn}
 use Rattle.table.specs.declared.Table.{Table}
 use Rattle.table.specs.declared.Prefix.{Prefix}
@@ -143,7 +143,7 @@ module _ (s : Prefix) (before : List Table) (h : Stands s before) where
   -- THE RULES OF A RECORD by what is kept are its rules after the records
   pub keeps-stands : (k : ℕ) (r : Table) → keepsIn k s r ≡ keeps k before r
   keeps-stands k r =
-      by-leb (λ b. padded r && ((b && all isCode (reads r)) && (sized k r && (all (sourcedIn (s .drives) (s .count)) (reads r) && unclaimedIn (s .claimed) r)))
-      ≡ padded r && ((b && all isCode (reads r)) && (sized k r && (all (sourced before) (reads r) && unclaimed before r)))) (r .net) greatestNet
-      (λ l. ap₂ (λ a b. padded r && (all isCode (reads r) && (sized k r && (a && b)))) (all-stands (reads r)) (claim-stands r l))
+      by-leb (λ b. isPadded r && ((b && all isCode (reads r)) && (isSized k r && (all (sourcedIn (s .drives) (s .count)) (reads r) && unclaimedIn (s .claimed) r)))
+      ≡ isPadded r && ((b && all isCode (reads r)) && (isSized k r && (all (sourced before) (reads r) && unclaimed before r)))) (r .net) greatestNet
+      (λ l. ap₂ (λ a b. isPadded r && (all isCode (reads r) && (isSized k r && (a && b)))) (all-stands (reads r)) (claim-stands r l))
       (λ l. refl)

@@ -10,7 +10,7 @@ use Rattle.lists.specs.Trusted.Tests.{all, elem}
 use Rattle.tree.specs.Trusted.Limits.{greatestNet}
 use Rattle.table.specs.Trusted.Limits.{tableBase, tableRoom}
 use Rattle.table.specs.Trusted.Records.{reads, blank}
-use Rattle.table.specs.Trusted.RecordTest.{padded, coded, sized, clear}
+use Rattle.table.specs.Trusted.RecordTest.{isPadded, isCoded, isSized, clear}
 use Rattle.table.specs.declared.Table.{Table}
 use Rattle.table.specs.declared.Prefix.{Prefix}
 
@@ -47,4 +47,4 @@ abbrev pub unclaimedIn : List Bool → Table → Bool
 unclaimedIn claimed r = eqb (r .net) 0 || (not (getD claimed (r .net) false) && not (elem (r .net) (reads r)))
 
 abbrev pub keepsIn : ℕ → Prefix → Table → Bool
-keepsIn k s r = padded r && (coded r && (sized k r && (all (sourcedIn (s .drives) (s .count)) (reads r) && unclaimedIn (s .claimed) r)))
+keepsIn k s r = isPadded r && (isCoded r && (isSized k r && (all (sourcedIn (s .drives) (s .count)) (reads r) && unclaimedIn (s .claimed) r)))

@@ -53,9 +53,9 @@ place-at n (r ∷ rs) (suc i) h =
     later (Memᴰ·cast (ap (λ m. (m, tableOf (getD rs i blank))) e) (place-at (suc n) rs i (omega arith)))
 
 -- each record has a place
-pub placed : (n : ℕ) (rs : List Table) (r : Table) → r ∈ rs → (p : Placed) × (p ∈ numbered n (map tableOf rs)) × (p .1 ≡ tableOf r)
-placed n (s ∷ rs) r (first e) = ((suc n, tableOf s), first refl, ap tableOf (sym e))
-placed n (s ∷ rs) r (later m) = let h = placed (suc n) rs r m in (h .0, later (h .1), h .2)
+pub record-placed : (n : ℕ) (rs : List Table) (r : Table) → r ∈ rs → (p : Placed) × (p ∈ numbered n (map tableOf rs)) × (p .1 ≡ tableOf r)
+record-placed n (s ∷ rs) r (first e) = ((suc n, tableOf s), first refl, ap tableOf (sym e))
+record-placed n (s ∷ rs) r (later m) = let h = record-placed (suc n) rs r m in (h .0, later (h .1), h .2)
 
 module _ (R : Placed → Placed → Type 0) (ps qs : List Placed) where
   two-append : EveryTwo R ps → Every (λ p. Every (R p) qs) ps → Every (λ p. Every (R p) ps) qs → EveryTwo R qs → EveryTwo R (ps ++ qs)
@@ -202,7 +202,7 @@ module _ (k : ℕ) (old : List Table) (r : Table) where
 
       clear : 0 < r .net → Every (Clear (r .net)) old × (¬ (r .net ∈ reads r))
       clear l = (
-        λ s m. let p = placed 0 old s m in
+        λ s m. let p = record-placed 0 old s m in
             let o = old-place old (p .0) (p .1) in (
               λ e. absurd (omega (arith, o, every-left (places old) qs (every-head (every-right (places old) qs once)) (p .0) (p .1) l (sym e ∙ ap (λ t. t .drives) (sym (p .2))))),
               λ i. absurd (omega (arith, o, every-left (places old) qs (every-head (every-right (places old) qs after)) (p .0) (p .1) l (subst (λ t. r .net ∈ t .inputs) (sym (p .2)) i))),

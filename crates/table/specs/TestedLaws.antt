@@ -16,7 +16,7 @@ use Rattle.table.specs.Trusted.Limits.{tableBase, inputRoom, tableRoom, 
 use Rattle.table.specs.Trusted.Records.{reads}
 use Rattle.table.specs.Trusted.Rules.{AllZero, Blank, Coded, Sized, Fine, FirstBad}
 use Rattle.table.specs.RuleLaws.{Known, Clear, Unclaimed, Keeps, rules-snoc, rules-keeps, rules-prefix}
-use Rattle.table.specs.Trusted.RecordTest.{allZero, isBlank, padded, coded, sized, sourced, clear, unclaimed, keeps, Verdict, none, bad, refused, walk, tested, Says, isNone}
+use Rattle.table.specs.Trusted.RecordTest.{allZero, isBlank, isCoded, isSized, sourced, clear, unclaimed, keeps, Verdict, none, bad, refused, walk, tested, Says, isNone}
 use Rattle.table.specs.declared.Table.{Table}
 
 -- ---- one record
@@ -30,11 +30,11 @@ blank-reflects r =
     (λ h. (h .net, (h .count, (h .inputs, h .truth))))
     (reflects-and (reflects-eq (r .net) 0) (reflects-and (reflects-eq (r .count) 0) (reflects-and (zero-reflects (r .inputs)) (reflects-eq (r .truth) 0))))
 
-coded-reflects : (r : Table) → Reflects (coded r) (Coded r)
+coded-reflects : (r : Table) → Reflects (isCoded r) (Coded r)
 coded-reflects r =
     reflects-and (reflects-le (r .net) greatestNet) (reflects-all _ (λ x. reflects-or (reflects-within 1 greatestNet x) (reflects-lt tableBase x)) (reads r))
 
-sized-reflects : (k : ℕ) (r : Table) → Reflects (sized k r) (Sized k r)
+sized-reflects : (k : ℕ) (r : Table) → Reflects (isSized k r) (Sized k r)
 sized-reflects k r =
     reflects-map (λ h. (h .0, h .1 .0, h .1 .1 .0, h .1 .1 .1)) (λ h. (h .0, (h .1, (h .2, h .3))))
     (reflects-and (reflects-le 2 (r .count)) (reflects-and (reflects-le (r .count) k)

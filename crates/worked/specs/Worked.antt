@@ -41,11 +41,11 @@ abbrev pub gates : ℕ → Kind → ℕ → ℕ → Edges
 gates zero k m i = Edges.none
 gates (suc n) k m i = edge false (gate k (ports m i)) (gates n k m (i + m))
 
-abbrev pub row : ℕ → Node → ℕ → Row
+abbrev row : ℕ → Node → ℕ → Row
 row K t n = record { inputs = K; tree = t; inverted = false; count = n; truth = none }
 
 -- one table, with its truth table
-abbrev pub single : ℕ → Node → Bool → ℕ → Row
+abbrev single : ℕ → Node → Bool → ℕ → Row
 single K t v x = record { inputs = K; tree = t; inverted = v; count = 1; truth = some x }
 
 abbrev pub worked : List Row

@@ -9,7 +9,7 @@ use Rattle.lists.specs.Trusted.Lists.{_∈_, Every, Permuted}
 use Rattle.tree.specs.Trusted.Tree.{Node}
 use Rattle.cover.specs.Trusted.Cover.{Cover, CoverOf, Least}
 use Rattle.cover.specs.Trusted.Tables.{LookupTable, numbered}
-use Rattle.cover.specs.Trusted.Placed.{number, records}
+use Rattle.cover.specs.Trusted.Placed.{rootNumber, records}
 
 -- a drawn sheet: the net `out` is to have the value of the tree, turned over where `inverted`
 pub record Circuit : Type 0 where
@@ -24,7 +24,7 @@ pub record CoverTables (base K : ℕ) (old new : List LookupTable) (s : Circuit)
   pub covers : CoverOf K (s .tree) cover
   pub taken : Permuted (numbered (length old) new) (records base cover (s .out) (s .inverted))
   pub earlier : Every (λ p. Every (λ x. x < base + p .0) (p .1 .inputs)) (numbered (length old) new)
-  pub last : number cover ≡ length old + length new
+  pub last : rootNumber cover ≡ length old + length new
 
 -- and there are no more of them than there need be
 pub record LeastCoverTables (base K : ℕ) (old new : List LookupTable) (s : Circuit) : Type 0 where

@@ -10,9 +10,9 @@ use Rattle.cover.specs.Trusted.Cover.{Cover, net, top, Fanins, end, old,
 use Rattle.cover.specs.Trusted.Tables.{LookupTable, Placed, tabled}
 
 -- the number of the root's table
-abbrev pub number : Cover → ℕ
-number (net n) = 0
-number (top m k fs) = m
+abbrev pub rootNumber : Cover → ℕ
+rootNumber (net n) = 0
+rootNumber (top m k fs) = m
 
 -- the table with the gate's number, where the gate is chosen
 abbrev pub placed : ℕ → LookupTable → List Placed
@@ -46,17 +46,17 @@ module _ (base : ℕ) where
     held* (new m s fs) k e = meet k (pick m (held* s k e) (e (base + m))) (held* fs k e)
 
   -- the table of a chosen gate of the kind k with the fanins `fs`: it drives n, and its value is inverted where v is true
-  abbrev pub tableOf : ℕ → Bool → Kind → Fanins → LookupTable
-  tableOf n v k fs = tabled n (sorted (codes* fs)) (λ e. turned v (held* fs k e))
+  abbrev pub gateTable : ℕ → Bool → Kind → Fanins → LookupTable
+  gateTable n v k fs = tabled n (sorted (codes* fs)) (λ e. turned v (held* fs k e))
 
   -- the tables of the chosen gates with their numbers, each after those below it; the root's drives n, with its value
   -- inverted where v is true, and the others drive nothing
   abbrev mutual
     pub records : Cover → ℕ → Bool → List Placed
     records (net c) n v = []
-    records (top m k fs) n v = records* fs k ++ placed m (tableOf n v k fs)
+    records (top m k fs) n v = records* fs k ++ placed m (gateTable n v k fs)
 
     pub records* : Fanins → Kind → List Placed
     records* end k = []
     records* (old i c fs) k = records c 0 false ++ records* fs k
-    records* (new m s fs) k = (records* s k ++ placed m (tableOf 0 false k s)) ++ records* fs k
+    records* (new m s fs) k = (records* s k ++ placed m (gateTable 0 false k s)) ++ records* fs k

@@ -40,5 +40,5 @@ signedFieldOf (suc width) n = signedColumn n width ∷ signedFieldOf width n
 -- ---- in a longer line
 
 -- the line with the field of so many columns that starts at a place
-abbrev pub placed : List ℕ → ℕ → ℕ → List ℕ → List ℕ
-placed old at width field = take at old ++ (field ++ drop (at + width) old)
+abbrev pub withField : List ℕ → ℕ → ℕ → List ℕ → List ℕ
+withField old at width field = take at old ++ (field ++ drop (at + width) old)

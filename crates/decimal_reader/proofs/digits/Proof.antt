@@ -6,7 +6,7 @@ use native.Mathlib.Omega.{arith}
 use mathlib.Core.Path.{_≡_, refl, sym, ap, _∙_}
 use lib.ListN.{length, getD, drop, drop-of-length-le}
 use Rattle.decimal.specs.Trusted.Number.{digits}
-use Rattle.decimal.specs.NumberLaws.{below-more}
+use Rattle.decimal.specs.NumberLaws.{digit-fits}
 use Rattle.decimal.specs.Reading.{parsed}
 use Rattle.decimal_reader.proofs.NumberLaws.{digits-more, digits-low, digits-high, below-five}
 use Rattle.decimal_reader.proofs.digits.Statement.{statement}
@@ -68,7 +68,7 @@ loop-again c =
     let one-more : i + 1 - at ≡ suc (i - at) = omega arith in (
       omega arith,
       omega arith,
-      rw one-more (below-more n d (i - at) (l .loop .inv .2) (omega arith)),
+      rw one-more (digit-fits n d (i - at) (l .loop .inv .2) (omega arith)),
       l .loop .inv .3 ∙ digits-more s i n (omega arith) (omega arith) (omega arith),
     )
 

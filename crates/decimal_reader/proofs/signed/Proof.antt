@@ -11,7 +11,7 @@ use mir.Val.{SFits, toZ, ofZ}
 use mir.Facts.{toZ-ofZ}
 use Rattle.decimal.specs.Trusted.Number.{natural, negated, unsigned, signed}
 use Rattle.decimal.specs.NumberLaws.{negated-more}
-use Rattle.decimal.specs.Reading.{answerOf}
+use Rattle.decimal.specs.Reading.{fieldAnswer}
 use Rattle.decimal.specs.declared.Field.the-variants.{Value}
 use Rattle.decimal_reader.proofs.NumberLaws.{signed-none, signed-minus, signed-plain, negated-zero, parsed-some, parsed-none, natural-fits}
 use Rattle.decimal.proofs.SignLaws.{minus-bits, negated-fits}
@@ -20,7 +20,7 @@ use Rattle.decimal_reader.proofs.signed.Statement.{statement}
 use Rattle.decimal_reader.proofs.signed.Tie as tie
 
 returns : tie.Need-returns
-returns c = sym (ap answerOf (signed-none (c .before .before .args .s .now) (c .before .before .args .at) (c .if1 .taken)))
+returns c = sym (ap fieldAnswer (signed-none (c .before .before .args .s .now) (c .before .before .args .at) (c .if1 .taken)))
 
 shared-slice-read-if2 : tie.Need-shared-slice-read-if2
 shared-slice-read-if2 c = search needs
@@ -78,21 +78,21 @@ sub-t16 c =
 returns-2 : tie.Need-returns-2
 returns-2 c =
     let n = c .before .before .n .given .0 .0 in
-    sym (ap answerOf (after-minus (c .before .before .before .before) ∙ ap negated (minus-number (c .before)) ∙ negated-zero n (c .if3 .taken)))
+    sym (ap fieldAnswer (after-minus (c .before .before .before .before) ∙ ap negated (minus-number (c .before)) ∙ negated-zero n (c .if3 .taken)))
 
 returns-3 : tie.Need-returns-3
 returns-3 c =
     let n = c .before .before .n .given .0 .0 in
     let fits = minus-fits (c .before) in
     ap Value (ap (λ z. toZ w32 (ofZ w32 z)) (minus-bits n fits) ∙ toZ-ofZ (negated-fits n fits))
-    ∙ sym (ap answerOf (after-minus (c .before .before .before .before) ∙ ap negated (minus-number (c .before)) ∙ negated-more n (c .if3 .left)))
+    ∙ sym (ap fieldAnswer (after-minus (c .before .before .before .before) ∙ ap negated (minus-number (c .before)) ∙ negated-more n (c .if3 .left)))
 
 returns-4 : tie.Need-returns-4
 returns-4 c =
     let l = c .before .before in
     let a = l .before .before .before .before .before .args in
     let nothing : natural (drop (a .at + 1) (a .s .now)) ≡ none = parsed-none (natural (drop (a .at + 1) (a .s .now))) (sym (l .natural .ensures) ∙ c .enum-told .given .1) in
-    sym (ap answerOf (after-minus l ∙ ap negated nothing))
+    sym (ap fieldAnswer (after-minus l ∙ ap negated nothing))
 
 -- ---- without a sign
 
@@ -117,14 +117,14 @@ cast-t19 c =
 
 returns-5 : tie.Need-returns-5
 returns-5 c =
-    ap Value (toZ-ofZ (cast-t19 c)) ∙ sym (ap answerOf (plain (c .before .before .before) ∙ ap unsigned (plain-number c)))
+    ap Value (toZ-ofZ (cast-t19 c)) ∙ sym (ap fieldAnswer (plain (c .before .before .before) ∙ ap unsigned (plain-number c)))
 
 returns-6 : tie.Need-returns-6
 returns-6 c =
     let l = c .before .before in
     let a = l .before .before .before .before .before .args in
     let nothing : natural (drop (a .at) (a .s .now)) ≡ none = parsed-none (natural (drop (a .at) (a .s .now))) (sym (l .natural2 .ensures) ∙ c .enum-told2 .given .1) in
-    sym (ap answerOf (plain l ∙ ap unsigned nothing))
+    sym (ap fieldAnswer (plain l ∙ ap unsigned nothing))
 
 pub signed-spec : {M : Type 1} → statement M
 signed-spec =

@@ -2,7 +2,7 @@
 use mathlib.Core.Path.{sym, ap, _∙_}
 use lib.ListN.{length}
 use Rattle.decimal.specs.Trusted.Columns.{fieldOf}
-use Rattle.decimal.specs.Writing.{outcome}
+use Rattle.decimal.specs.Writing.{writeIf}
 use Rattle.decimal.specs.declared.Written.the-variants.{Done}
 use Rattle.decimal_writer.proofs.WriteLaws.{has-room, no-room}
 use borrow.Author.Needs.{needs}
@@ -16,7 +16,7 @@ returns : tie.Need-returns
 returns c =
     let a = c .before .before .before .args in
     let dst = a .dst .now in
-    sym (ap (λ b. outcome b (fieldOf (length dst) (a .n)) dst) (no-room (c .before .digit-count .ensures) (length dst) (c .if1 .taken)))
+    sym (ap (λ b. writeIf b (fieldOf (length dst) (a .n)) dst) (no-room (c .before .digit-count .ensures) (length dst) (c .if1 .taken)))
 
 put-requires : tie.Need-put-requires
 put-requires c κs = search needs
@@ -31,7 +31,7 @@ returns-2 c =
     let a = e .before .before .before .args in
     let dst = a .dst .now in
     ap (λ l. record { answer = Done; bytes = l }) (p .put .ensures)
-    ∙ sym (ap (λ b. outcome b (fieldOf (length dst) (a .n)) dst) (has-room (e .before .digit-count .ensures) (length dst) (e .if1 .left)))
+    ∙ sym (ap (λ b. writeIf b (fieldOf (length dst) (a .n)) dst) (has-room (e .before .digit-count .ensures) (length dst) (e .if1 .left)))
 
 pub write-spec : {M : Type 1} → statement M
 write-spec = tie.close (tie.spec digit-count-requires returns put-requires same-length returns-2)

@@ -6,7 +6,7 @@ use mir.Facts.{toZ-ofZ}
 use borrow.Author.Tests.{not-true, not-false}
 use Rattle.decimal.specs.Trusted.Columns.{fieldOf}
 use Rattle.decimal.specs.ColumnLaws.{field-length}
-use Rattle.decimal.specs.Reading.{numberOf}
+use Rattle.decimal.specs.Reading.{numberOfInt}
 use Rattle.decimal.specs.Writing.{signedWritten}
 use Rattle.decimal.specs.declared.Written.the-variants.{Done}
 use Rattle.decimal_writer.proofs.WriteLaws.{plain-written, minus-written, minus-wide}
@@ -16,11 +16,11 @@ use Rattle.decimal_writer.proofs.write_signed.Tie as tie
 
 -- what the two calls answer is the number
 number : (c : tie.After-negative) →
-    numberOf (c .before .before .before .args .v) ≡ record { negative = c .negative .result; magnitude = c .before .magnitude .result }
+    numberOfInt (c .before .before .before .args .v) ≡ record { negative = c .negative .result; magnitude = c .before .magnitude .result }
 number c =
     let same = toZ-ofZ (c .before .before .before .fits .v) in
-    sym (ap₂ (λ b m. record { negative = b; magnitude = m }) (c .negative .ensures ∙ ap (λ z. numberOf z .negative) same)
-    (c .before .magnitude .ensures ∙ ap (λ z. numberOf z .magnitude) same))
+    sym (ap₂ (λ b m. record { negative = b; magnitude = m }) (c .negative .ensures ∙ ap (λ z. numberOfInt z .negative) same)
+    (c .before .magnitude .ensures ∙ ap (λ z. numberOfInt z .magnitude) same))
 
 magnitude-requires : tie.Need-magnitude-requires
 magnitude-requires c κs = search needs

@@ -5,7 +5,7 @@ use mathlib.Core.Path.{ap, _∙_}
 use borrow.Rule.Slice.PartMut.{midOf}
 use mir.Facts.{toZ-ofZ}
 use Rattle.decimal.specs.Trusted.Columns.{signedRoom, signedFieldOf}
-use Rattle.decimal.specs.Reading.{numberOf}
+use Rattle.decimal.specs.Reading.{numberOfInt}
 use Rattle.decimal.specs.Writing.{signedWritten}
 use Rattle.decimal_writer.proofs.PlaceLaws.{place-within, place-past}
 use borrow.Author.Needs.{needs}
@@ -15,7 +15,7 @@ use Rattle.decimal_writer.proofs.write_signed_at.Tie as tie
 returns : tie.Need-returns
 returns c =
     let a = c .before .before .args in
-    place-past (signedRoom (a .width) (numberOf (a .v))) (a .buf .now) (signedFieldOf (a .width) (numberOf (a .v))) (a .at) (a .width) (omega arith)
+    place-past (signedRoom (a .width) (numberOfInt (a .v))) (a .buf .now) (signedFieldOf (a .width) (numberOfInt (a .v))) (a .at) (a .width) (omega arith)
 
 sub-if2 : tie.Need-sub-if2
 sub-if2 c = search needs
@@ -23,7 +23,7 @@ sub-if2 c = search needs
 returns-2 : tie.Need-returns-2
 returns-2 c =
     let a = c .before .before .before .args in
-    place-past (signedRoom (a .width) (numberOf (a .v))) (a .buf .now) (signedFieldOf (a .width) (numberOf (a .v))) (a .at) (a .width) (omega arith)
+    place-past (signedRoom (a .width) (numberOfInt (a .v))) (a .buf .now) (signedFieldOf (a .width) (numberOfInt (a .v))) (a .at) (a .width) (omega arith)
 
 add-end : tie.Need-add-end
 add-end c = search needs
@@ -47,8 +47,8 @@ returns-3 : tie.Need-returns-3
 returns-3 c =
     let w = c .before .before in
     let a = w .before .before .before .before .before .args in
-    place-within (λ m. signedRoom m (numberOf (a .v))) (λ m. signedFieldOf m (numberOf (a .v))) (a .buf .now) (w .write-signed .last .0) (a .at) (a .width) (omega arith)
-    (w .write-signed .ensures ∙ ap (λ z. signedWritten (midOf (a .at) (a .at + a .width - a .at) (a .buf .now)) (numberOf z)) (toZ-ofZ (w .before .before .before .before .before .fits .v)))
+    place-within (λ m. signedRoom m (numberOfInt (a .v))) (λ m. signedFieldOf m (numberOfInt (a .v))) (a .buf .now) (w .write-signed .last .0) (a .at) (a .width) (omega arith)
+    (w .write-signed .ensures ∙ ap (λ z. signedWritten (midOf (a .at) (a .at + a .width - a .at) (a .buf .now)) (numberOfInt z)) (toZ-ofZ (w .before .before .before .before .before .fits .v)))
 
 pub write-signed-at-spec : {M : Type 1} → statement M
 write-signed-at-spec =

@@ -42,9 +42,9 @@ faninNumber f = signedNumber (f .inverted) (codeOf (f .source))
 abbrev pub gateNumbers : DrawnGate → List Number
 gateNumbers g = plainNumber (kindNumber (g .kind)) ∷ plainNumber (length (g .fanins)) ∷ map faninNumber (g .fanins)
 
-abbrev pub gateLine : DrawnGate → List ℕ
-gateLine g = lineText (gateNumbers g)
+abbrev pub gateText : DrawnGate → List ℕ
+gateText g = lineText (gateNumbers g)
 
 -- line 1, and one line a gate
 abbrev pub written : DrawnSheet → List ℕ
-written s = lineText (headNumbers s) ++ gather gateLine (s .gates)
+written s = lineText (headNumbers s) ++ gather gateText (s .gates)

@@ -10,7 +10,7 @@ use Rattle.list_line.specs.Trusted.Writes.{pasted}
 use Rattle.list_line.specs.PasteLaws.{paste-next}
 use Rattle.list_line.specs.FieldLaws.{fields-length}
 use native.Mathlib.Omega.{arith}
-use Rattle.table.proofs.Shape.{room, reads-count}
+use Rattle.table.proofs.Shape.{inputs-fill, reads-count}
 use borrow.Author.Needs.{needs}
 use Rattle.list_line.proofs.put_table.Statement.{statement}
 use Rattle.list_line.proofs.put_table.Tie as tie
@@ -40,13 +40,13 @@ put-inputs-requires : tie.Need-put-inputs-requires
 put-inputs-requires c κs =
     let s = c .before .before .before .before .before .before .before .before .before in
     let r = s .args .r in
-    omega (arith, reads-count r (room r (s .good .1 .1 .1 .0 .1 .1 .1 .1 .0 .1 .0 .1)), c .before .before .before .before .before .before .in-use .ensures, c .before .before .before .put-three .kept .0, s .pre)
+    omega (arith, reads-count r (inputs-fill r (s .good .1 .1 .1 .0 .1 .1 .1 .1 .0 .1 .0 .1)), c .before .before .before .before .before .before .in-use .ensures, c .before .before .before .put-three .kept .0, s .pre)
 
 put-truth-requires : tie.Need-put-truth-requires
 put-truth-requires c κs =
     let s = c .before .before .before .before .before .before .before .before .before .before .before .before .before in
     let r = s .args .r in
-    omega (arith, reads-count r (room r (s .good .1 .1 .1 .0 .1 .1 .1 .1 .0 .1 .0 .1)), c .before .before .before .before .before .before .before .before .before .before .in-use .ensures, c .before .before .before .before .before .before .before .put-three .kept .0, c .before .before .before .put-inputs .kept .0, s .pre)
+    omega (arith, reads-count r (inputs-fill r (s .good .1 .1 .1 .0 .1 .1 .1 .1 .0 .1 .0 .1)), c .before .before .before .before .before .before .before .before .before .before .in-use .ensures, c .before .before .before .before .before .before .before .put-three .kept .0, c .before .before .before .put-inputs .kept .0, s .pre)
 
 add-put-line-feed : tie.Need-add-put-line-feed
 add-put-line-feed c = search needs
@@ -55,7 +55,7 @@ put-line-feed-requires : tie.Need-put-line-feed-requires
 put-line-feed-requires c κs =
     let s = c .before .before .before .before .before .before .before .before .before .before .before .before .before .before .before .before .before in
     let r = s .args .r in
-    omega (arith, reads-count r (room r (s .good .1 .1 .1 .0 .1 .1 .1 .1 .0 .1 .0 .1)), c .before .before .before .before .before .before .before .before .before .before .before .before .before .before .in-use .ensures, c .before .before .before .before .before .before .before .before .before .before .before .put-three .kept .0, c .before .before .before .before .before .before .before .put-inputs .kept .0, c .before .before .before .put-truth .kept .0, s .pre)
+    omega (arith, reads-count r (inputs-fill r (s .good .1 .1 .1 .0 .1 .1 .1 .1 .0 .1 .0 .1)), c .before .before .before .before .before .before .before .before .before .before .before .before .before .before .in-use .ensures, c .before .before .before .before .before .before .before .before .before .before .before .put-three .kept .0, c .before .before .before .before .before .before .before .put-inputs .kept .0, c .before .before .before .put-truth .kept .0, s .pre)
 
 same-length : tie.Need-same-length
 same-length c = search needs
@@ -66,7 +66,7 @@ returns c =
     let a = s .args in
     let r = a .r in
     let old = now (a .buf) in
-    let l = room r (s .good .1 .1 .1 .0 .1 .1 .1 .1 .0 .1 .0 .1) in
+    let l = inputs-fill r (s .good .1 .1 .1 .0 .1 .1 .1 .1 .0 .1 .0 .1) in
     let n : length (reads r) ≡ c .before .before .before .before .before .before .before .before .before .before .before .before .before .before .before .before .before .in-use .result = reads-count r l ∙ sym (c .before .before .before .before .before .before .before .before .before .before .before .before .before .before .before .before .before .in-use .ensures) in
     let b = c .before .before .before .before .before .before .before .before .before .before .before .before .before .before .put-three .last .0 in
     let d = c .before .before .before .before .before .before .before .before .before .before .put-inputs .last .0 in

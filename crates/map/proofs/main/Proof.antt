@@ -1,14 +1,14 @@
 use borrow.Author.Needs.{needs}
-use Rattle.program_laws.specs.Front.{room}
+use Rattle.program_laws.specs.Front.{frontBytes}
 use Rattle.map.proofs.main.Statement.{statement}
 use Rattle.map.proofs.main.Tie as tie
 
 slice-aggregate-read-all : tie.Need-slice-aggregate-read-all
 slice-aggregate-read-all c = search needs
 
--- the buffer has `room` bytes
+-- the buffer has `frontBytes` bytes
 read-all-requires : tie.Need-read-all-requires
-unfolding room
+unfolding frontBytes
 read-all-requires c κs = search needs
 
 slice-aggregate-say : tie.Need-slice-aggregate-say

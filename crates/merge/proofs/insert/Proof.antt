@@ -1,20 +1,20 @@
--- `merge::insert` meets its contract. The invariant is `Passed`. The measure is the inputs left. Assumes nothing.
+-- `merge::insert` meets its contract. The invariant is `Inserting`. The measure is the inputs left. Assumes nothing.
 use Prim.Native.Nat.{_-_}
 use native.Mathlib.Omega.{arith}
 use mathlib.Core.Logic.{⊎-elim}
 use denote.Ref.{now}
-use Rattle.pending.specs.MergeLaws.{Passed, passed-none, passed-stay, passed-up, passed-all}
+use Rattle.pending.specs.MergeLaws.{Inserting, inserting-start, inserting-stay, inserting-up, inserting-end}
 use Rattle.merge.proofs.insert.Statement.{statement}
 use Rattle.merge.proofs.insert.Tie as tie
 
 abbrev Inv-loop : tie.InvT-loop
-Inv-loop inputs₀ count code next₀ i₀ inputs next i = Passed inputs₀ count code inputs next i
+Inv-loop inputs₀ count code next₀ i₀ inputs next i = Inserting inputs₀ count code inputs next i
 
 abbrev μ-loop : tie.MeasureT-loop
 μ-loop inputs₀ count code next₀ i₀ inputs next i = count - i
 
 loop-holds : tie.Need-loop-holds Inv-loop μ-loop
-loop-holds c = passed-none (now (c .args .inputs)) (c .args .count) (c .args .code) (c .pre .0) (c .pre .1)
+loop-holds c = inserting-start (now (c .args .inputs)) (c .args .count) (c .args .code) (c .pre .0) (c .pre .1)
 
 mul-x : tie.Need-mul-x Inv-loop μ-loop
 mul-x c = omega arith
@@ -40,8 +40,8 @@ loop-again c =
     let s = l .before in
     let a = s .args in
     ⊎-elim
-    (λ w. rw (w .1, w .2) (passed-up (now (a .inputs)) (a .count) (a .code) (s .pre .0) (s .pre .1) (l .loop .inv) (c .before .before .loop-test .taken) (w .0 .taken)))
-    (λ w. rw (w .1, w .2) (passed-stay (now (a .inputs)) (a .count) (a .code) (s .pre .0) (s .pre .1) (l .loop .inv) (c .before .before .loop-test .taken) (w .0 .left)))
+    (λ w. rw (w .1, w .2) (inserting-up (now (a .inputs)) (a .count) (a .code) (s .pre .0) (s .pre .1) (l .loop .inv) (c .before .before .loop-test .taken) (w .0 .taken)))
+    (λ w. rw (w .1, w .2) (inserting-stay (now (a .inputs)) (a .count) (a .code) (s .pre .0) (s .pre .1) (l .loop .inv) (c .before .before .loop-test .taken) (w .0 .left)))
     (c .if1 .came)
 
 mul-inputs-2 : tie.Need-mul-inputs-2 Inv-loop μ-loop
@@ -55,7 +55,7 @@ returns c =
     let l = c .before in
     let s = l .before in
     let a = s .args in
-    passed-all (now (a .inputs)) (a .count) (a .code) (s .pre .0) (s .pre .1) (l .loop .inv) (omega arith)
+    inserting-end (now (a .inputs)) (a .count) (a .code) (s .pre .0) (s .pre .1) (l .loop .inv) (omega arith)
 
 pub insert-spec : {M : Type 1} → statement M
 insert-spec =

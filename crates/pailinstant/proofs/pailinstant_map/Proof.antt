@@ -1,6 +1,6 @@
 use mathlib.Core.Path.{sym, ap}
 use Rattle.program.specs.RoomLaws.{wrote-front, never-short}
-use Rattle.pailinstant.specs.Calls.{bytes}
+use Rattle.pailinstant.specs.Calls.{printedBytes}
 use borrow.Author.Needs.{needs}
 use Rattle.pailinstant.proofs.pailinstant_map.Statement.{statement}
 use Rattle.pailinstant.proofs.pailinstant_map.Tie as tie
@@ -21,7 +21,7 @@ returns : tie.Need-returns
 returns c =
     let r = c .before .before .before .before .before .run in
     let e = c .before .n .given .1 in
-    record { outcome = r .result; answered = r .ensures; count = sym (ap bytes e); whole = λ l. wrote-front l (r .ensures) e }
+    record { outcome = r .result; answered = r .ensures; count = sym (ap printedBytes e); whole = λ l. wrote-front l (r .ensures) e }
 
 same-length-2 : tie.Need-same-length-2
 same-length-2 c = search needs
@@ -30,7 +30,7 @@ returns-2 : tie.Need-returns-2
 returns-2 c =
     let r = c .before .before .before .before .run in
     let e = c .enum-told .given .1 in
-    record { outcome = r .result; answered = r .ensures; count = sym (ap bytes e); whole = λ l. absurd (never-short l (r .ensures) e) }
+    record { outcome = r .result; answered = r .ensures; count = sym (ap printedBytes e); whole = λ l. absurd (never-short l (r .ensures) e) }
 
 pub pailinstant-map-spec : {M : Type 1} → statement M
 pailinstant-map-spec =

@@ -4,7 +4,7 @@ use borrow.Author.Tests.{le-leb, lt-leb}
 use lib.ListN.{take}
 use Rattle.lists.specs.Trusted.Tests.{all}
 use Rattle.table.specs.Trusted.RecordTest.{isCode}
-use Rattle.table.proofs.Shape.{room, take-room}
+use Rattle.table.proofs.Shape.{inputs-fill, take-room}
 use Rattle.record_rules.proofs.coded.Statement.{statement}
 use Rattle.record_rules.proofs.coded.Tie as tie
 
@@ -20,7 +20,7 @@ returns c =
     let r = s .args .r in
     rw (le-leb _ _ (c .before .before .if1 .taken))
     (c .all-codes .ensures ∙ ap (λ n. all isCode (take n (r .inputs))) (c .before .in-use .ensures)
-    ∙ ap (all isCode) (take-room (r .inputs) (r .count) (room r (s .good .0 .1 .1 .1 .1 .0 .1 .0 .1))))
+    ∙ ap (all isCode) (take-room (r .inputs) (r .count) (inputs-fill r (s .good .0 .1 .1 .1 .1 .0 .1 .0 .1))))
 
 returns-2 : tie.Need-returns-2
 returns-2 c = rw (lt-leb _ _ (c .if1 .left))

@@ -4,7 +4,7 @@ use borrow.Author.Tests.{le-leb, lt-leb}
 use lib.Dec.{ltb}
 use lib.ListN.{take}
 use Rattle.lists.specs.Trusted.Tests.{pairwise}
-use Rattle.table.proofs.Shape.{room, take-room}
+use Rattle.table.proofs.Shape.{inputs-fill, take-room}
 use Rattle.record_rules.proofs.sized.Statement.{statement}
 use Rattle.record_rules.proofs.sized.Tie as tie
 
@@ -27,7 +27,7 @@ returns-3 : tie.Need-returns-3
 returns-3 c =
     let s = c .before .before .before .before .before .before .before .before .before in
     let r = s .args .r in
-    let e = sym (ap (pairwise ltb) (take-room (r .inputs) (r .count) (room r (s .good .1 .0 .1 .1 .1 .1 .0 .1 .0 .1))))
+    let e = sym (ap (pairwise ltb) (take-room (r .inputs) (r .count) (inputs-fill r (s .good .1 .0 .1 .1 .1 .1 .0 .1 .0 .1))))
     ∙ sym (c .before .before .rising .ensures ∙ ap (λ n. pairwise ltb (take n (r .inputs))) (c .before .before .before .in-use .ensures)) ∙ c .before .if3 .taken in
     rw (le-leb _ _ (c .before .before .before .before .before .before .if1 .left), le-leb _ _ (c .before .before .before .before .if2 .left), e) (c .truth-fits .ensures)
 
@@ -35,7 +35,7 @@ returns-4 : tie.Need-returns-4
 returns-4 c =
     let s = c .before .before .before .before .before .before .before .before in
     let r = s .args .r in
-    let e = sym (ap (pairwise ltb) (take-room (r .inputs) (r .count) (room r (s .good .1 .0 .1 .1 .1 .1 .0 .1 .0 .1))))
+    let e = sym (ap (pairwise ltb) (take-room (r .inputs) (r .count) (inputs-fill r (s .good .1 .0 .1 .1 .1 .1 .0 .1 .0 .1))))
     ∙ sym (c .before .rising .ensures ∙ ap (λ n. pairwise ltb (take n (r .inputs))) (c .before .before .in-use .ensures)) ∙ c .if3 .left in
     rw (le-leb _ _ (c .before .before .before .before .before .if1 .left), le-leb _ _ (c .before .before .before .if2 .left), e)
 

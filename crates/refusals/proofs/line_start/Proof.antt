@@ -7,13 +7,13 @@ use mathlib.Core.Logic.{⊎-elim}
 use lib.ListN.{length, drop}
 use lib.Seq.{drop-length}
 use borrow.Author.Needs.{needs}
-use Rattle.refusals.specs.Lines.{after}
+use Rattle.refusals.specs.Lines.{afterLines}
 use Rattle.refusals.specs.LineLaws.{after-none, after-feed, after-other}
 use Rattle.refusals.proofs.line_start.Statement.{statement}
 use Rattle.refusals.proofs.line_start.Tie as tie
 
 abbrev Inv-loop : tie.InvT-loop
-Inv-loop text number left₀ i₀ left i = (i ≤ length text) × (after number text ≡ after left (drop i text))
+Inv-loop text number left₀ i₀ left i = (i ≤ length text) × (afterLines number text ≡ afterLines left (drop i text))
 
 abbrev μ-loop : tie.MeasureT-loop
 μ-loop text number left₀ i₀ left i = length text - i
@@ -25,7 +25,7 @@ returns : tie.Need-returns Inv-loop μ-loop
 returns c =
     let k = c .before .before in
     let text = k .before .args .text .now in
-    (k .loop .inv .0, sym (k .loop .inv .1 ∙ ap (λ n. after n (drop (k .loop .i) text)) (c .if1 .taken) ∙ after-none (drop (k .loop .i) text)))
+    (k .loop .inv .0, sym (k .loop .inv .1 ∙ ap (λ n. afterLines n (drop (k .loop .i) text)) (c .if1 .taken) ∙ after-none (drop (k .loop .i) text)))
 
 shared-slice-read-if2 : tie.Need-shared-slice-read-if2 Inv-loop μ-loop
 shared-slice-read-if2 c = search needs
@@ -49,8 +49,8 @@ loop-again c =
     let h : i < length text = c .before .before .before .loop-test .taken in (
       omega arith,
       k .loop .inv .1 ∙
-          ⊎-elim (λ w. after-feed text left i h some (w .0 .taken) ∙ sym (ap (λ n. after n (drop (i + 1) text)) (w .1)))
-          (λ w. after-other text left i h some (w .0 .left) ∙ sym (ap (λ n. after n (drop (i + 1) text)) (w .1))) (c .if2 .came),
+          ⊎-elim (λ w. after-feed text left i h some (w .0 .taken) ∙ sym (ap (λ n. afterLines n (drop (i + 1) text)) (w .1)))
+          (λ w. after-other text left i h some (w .0 .left) ∙ sym (ap (λ n. afterLines n (drop (i + 1) text)) (w .1))) (c .if2 .came),
     )
 
 returns-2 : tie.Need-returns-2 Inv-loop μ-loop
@@ -59,7 +59,7 @@ returns-2 c =
     let text = k .before .args .text .now in
     let end : k .loop .i ≡ length text = omega arith in
     let none = ap (λ n. drop n text) end ∙ drop-length text in
-    (k .loop .inv .0, none ∙ sym (k .loop .inv .1 ∙ ap (after (k .loop .left)) none))
+    (k .loop .inv .0, none ∙ sym (k .loop .inv .1 ∙ ap (afterLines (k .loop .left)) none))
 
 pub line-start-spec : {M : Type 1} → statement M
 line-start-spec =

@@ -1,7 +1,7 @@
 -- `cover::with_steps`, which calls itself for the two parts of a mask, meets its contract. The measure is how
 -- many fanins the mask has, so it is at most ten calls deep. Assumes nothing.
 use native.Mathlib.Omega.{arith}
-use Rattle.search.proofs.Writing.{fanins, split-most, one-able, one-writes, part, fewer, first-writable, second-writable, join-able, join-writes}
+use Rattle.search.proofs.Writing.{faninCount, split-most, one-able, one-writes, proper-part, fewer, first-writable, second-writable, join-able, join-writes}
 use Prim.Native.Nat.{ℕ, _<_}
 use borrow.Fn.Kinds.{In, Out}
 use borrow.Fn.PlainCycle.{Measures, is, falls, and}
@@ -16,7 +16,7 @@ use Rattle.search.proofs.+with_steps.{statement}
 use Rattle.search.proofs.+with_steps.Tie.{close}
 
 abbrev μ-with-steps : Measures 1 with-steps-kinds.ps ℕ
-μ-with-steps κs a = fanins (a .1 .0)
+μ-with-steps κs a = faninCount (a .1 .0)
 
 abbrev with-steps-at : ℕ → In 1 with-steps-kinds.ps
 with-steps-at t =
@@ -49,7 +49,7 @@ with-steps-returns : (t : ℕ) → with-steps-lts.Need-returns (calls t) (with-s
 with-steps-returns t c = one-writes (c .before .before .before .pre .1) (c .before .if1 .taken) (c .with-fanin .ensures)
 
 with-steps-sub-rest : (t : ℕ) → with-steps-lts.Need-sub-rest (calls t) (with-steps-at t) with-steps.Post
-with-steps-sub-rest t c = omega (arith, part (c .before .before .pre .1) (c .if1 .left))
+with-steps-sub-rest t c = omega (arith, proper-part (c .before .before .pre .1) (c .if1 .left))
 
 with-steps-with-steps-requires : (t : ℕ) → with-steps-lts.Need-with-steps-requires (calls t) (with-steps-at t) with-steps.Post
 with-steps-with-steps-requires t c κs =

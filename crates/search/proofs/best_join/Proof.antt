@@ -8,12 +8,12 @@ use borrow.Author.Needs.{needs}
 use borrow.Author.Tests.{eqb-true, not-false}
 use Rattle.plan.specs.MaskLaws.{within-le, next-less}
 use Rattle.plan.specs.Volume.{volume}
-use Rattle.search.proofs.Submasks.{joinable-at, made-joined, made-least, Passed, passed-first, passed-stay, passed-take, passed-last}
+use Rattle.search.proofs.Submasks.{joinable-at, made-joined, made-least, Tried, tried-first, tried-stay, tried-take, tried-last}
 use Rattle.search.proofs.best_join.Statement.{statement}
 use Rattle.search.proofs.best_join.Tie as tie
 
 abbrev Inv-loop : tie.InvT-loop
-Inv-loop k top r least below width s sub₀ key₀ met₀ u₀ sub key met u = Passed k below width top r key sub u × (met ≡ true → volume k key ≡ least)
+Inv-loop k top r least below width s sub₀ key₀ met₀ u₀ sub key met u = Tried k below width top r key sub u × (met ≡ true → volume k key ≡ least)
 
 abbrev μ-loop : tie.MeasureT-loop
 μ-loop k top r least below width s sub₀ key₀ met₀ u₀ sub key met u = u
@@ -32,7 +32,7 @@ join-at-requires c κs =
 volume-requires : tie.Need-volume-requires Inv-loop μ-loop
 volume-requires c κs =
     let p = c .before .pre in
-    made-joined _ _ _ _ _ p (passed-first _ _ _ _ _ (p .some) _ (c .join-at .ensures) .made)
+    made-joined _ _ _ _ _ p (tried-first _ _ _ _ _ (p .some) _ (c .join-at .ensures) .made)
 
 sub-u : tie.Need-sub-u Inv-loop μ-loop
 sub-u c = omega arith
@@ -40,7 +40,7 @@ sub-u c = omega arith
 loop-holds : tie.Need-loop-holds Inv-loop μ-loop
 loop-holds c =
     let d = c .before in
-    (passed-first _ _ _ _ _ (d .before .pre .some) _ (d .join-at .ensures), λ e. sym (c .volume .ensures) ∙ eqb-true _ _ e)
+    (tried-first _ _ _ _ _ (d .before .pre .some) _ (d .join-at .ensures), λ e. sym (c .volume .ensures) ∙ eqb-true _ _ e)
 
 sub-join-at-2 : tie.Need-sub-join-at-2 Inv-loop μ-loop
 sub-join-at-2 c = omega arith
@@ -76,8 +76,8 @@ loop-again c =
     ⊎-elim
     (λ w.
     rw (w .2, w .3, w .4)
-    (passed-take _ _ _ _ _ _ (p .0) (omega arith) x (t .0 (w .0 .taken)), λ e. sym (w .1 .ensures) ∙ eqb-true _ _ e))
-    (λ w. rw (w .1, w .2, w .3) (passed-stay _ _ _ _ _ (p .0) (rw x at (t .1 (w .0 .left))), p .1))
+    (tried-take _ _ _ _ _ _ (p .0) (omega arith) x (t .0 (w .0 .taken)), λ e. sym (w .1 .ensures) ∙ eqb-true _ _ e))
+    (λ w. rw (w .1, w .2, w .3) (tried-stay _ _ _ _ _ (p .0) (rw x at (t .1 (w .0 .left))), p .1))
     (c .if2 .came)
 
 cast-t14 : tie.Need-cast-t14 Inv-loop μ-loop
@@ -88,7 +88,7 @@ returns c =
     let i = c .before .loop .inv in
     ⊎-elim
     (λ w. made-least _ _ _ _ _ (c .before .before .before .before .pre) (i .0 .made) (i .1 (not-false _ (w .1 .left))))
-    (λ w. passed-last _ _ _ _ _ (i .0) (omega arith))
+    (λ w. tried-last _ _ _ _ _ (i .0) (omega arith))
     (c .loop-test .came)
 
 pub best-join-spec : {M : Type 1} → statement M

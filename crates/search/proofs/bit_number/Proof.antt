@@ -7,7 +7,8 @@ use native.Mathlib.Decide.{decLt}
 use mathlib.Core.Path.{_≡_}
 use mathlib.Core.Logic.{by-cases}
 use lib.Pow.{pow-pos, pow-mono, pow-lt}
-use Rattle.plan.specs.Limits.{masks, mostFanins}
+use Rattle.tree.specs.Trusted.Limits.{mostFanins}
+use Rattle.plan.specs.Limits.{masks}
 use Rattle.plan.specs.Entries.{OneBit}
 use Rattle.search.proofs.bit_number.Statement.{statement}
 use Rattle.search.proofs.bit_number.Tie as tie

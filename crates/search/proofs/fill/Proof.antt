@@ -9,7 +9,7 @@ use Rattle.search.proofs.fill.Statement.{statement}
 use Rattle.search.proofs.fill.Tie as tie
 use Rattle.plan.specs.declared.Key.{Key}
 use Rattle.plan.specs.Key.{leaf-key}
-use Rattle.plan.specs.Limits.{mostFanins}
+use Rattle.tree.specs.Trusted.Limits.{mostFanins}
 
 abbrev Inv-loop : tie.InvT-loop
 Inv-loop k count below₀ width₀ split₀ volumes₀ keys h₀ top₀ next₀ s₀ below width split volumes h top next s = Filling k count (take count keys) below width split volumes h top next s

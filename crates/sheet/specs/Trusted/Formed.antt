@@ -4,8 +4,8 @@ use mathlib.Core.Logic.{_≢_}
 use mathlib.Core.List.{List, [], _∷_}
 use lib.ListN.{length}
 use Rattle.lists.specs.Trusted.Lists.{Every, Distinct, Permuted}
-use Rattle.tree.specs.Trusted.Limits.{greatestNet}
-use Rattle.sheet.specs.Trusted.Limits.{mostGates, fewestFanins, mostFanins, mostLeaves}
+use Rattle.tree.specs.Trusted.Limits.{greatestNet, fewestFanins, mostFanins}
+use Rattle.sheet.specs.Trusted.Limits.{mostGates, mostLeaves}
 use Rattle.sheet.specs.Trusted.Sheet.{DrawnGate, DrawnSheet, faninGates, leafNets, gatesRead, from}
 
 abbrev pub Net : ℕ → Type 0

@@ -10,15 +10,9 @@ mostFields = 12
 abbrev pub gateBase : ℕ
 gateBase = codeBase
 
--- of a sheet: the most gates, the fewest and the most fanins of a gate, and the most leaves
+-- of a sheet: the most gates, and the most leaves
 abbrev pub mostGates : ℕ
 mostGates = 255
-
-abbrev pub fewestFanins : ℕ
-fewestFanins = 2
-
-abbrev pub mostFanins : ℕ
-mostFanins = 10
 
 abbrev pub mostLeaves : ℕ
 mostLeaves = 256

@@ -8,9 +8,9 @@ use lib.ListN.{length}
 use Rattle.lists.specs.Trusted.Tests.{within, elem}
 use Rattle.tree.specs.declared.Kind.{Kind}
 use Rattle.tree.specs.declared.Kind.the-variants.{And as and, Or as or}
-use Rattle.tree.specs.Trusted.Limits.{greatestNet}
+use Rattle.tree.specs.Trusted.Limits.{greatestNet, fewestFanins, mostFanins}
 use Rattle.decimal.specs.Trusted.Number.{Number}
-use Rattle.sheet.specs.Trusted.Limits.{gateBase, mostGates, fewestFanins, mostFanins, mostLeaves}
+use Rattle.sheet.specs.Trusted.Limits.{gateBase, mostGates, mostLeaves}
 use Rattle.sheet.specs.Trusted.Line.{line, fields}
 use Rattle.sheet.specs.declared.Source.{Source}
 use Rattle.sheet.specs.declared.Source.the-variants.{Net as net, Gate as gate}
@@ -24,9 +24,9 @@ use Rattle.sheet.specs.Trusted.Step.{Step, good, bad, _>>=_, require, gi
 abbrev pub counts : (low high : ℕ) → Number → Bool
 counts low high x = not (x .negative) && within low high (x .magnitude)
 
-abbrev pub empty : {A : Type 0} → List A → Bool
-empty [] = true
-empty (x ∷ xs) = false
+abbrev pub isEmpty : {A : Type 0} → List A → Bool
+isEmpty [] = true
+isEmpty (x ∷ xs) = false
 
 -- the first two, and those after them
 abbrev pub two : {A : Type 0} → List A → Option (A × A × List A)
@@ -46,7 +46,7 @@ abbrev pub headOf : Option (List Number) → Step Head
 headOf fs = do
   xs ← given fs 1 1
   (out, count, more) ← given (two xs) 1 1
-  _ ← require (empty more) 1 1
+  _ ← require (isEmpty more) 1 1
   _ ← require (within 1 greatestNet (out .magnitude)) 4 1
   _ ← require (counts 1 mostGates count) 5 1
   good (record { out = out .magnitude; inverted = out .negative; count = count .magnitude })
@@ -141,7 +141,7 @@ readAll text = do
   (bytes, rest) ← given (line text) 1 1
   head ← readHead bytes
   (gates, seen, rest₁) ← readLeft (head .out) (head .count) 1 nothing rest
-  _ ← require (empty rest₁) 1 (head .count + 2)
+  _ ← require (isEmpty rest₁) 1 (head .count + 2)
   _ ← readUnread (from 1 (head .count - 1)) (seen .gates)
   good (record { out = head .out; inverted = head .inverted; gates = gates })
 

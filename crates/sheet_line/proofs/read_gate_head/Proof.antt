@@ -9,11 +9,11 @@ use lib.Dec.{T}
 use lib.ListN.{drop}
 use borrow.Author.Tests.{not-true, not-false, eq-eqb, ne-eqb}
 use Rattle.tree.specs.declared.Kind.{Kind}
+use Rattle.tree.specs.Trusted.Limits.{fewestFanins, mostFanins}
 use Rattle.sheet.specs.declared.Refusal.{Refusal}
 use Rattle.sheet_line.specs.declared.GateHead.the-variants.{Good, Bad}
-use Rattle.sheet.specs.Trusted.Limits.{fewestFanins, mostFanins}
 use Rattle.sheet.specs.Trusted.Read.{counts, kindOf, gateHeadOf}
-use Rattle.sheet_line.specs.Inside.{valuesOf, fieldsOf, kindStep}
+use Rattle.sheet_line.specs.Inside.{valuesOf, numbersOf, kindStep}
 use Rattle.sheet.specs.NumberLaws.{counts-holds}
 use Rattle.sheet_line.proofs.HeadLaws.{fieldAt, fields-none, fields-some, values-count, more-count, values-two}
 use Rattle.sheet_line.proofs.GateLaws.{gate-none, gate-few, gate-kind, gate-count, gate-fields, gate-good}
@@ -23,7 +23,7 @@ use Rattle.sheet_line.proofs.read_gate_head.Tie as tie
 
 -- the first two fields, where there are two
 two-are : (c : tie.Else2) (g : ℕ) → let f = c .before .before .args .t1 in
-    gateHeadOf g (fieldsOf f) ≡ gateHeadOf g (some (fieldAt f 0 ∷ fieldAt f 1 ∷ drop 2 (valuesOf f)))
+    gateHeadOf g (numbersOf f) ≡ gateHeadOf g (some (fieldAt f 0 ∷ fieldAt f 1 ∷ drop 2 (valuesOf f)))
 two-are c g =
     let f = c .before .before .args .t1 in
     ap (gateHeadOf g) (fields-some f (not-false _ (c .before .if1 .left)) ∙ ap some (values-two f (c .before .before .pre) (c .if2 .left)))

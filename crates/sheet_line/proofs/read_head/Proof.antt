@@ -11,7 +11,7 @@ use Rattle.lists.specs.TestLaws.{reflects-within}
 use Rattle.tree.specs.Trusted.Limits.{greatestNet}
 use Rattle.sheet.specs.Trusted.Limits.{mostGates}
 use Rattle.sheet.specs.Trusted.Read.{counts, headOf}
-use Rattle.sheet_line.specs.Inside.{valuesOf, fieldsOf}
+use Rattle.sheet_line.specs.Inside.{valuesOf, numbersOf}
 use Rattle.sheet.specs.NumberLaws.{counts-holds}
 use Rattle.sheet_line.proofs.HeadLaws.{fieldAt, fields-none, fields-some, values-count, values-pair, head-none, head-other, head-net, head-count, head-good}
 use borrow.Author.Needs.{needs}
@@ -19,7 +19,7 @@ use Rattle.sheet_line.proofs.read_head.Statement.{statement}
 use Rattle.sheet_line.proofs.read_head.Tie as tie
 
 -- the two fields, where there are two
-pair-is : (c : tie.Else2) → headOf (fieldsOf (c .before .before .args .t1)) ≡ headOf (some (fieldAt (c .before .before .args .t1) 0 ∷ fieldAt (c .before .before .args .t1) 1 ∷ []))
+pair-is : (c : tie.Else2) → headOf (numbersOf (c .before .before .args .t1)) ≡ headOf (some (fieldAt (c .before .before .args .t1) 0 ∷ fieldAt (c .before .before .args .t1) 1 ∷ []))
 pair-is c =
     let f = c .before .before .args .t1 in
     ap headOf (fields-some f (not-false _ (c .before .if1 .left)) ∙ ap some (values-pair f (c .before .before .pre) (c .if2 .left)))

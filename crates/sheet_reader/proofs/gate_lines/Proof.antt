@@ -10,7 +10,7 @@ use Rattle.sheet_reader.specs.declared.Lines.{Lines}
 use Rattle.sheet.specs.Trusted.Limits.{mostGates, faninRoom}
 use Rattle.sheet.specs.Trusted.Read.{nothing, readLeft}
 use Rattle.sheet.specs.Trusted.Answers.{drawnGates, noFanins}
-use Rattle.sheet_line.specs.Inside.{codes}
+use Rattle.sheet_line.specs.Inside.{flagCount}
 use Rattle.sheet_reader.specs.Inside.{Comes, GatesHeld}
 use Rattle.sheet_line.proofs.HeadLaws.{zeroValue}
 use Rattle.sheet_line.proofs.FaninLaws.{code-below}
@@ -45,7 +45,7 @@ abbrev loop-of : tie.After-known-told3 Inv-loop μ-loop Inv-lines μ-lines → t
 loop-of c = c .before .before .before .before .before .before .before
 
 -- the number of an accepted fanin has a flag
-code-known : (c : tie.After-known-told3 Inv-loop μ-loop Inv-lines μ-lines) → let b = loop-of c in getD (line-of b .numbers) (b .loop .i + 2) zeroValue .magnitude < codes
+code-known : (c : tie.After-known-told3 Inv-loop μ-loop Inv-lines μ-lines) → let b = loop-of c in getD (line-of b .numbers) (b .loop .i + 2) zeroValue .magnitude < flagCount
 code-known c =
     let f = c .before .before .before in
     let l = lines-of (loop-of c) in

@@ -5,12 +5,12 @@ use lib.ListN.{length}
 use Rattle.sheet.specs.Trusted.Answers.{drawnSheet}
 use Rattle.sheet.specs.Trusted.Formed.{WellFormed}
 use Rattle.part.proofs.Shape.{shaped}
-use Rattle.sheets.specs.SheetsLaws.{number-some, SoFar, so-far-start, so-far-more, few-sheets, on-the-way, ended-stop, ended-all, Stepped, next-formed, stepped-refused, stepped-offered}
+use Rattle.sheets.specs.SheetsLaws.{number-some, SheetsSoFar, sheets-start, sheets-more, few-sheets, on-the-way, ended-stop, ended-all, Stepped, next-formed, stepped-refused, stepped-offered}
 use Rattle.sheets.proofs.add_sheets.Statement.{statement}
 use Rattle.sheets.proofs.add_sheets.Tie as tie
 
 abbrev Inv-loop : tie.InvT-loop
-Inv-loop input start added₀ at₀ sheet₀ added at sheet = SoFar input (added₀ .part) start (added .part) at sheet
+Inv-loop input start added₀ at₀ sheet₀ added at sheet = SheetsSoFar input (added₀ .part) start (added .part) at sheet
 
 abbrev μ-loop : tie.MeasureT-loop
 μ-loop input start added₀ at₀ sheet₀ added at sheet = length input - at
@@ -39,7 +39,7 @@ loop-holds : tie.Need-loop-holds Inv-loop μ-loop
 loop-holds c =
     let a = c .before .args in
     let t = c .before .good .0 .1 .1 .1 .1 .1 .0 in
-    so-far-start (a .input .now) (a .opened) (a .start) (shaped (a .opened) (t .0) (t .1 .0 .1) (t .1 .1)) (c .before .pre)
+    sheets-start (a .input .now) (a .opened) (a .start) (shaped (a .opened) (t .0) (t .1 .0 .1) (t .1 .1)) (c .before .pre)
 
 add-sheet : tie.Need-add-sheet Inv-loop μ-loop
 add-sheet c = record { fits = omega (arith, few-sheets (c .before .loop .inv)) }
@@ -94,7 +94,7 @@ loop-again c =
     let o = a .before in
     let n = o .before .before .before .before .before in
     let l = n .before .before in
-    so-far-more (l .loop .inv) (o .offer .result .part) (a .tell-adding .result) (n .read-next .result .end) (omega arith) (sheet-stepped a) (c .if1 .left)
+    sheets-more (l .loop .inv) (o .offer .result .part) (a .tell-adding .result) (n .read-next .result .end) (omega arith) (sheet-stepped a) (c .if1 .left)
 
 returns-3 : tie.Need-returns-3 Inv-loop μ-loop
 returns-3 c = ended-all (c .before .before .loop .inv) (omega arith)

@@ -20,18 +20,18 @@ allZero = all (λ x. eqb x 0)
 abbrev pub isBlank : Table → Bool
 isBlank r = eqb (r .net) 0 && (eqb (r .count) 0 && (allZero (r .inputs) && eqb (r .truth) 0))
 
-abbrev pub padded : Table → Bool
-padded r = allZero (drop (r .count) (r .inputs))
+abbrev pub isPadded : Table → Bool
+isPadded r = allZero (drop (r .count) (r .inputs))
 
 -- a net, or the name of a table
 abbrev pub isCode : ℕ → Bool
 isCode x = within 1 greatestNet x || ltb tableBase x
 
-abbrev pub coded : Table → Bool
-coded r = leb (r .net) greatestNet && all isCode (reads r)
+abbrev pub isCoded : Table → Bool
+isCoded r = leb (r .net) greatestNet && all isCode (reads r)
 
-abbrev pub sized : ℕ → Table → Bool
-sized k r = leb 2 (r .count) && (leb (r .count) k && (pairwise ltb (reads r) && ltb (r .truth) (2 ^ (2 ^ r .count))))
+abbrev pub isSized : ℕ → Table → Bool
+isSized k r = leb 2 (r .count) && (leb (r .count) k && (pairwise ltb (reads r) && ltb (r .truth) (2 ^ (2 ^ r .count))))
 
 -- an input that names a table names one of the records before, and that one drives no net
 abbrev pub sourced : List Table → ℕ → Bool
@@ -47,7 +47,7 @@ unclaimed before r = eqb (r .net) 0 || (all (clear (r .net)) before && not (elem
 
 -- the record keeps the rules after the records before it
 abbrev pub keeps : ℕ → List Table → Table → Bool
-keeps k before r = padded r && (coded r && (sized k r && (all (sourced before) (reads r) && unclaimed before r)))
+keeps k before r = isPadded r && (isCoded r && (isSized k r && (all (sourced before) (reads r) && unclaimed before r)))
 
 -- none is bad; the first bad one; or refused with this number
 pub data Verdict : Type 0 where

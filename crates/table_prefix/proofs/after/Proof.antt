@@ -7,7 +7,7 @@ use lib.Dec.{eqb}
 use lib.ListN.{set, take}
 use Rattle.table.specs.Trusted.Records.{reads}
 use Rattle.table.specs.PrefixTest.{claimAll}
-use Rattle.table.proofs.Shape.{room, take-room}
+use Rattle.table.proofs.Shape.{inputs-fill, take-room}
 use Rattle.table_prefix.proofs.after.Statement.{statement}
 use Rattle.table_prefix.proofs.after.Tie as tie
 
@@ -47,7 +47,7 @@ returns-2 c =
     rw (lt-ltb _ _ (c .before .before .before .before .before .before .before .before .before .before .before .if1 .left))
     (ap (λ l. record { count = q .count + 1; claimed = l; drives = set (q .drives) (q .count) (not (eqb (r .net) 0)) })
     (c .before .before .claim-all .ensures ∙ ap (λ n. claimAll m (take n (r .inputs))) (c .before .before .before .in-use .ensures)
-    ∙ ap (claimAll m) (take-room (r .inputs) (r .count) (room r (s .good .1 .0 .1 .1 .1 .1 .0 .1 .0 .1)))
+    ∙ ap (claimAll m) (take-room (r .inputs) (r .count) (inputs-fill r (s .good .1 .0 .1 .1 .1 .1 .0 .1 .0 .1)))
     ∙ ap (λ l. claimAll l (reads r)) (c .before .before .before .before .before .before .claim .ensures)))
 
 pub after-spec : {M : Type 1} → statement M

@@ -4,7 +4,7 @@ use borrow.Author.Tests.{not-true, not-false}
 use lib.ListN.{take}
 use Rattle.lists.specs.Trusted.Tests.{all}
 use Rattle.table.specs.PrefixTest.{sourcedIn}
-use Rattle.table.proofs.Shape.{room, take-room}
+use Rattle.table.proofs.Shape.{inputs-fill, take-room}
 use Rattle.table_rules.proofs.keeps.Statement.{statement}
 use Rattle.table_rules.proofs.keeps.Tie as tie
 
@@ -48,7 +48,7 @@ returns-4 c =
     let r = s .args .r in
     let f = sourcedIn (s .args .prefix .drives) (s .args .prefix .count) in
     let e = sym (c .before .before .before .all-sourced .ensures ∙ ap (λ n. all f (take n (r .inputs))) (c .before .before .before .before .in-use .ensures)
-    ∙ ap (all f) (take-room (r .inputs) (r .count) (room r (s .good .1 .1 .0 .1 .1 .1 .1 .0 .1 .0 .1)))) ∙ c .before .before .if4 .taken in
+    ∙ ap (all f) (take-room (r .inputs) (r .count) (inputs-fill r (s .good .1 .1 .0 .1 .1 .1 .1 .0 .1 .0 .1)))) ∙ c .before .before .if4 .taken in
     rw (
       sym (c .before .before .before .before .before .before .before .before .before .before .before .padded .ensures) ∙ not-false _ (c .before .before .before .before .before .before .before .before .before .before .if1 .left),
       sym (c .before .before .before .before .before .before .before .before .before .coded .ensures) ∙ not-false _ (c .before .before .before .before .before .before .before .before .if2 .left),
@@ -62,7 +62,7 @@ returns-5 c =
     let r = s .args .r in
     let f = sourcedIn (s .args .prefix .drives) (s .args .prefix .count) in
     let e = sym (c .before .all-sourced .ensures ∙ ap (λ n. all f (take n (r .inputs))) (c .before .before .in-use .ensures)
-    ∙ ap (all f) (take-room (r .inputs) (r .count) (room r (s .good .1 .1 .0 .1 .1 .1 .1 .0 .1 .0 .1)))) ∙ c .if4 .left in
+    ∙ ap (all f) (take-room (r .inputs) (r .count) (inputs-fill r (s .good .1 .1 .0 .1 .1 .1 .1 .0 .1 .0 .1)))) ∙ c .if4 .left in
     rw (
       sym (c .before .before .before .before .before .before .before .before .before .padded .ensures) ∙ not-false _ (c .before .before .before .before .before .before .before .before .if1 .left),
       sym (c .before .before .before .before .before .before .before .coded .ensures) ∙ not-false _ (c .before .before .before .before .before .before .if2 .left),

@@ -4,7 +4,7 @@ use borrow.Author.Needs.{needs}
 use borrow.Author.Tests.{eq-eqb, ne-eqb}
 use lib.ListN.{take}
 use Rattle.lists.specs.Trusted.Tests.{elem}
-use Rattle.table.proofs.Shape.{room, take-room}
+use Rattle.table.proofs.Shape.{inputs-fill, take-room}
 use Rattle.table_rules.proofs.unclaimed.Statement.{statement}
 use Rattle.table_rules.proofs.unclaimed.Tie as tie
 
@@ -29,7 +29,7 @@ returns-3 c =
     let r = s .args .r in
     rw (ne-eqb _ _ (c .before .before .before .before .if1 .left), sym (c .before .before .before .is-claimed .ensures) ∙ c .before .before .if2 .left)
     (ap not (c .reads-net .ensures ∙ ap (λ n. elem (r .net) (take n (r .inputs))) (c .before .in-use .ensures)
-    ∙ ap (elem (r .net)) (take-room (r .inputs) (r .count) (room r (s .good .1 .0 .1 .1 .1 .1 .0 .1 .0 .1)))))
+    ∙ ap (elem (r .net)) (take-room (r .inputs) (r .count) (inputs-fill r (s .good .1 .0 .1 .1 .1 .1 .0 .1 .0 .1)))))
 
 pub unclaimed-spec : {M : Type 1} → statement M
 unclaimed-spec =

@@ -13,7 +13,7 @@ use Rattle.mapper_laws.specs.declared.Mapping.{Mapping}
 use Rattle.part.specs.Trusted.Parts.{tablesOf, Shaped}
 use Rattle.part.specs.Trusted.Answers.{accepted}
 use Rattle.part.specs.Trusted.Add.{isDriven, isRead, Offer}
-use Rattle.part.specs.Storing.{sheetOf}
+use Rattle.part.specs.Storing.{circuitOf}
 use Rattle.part.specs.StoringLaws.{used-padded, Looked, looked-none, looked-more, looked-all, offer-driven, offer-read, offer-full, offer-stored, offer-same}
 use Rattle.part.specs.declared.Part.{Part}
 use Rattle.part.specs.declared.Adding.the-variants.{OutputDriven, OutputRead, Full}
@@ -98,8 +98,8 @@ returns : tie.Need-returns Inv-loop μ-loop Inv-loop2 μ-loop2
 returns c =
     let d = c .before .before in
     let a = d .before .before .args in
-    offer-same (c .refused .result) (a .t1) OutputDriven (c .refused .ensures) (a .t1) (sheetOf (a .sheet))
-    (offer-driven (a .t1) (sheetOf (a .sheet)) (uses-are d .0 ∙ c .before .if1 .taken))
+    offer-same (c .refused .result) (a .t1) OutputDriven (c .refused .ensures) (a .t1) (circuitOf (a .sheet))
+    (offer-driven (a .t1) (circuitOf (a .sheet)) (uses-are d .0 ∙ c .before .if1 .taken))
 
 refused-requires-2 : tie.Need-refused-requires-2 Inv-loop μ-loop Inv-loop2 μ-loop2
 refused-requires-2 c κs = search needs
@@ -108,8 +108,8 @@ returns-2 : tie.Need-returns-2 Inv-loop μ-loop Inv-loop2 μ-loop2
 returns-2 c =
     let d = c .before .before in
     let a = d .before .before .before .args in
-    offer-same (c .refused2 .result) (a .t1) OutputRead (c .refused2 .ensures) (a .t1) (sheetOf (a .sheet))
-    (offer-read (a .t1) (sheetOf (a .sheet)) (not-driven d) (uses-are (d .before) .1 ∙ c .before .if2 .taken))
+    offer-same (c .refused2 .result) (a .t1) OutputRead (c .refused2 .ensures) (a .t1) (circuitOf (a .sheet))
+    (offer-read (a .t1) (circuitOf (a .sheet)) (not-driven d) (uses-are (d .before) .1 ∙ c .before .if2 .taken))
 
 map-requires : tie.Need-map-requires Inv-loop μ-loop Inv-loop2 μ-loop2
 map-requires c κs = search needs
@@ -126,7 +126,7 @@ returns-3 c =
     let d = m .before in
     let s = d .before .before .before .before in
     let a = s .args in
-    offer-same (c .refused3 .result) (a .t1) Full (c .refused3 .ensures) (a .t1) (sheetOf (a .sheet))
+    offer-same (c .refused3 .result) (a .t1) Full (c .refused3 .ensures) (a .t1) (circuitOf (a .sheet))
     (offer-full (a .t1) (self-shaped s) (s .pre .0) (a .sheet) (m .map .result) (m .map .ensures) (not-driven (d .before)) (not-read d) (c .before .if3 .taken))
 
 cast-count : tie.Need-cast-count Inv-loop μ-loop Inv-loop2 μ-loop2
@@ -181,7 +181,7 @@ returns-4 c =
     let p = s .args .t1 in
     let e : l .n ≡ m .map .result .count = omega arith in
     let i = ap (counting (p .used + m .map .result .count)) (l .inv .1 ∙ ap (λ n. holding p (pasted p (m .map .result) n)) e) in
-    subst (λ q. Offer p (sheetOf (s .args .sheet)) q accepted) (sym i)
+    subst (λ q. Offer p (circuitOf (s .args .sheet)) q accepted) (sym i)
     (offer-stored p (self-shaped s) (s .pre .0) (s .args .sheet) (m .map .result) (m .map .ensures) (not-driven (d .before)) (not-read d) (c .before .before .if3 .left))
 
 pub offer-spec : {M : Type 1} → statement M
