@@ -9,12 +9,13 @@ use lib.ListN.{length, length-replicate}
 use Rattle.lists.specs.Trusted.Lists.{Every}
 use Rattle.lists.specs.Trusted.Tests.{elem, within}
 use Rattle.lists.specs.TestLaws.{Reflects, reflects-le, reflects-eq, reflects-any, reflects-elem, reflects-within, by-reflects, by-either}
+use Rattle.tree.specs.Trusted.Limits.{codeBase}
 use Rattle.cover.specs.Trusted.Cover.{Least}
 use Rattle.plan.specs.Least.{least-unique}
 use Rattle.cover.specs.Trusted.Tables.{LookupTable}
 use Rattle.cover.specs.Trusted.CoverTables.{Circuit, Fresh}
 use Rattle.cover.specs.CoverTableLaws.{added-sized}
-use Rattle.table.specs.Trusted.Limits.{tableBase, inputRoom, tableRoom, KRange, CapacityRange}
+use Rattle.table.specs.Trusted.Limits.{inputRoom, tableRoom, KRange, CapacityRange}
 use Rattle.table.specs.Trusted.Records.{blank}
 use Rattle.table.specs.Trusted.Rules.{Blank}
 use Rattle.table.specs.TestedLaws.{no-records}
@@ -148,7 +149,7 @@ module _ (p : Part) (shape : Shaped p) where
     where
       narrow : Every (λ u. length (u .inputs) ≤ inputRoom) (t .new)
       narrow = every-numbered (λ u. length (u .inputs) ≤ inputRoom) (length (tablesOf p)) (t .new)
-          (λ x m. omega (arith, h .k-range .1, added-sized tableBase (p .k) (tablesOf p) (t .new) s (t .least .added) x m .most))
+          (λ x m. omega (arith, h .k-range .1, added-sized codeBase (p .k) (tablesOf p) (t .new) s (t .least .added) x m .most))
 
 -- two answers
 pub not-refused : {number place : ℕ} {a : Answer} → a ≡ refused number place → a ≡ accepted → ⊥

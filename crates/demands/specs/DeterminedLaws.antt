@@ -10,12 +10,12 @@ use lib.Dec.{T, leb, eqb}
 use lib.ListN.{length}
 use Rattle.lists.specs.Trusted.Tests.{elem, either}
 use Rattle.lists.specs.TestLaws.{reflects-le, reflects-eq, reflects-or, reflects-elem, by-reflects, reflects-same, reflects-true}
+use Rattle.tree.specs.Trusted.Limits.{codeBase}
 use Rattle.tree.specs.Trusted.Tree.{proper}
 use Rattle.tree.specs.Leaves.{leaves}
 use Rattle.cover.specs.Trusted.Cover.{Least}
 use Rattle.plan.specs.Least.{least-unique, least-tables, least-is}
 use Rattle.cover.specs.Trusted.CoverTables.{Circuit, Fresh}
-use Rattle.table.specs.Trusted.Limits.{tableBase}
 use Rattle.table.specs.Trusted.Rules.{IsNet}
 use Rattle.part.specs.Trusted.Parts.{tablesOf, Shaped}
 use Rattle.part.specs.Trusted.Sound.{Sound}
@@ -134,11 +134,11 @@ module _ (p : Part) (shape : Shaped p) (text : List ℕ) where
     sound = reflects-true (sound-reflects q)
         (subst Sound (sym (t .part)) (extended-sound p shape h (t .new) s (reads-right text s e .legal) (t .least .added) f room));
     driven = λ n l. reflects-same (driven-reflects n (tablesOf q)) (reflects-or (driven-reflects n (tablesOf p)) (reflects-eq (s .out) n))
-        (λ d. drives-after tableBase (p .k) (tablesOf p) (t .new) s (t .least .added) n (l .0) (subst (λ ts. Driven n ts) grown d))
-        (λ d. subst (λ ts. Driven n ts) (sym grown) (drives-still tableBase (p .k) (tablesOf p) (t .new) s (t .least .added) n d));
+        (λ d. drives-after codeBase (p .k) (tablesOf p) (t .new) s (t .least .added) n (l .0) (subst (λ ts. Driven n ts) grown d))
+        (λ d. subst (λ ts. Driven n ts) (sym grown) (drives-still codeBase (p .k) (tablesOf p) (t .new) s (t .least .added) n d));
     read = λ n l. reflects-same (read-reflects n (tablesOf q)) (reflects-or (read-reflects n (tablesOf p)) (reflects-elem n (leaves (s .tree))))
-        (λ d. reads-after tableBase (p .k) (tablesOf p) (t .new) s (t .least .added) n (omega (arith, l .1)) (subst (λ ts. Read n ts) grown d))
-        (λ d. subst (λ ts. Read n ts) (sym grown) (reads-still tableBase (p .k) (tablesOf p) (t .new) s (t .least .added) n d));
+        (λ d. reads-after codeBase (p .k) (tablesOf p) (t .new) s (t .least .added) n (omega (arith, l .1)) (subst (λ ts. Read n ts) grown d))
+        (λ d. subst (λ ts. Read n ts) (sym grown) (reads-still codeBase (p .k) (tablesOf p) (t .new) s (t .least .added) n d));
   }
     where
       grown : tablesOf q ≡ tablesOf p ++ t .new

@@ -8,13 +8,14 @@ use lib.ListN.{length, take, drop, replicate, length-append, length-map, length-
 use lib.Seq.{drop-append-seam, take-at, drop-at, drop-drop}
 use Rattle.lists.specs.Trusted.Lists.{_∈_, first, later, Every}
 use Rattle.lists.specs.ListLaws.{every-none, every-cons, every-head, every-tail, every-append}
+use Rattle.tree.specs.Trusted.Limits.{codeBase}
 use Rattle.cover.specs.Trusted.Tables.{LookupTable, Placed, numbered}
 use Rattle.cover.specs.Eval.{numbered-is}
 use Rattle.cover.specs.Trusted.Placed.{rootNumber}
 use Rattle.cover.specs.Trusted.CoverTables.{Circuit, CoverTables, Fresh}
 use Rattle.cover.specs.Legal.{Legal}
 use Rattle.cover.specs.CoverTableLaws.{added-sized, added-rising, added-tidy, added-inputs, added-drives}
-use Rattle.table.specs.Trusted.Limits.{tableBase, inputRoom}
+use Rattle.table.specs.Trusted.Limits.{inputRoom}
 use Rattle.table.specs.Trusted.Records.{tableOf, recordOf}
 use Rattle.table.specs.RecordLaws.{read-back, all-back}
 use Rattle.table.specs.Trusted.Rules.{Padded, Coded, Sized, Sourced, DrivenOnce, ReadAfter, EveryTwo, places}
@@ -70,8 +71,8 @@ record-room t h = simp (length-append, length-replicate) (omega arith)
 
 -- ---- the tables of a sheet, after the records of a part
 
-module _ (k : ℕ) (old : List Table) (new : List LookupTable) (s : Circuit) (legal : Legal tableBase s)
-    (a : CoverTables tableBase k (map tableOf old) new s) where
+module _ (k : ℕ) (old : List Table) (new : List LookupTable) (s : Circuit) (legal : Legal codeBase s)
+    (a : CoverTables codeBase k (map tableOf old) new s) where
   ps : List Placed
   ps = numbered (length (map tableOf old)) new
 
@@ -80,15 +81,15 @@ module _ (k : ℕ) (old : List Table) (new : List LookupTable) (s : Circuit) (le
   places-new = ap₂ numbered (sym (length-map old tableOf)) (all-back new)
 
   -- an input is a leaf of the sheet, or names an earlier one of the new tables
-  input-cases : (Z : Type 0) (p : Placed) → p ∈ ps → (x : ℕ) → x ∈ p .1 .inputs → ((0 < x) × (x < tableBase) × (x ≢ s .out) → Z) →
-      ((t : ℕ) × (x ≡ tableBase + t) × (length (map tableOf old) < t) × (t < p .0) → Z) → Z
+  input-cases : (Z : Type 0) (p : Placed) → p ∈ ps → (x : ℕ) → x ∈ p .1 .inputs → ((0 < x) × (x < codeBase) × (x ≢ s .out) → Z) →
+      ((t : ℕ) × (x ≡ codeBase + t) × (length (map tableOf old) < t) × (t < p .0) → Z) → Z
   unfolding ps
-  input-cases Z p m x i f g = ⊎-elim (λ l. f (legal .leaf-nets x l)) g (added-inputs tableBase k (map tableOf old) new s a p m x i)
+  input-cases Z p m x i f g = ⊎-elim (λ l. f (legal .leaf-nets x l)) g (added-inputs codeBase k (map tableOf old) new s a p m x i)
 
   -- what is driven is the output net, by one table
   drive-cases : (p : Placed) → p ∈ ps → (p .1 .drives ≡ 0) ⊎ ((p .1 .drives ≡ s .out) × (p .0 ≡ rootNumber (a .cover)))
   unfolding ps
-  drive-cases p m = added-tidy tableBase k (map tableOf old) new s a p m .0
+  drive-cases p m = added-tidy codeBase k (map tableOf old) new s a p m .0
 
   new-coded : Every (λ t. Coded (recordOf t)) new
   unfolding ps
@@ -100,15 +101,15 @@ module _ (k : ℕ) (old : List Table) (new : List LookupTable) (s : Circuit) (le
   new-sized : Every (λ t. Sized k (recordOf t)) new
   unfolding ps
   new-sized = every-numbered (λ t. Sized k (recordOf t)) (length (map tableOf old)) new (λ p m.
-      let z = added-sized tableBase k (map tableOf old) new s a p m in
-      (z .least, z .most, rw (ap (λ t. t .inputs) (read-back (p .1))) (added-rising tableBase k (map tableOf old) new s a legal p m), z .bits))
+      let z = added-sized codeBase k (map tableOf old) new s a p m in
+      (z .least, z .most, rw (ap (λ t. t .inputs) (read-back (p .1))) (added-rising codeBase k (map tableOf old) new s a legal p m), z .bits))
 
   new-sourced : Every (Sourced (places old ++ ps)) ps
   unfolding ps
   new-sourced p m x i h = input-cases _ p m x i (λ l. absurd (omega (arith, h, l))) found
     where
-      found : (t : ℕ) × (x ≡ tableBase + t) × (length (map tableOf old) < t) × (t < p .0) →
-          (q : Placed) × (q ∈ places old ++ ps) × (x ≡ tableBase + q .0) × (q .0 < p .0) × (q .1 .drives ≡ 0)
+      found : (t : ℕ) × (x ≡ codeBase + t) × (length (map tableOf old) < t) × (t < p .0) →
+          (q : Placed) × (q ∈ places old ++ ps) × (x ≡ codeBase + q .0) × (q .0 < p .0) × (q .1 .drives ≡ 0)
       found t =
           let l = numbered-is (length (map tableOf old)) new p m in
           let q = numbered-at (length (map tableOf old)) new (t .0 - suc (length (map tableOf old))) (omega (arith, t .2, t .3, l .1)) in
@@ -117,7 +118,7 @@ module _ (k : ℕ) (old : List Table) (new : List LookupTable) (s : Circuit) (le
             Memᴰ·append-right (places old) (q .1),
             omega (arith, e, t .1),
             omega (arith, e, t .3),
-            added-drives tableBase k (map tableOf old) new s a (q .0) (q .1) .0 (omega (arith, e, t .3, l .1)),
+            added-drives codeBase k (map tableOf old) new s a (q .0) (q .1) .0 (omega (arith, e, t .3, l .1)),
           )
 
   new-once : EveryTwo DrivenOnce ps
@@ -175,7 +176,7 @@ module _ (p : Part) (shape : Shaped p) (h : Sound p) (new : List LookupTable) wh
         (every-drop (p .used + length new) (p .tables) (shape .inputs));
   }
 
-  pub extended-sound : (s : Circuit) → Legal tableBase s → CoverTables tableBase (p .k) (tablesOf p) new s → Fresh s (tablesOf p) →
+  pub extended-sound : (s : Circuit) → Legal codeBase s → CoverTables codeBase (p .k) (tablesOf p) new s → Fresh s (tablesOf p) →
       p .used + length new ≤ p .capacity → Sound (extended p new)
   extended-sound s l a f room = record {
     k-range = h .k-range;

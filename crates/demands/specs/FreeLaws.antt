@@ -9,10 +9,10 @@ use mathlib.Core.List.{List, [], _∷_, map, Memᴰ·cast, Memᴰ·of-map, List�
 use Rattle.lists.specs.Cases.{by-eqb}
 use Rattle.lists.specs.Trusted.Lists.{_∈_, first, later, Every}
 use Rattle.lists.specs.ListLaws.{not-first, every-head, every-tail}
+use Rattle.tree.specs.Trusted.Limits.{codeBase}
 use Rattle.cover.specs.Trusted.Bits.{bit, index}
 use Rattle.cover.specs.Trusted.Tables.{LookupTable, output, Placed, numbered, put, writes, step, run, settled}
 use Rattle.cover.specs.Eval.{in-driven, driven-in, numbered-is}
-use Rattle.table.specs.Trusted.Limits.{tableBase}
 use Rattle.table.specs.Trusted.Records.{tableOf}
 use Rattle.table.specs.Trusted.Rules.{IsNet, places, Rules}
 use Rattle.part.specs.Trusted.Parts.{inUse, tablesOf}
@@ -38,19 +38,19 @@ numbered-in n (u ∷ ts) t (later m) = let h = numbered-in (suc n) ts t m in (h 
 module _ (k : ℕ) (rs : List Table) (h : Rules k rs) where
   -- a net, or the code of a table
   abbrev Valid : ℕ → Type 0
-  Valid c = IsNet c ⊎ ((p : Placed) × (p ∈ places rs) × (c ≡ tableBase + p .0))
+  Valid c = IsNet c ⊎ ((p : Placed) × (p ∈ places rs) × (c ≡ codeBase + p .0))
 
   abbrev Written : List Placed → ℕ → Type 0
-  Written qs c = (q : Placed) × (q ∈ qs) × (c ∈ writes tableBase q)
+  Written qs c = (q : Placed) × (q ∈ qs) × (c ∈ writes codeBase q)
 
   -- an input is a net or the code of an earlier table
-  input : (q : Placed) → q ∈ places rs → (x : ℕ) → x ∈ q .1 .inputs → IsNet x ⊎ ((p : Placed) × (p ∈ places rs) × (x ≡ tableBase + p .0) × (p .0 < q .0))
+  input : (q : Placed) → q ∈ places rs → (x : ℕ) → x ∈ q .1 .inputs → IsNet x ⊎ ((p : Placed) × (p ∈ places rs) × (x ≡ codeBase + p .0) × (p .0 < q .0))
   input q m x i =
       let r = Memᴰ·of-map tableOf rs (numbered-is 0 (map tableOf rs) q m .2) in
       ⊎-elim inl (λ t. let p = h .sourced q m x i t in inr (p .0, p .1, p .2, p .3)) (h .coded (r .0) (r .1) .1 x (subst (λ t. x ∈ t .inputs) (sym (r .2)) i))
 
   -- no table from the reader on writes it
-  not-written : (q : Placed) → q ∈ places rs → (x : ℕ) → x ∈ q .1 .inputs → (p : Placed) → p ∈ places rs → q .0 ≤ p .0 → ¬ (x ∈ writes tableBase p)
+  not-written : (q : Placed) → q ∈ places rs → (x : ℕ) → x ∈ q .1 .inputs → (p : Placed) → p ∈ places rs → q .0 ≤ p .0 → ¬ (x ∈ writes codeBase p)
   not-written q m x i p j l (first e) =
       ⊎-elim (λ n. omega (arith, e, n)) (λ t. omega (arith, e, t .2, t .3)) (input q m x i)
   not-written q m x i p j l (later w) =
@@ -60,17 +60,17 @@ module _ (k : ℕ) (rs : List Table) (h : Rules k rs) where
 
   values-same : (n : ℕ) (ts : List LookupTable) → Every (λ p. p ∈ places rs) (numbered n ts) → (d e : ℕ → Bool) →
       ((c : ℕ) → Valid c → ¬ (Written (numbered n ts) c) → d c ≡ e c) → (c : ℕ) → Valid c →
-      run tableBase (numbered n ts) d c ≡ run tableBase (numbered n ts) e c
+      run codeBase (numbered n ts) d c ≡ run codeBase (numbered n ts) e c
   values-same n [] f d e g c v = g c v (λ w. List·Memᴰ·not-nil (w .1))
   values-same n (t ∷ ts) f d e g c v =
-      values-same (suc n) ts (every-tail f) (step tableBase (suc n, t) d) (step tableBase (suc n, t) e)
-      (λ x u w. put-same (writes tableBase (suc n, t)) (output t d) (output t e) d e x out (λ o. g x u (other x w o))) c v
+      values-same (suc n) ts (every-tail f) (step codeBase (suc n, t) d) (step codeBase (suc n, t) e)
+      (λ x u w. put-same (writes codeBase (suc n, t)) (output t d) (output t e) d e x out (λ o. g x u (other x w o))) c v
     where
-      other : (x : ℕ) → ¬ (Written (numbered (suc n) ts) x) → ¬ (x ∈ writes tableBase (suc n, t)) → ¬ (Written ((suc n, t) ∷ numbered (suc n) ts) x)
+      other : (x : ℕ) → ¬ (Written (numbered (suc n) ts) x) → ¬ (x ∈ writes codeBase (suc n, t)) → ¬ (Written ((suc n, t) ∷ numbered (suc n) ts) x)
       other x w o y = one (y .0) (y .1) (y .2)
         where
-          one : (p : Placed) → p ∈ (suc n, t) ∷ numbered (suc n) ts → x ∈ writes tableBase p → ⊥
-          one p (first q) i = o (subst (λ z. x ∈ writes tableBase z) q i)
+          one : (p : Placed) → p ∈ (suc n, t) ∷ numbered (suc n) ts → x ∈ writes codeBase p → ⊥
+          one p (first q) i = o (subst (λ z. x ∈ writes codeBase z) q i)
           one p (later m) i = w (p, m, i)
 
       reads : Every (λ x. d x ≡ e x) (t .inputs)
@@ -82,7 +82,7 @@ module _ (k : ℕ) (rs : List Table) (h : Rules k rs) where
 
 -- THE VALUES OF A SOUND PART depend on the free nets alone
 pub values-by-free-nets : (p : Part) → Sound p → (σ τ : ℕ → Bool) → ((n : ℕ) → IsNet n → ¬ (Driven n (tablesOf p)) → σ n ≡ τ n) → (n : ℕ) → IsNet n →
-    settled tableBase (tablesOf p) σ n ≡ settled tableBase (tablesOf p) τ n
+    settled codeBase (tablesOf p) σ n ≡ settled codeBase (tablesOf p) τ n
 values-by-free-nets p h σ τ g n l = values-same (p .k) (inUse p) (h .rules) 0 (tablesOf p) (λ q m. m) σ τ unwritten n (inl l)
   where
     -- a net that is driven is written

@@ -11,6 +11,7 @@ use Rattle.lists.specs.ListLaws.{every-none, every-cons, every-append, every-le
 use Rattle.lists.specs.NumberLaws.{sorted-permuted}
 use Rattle.lists.specs.Trusted.Tests.{either}
 use Rattle.lists.specs.TestLaws.{reflects-le, by-reflects}
+use Rattle.tree.specs.Trusted.Limits.{codeBase}
 use Rattle.tree.specs.declared.Kind.{Kind}
 use Rattle.tree.specs.Trusted.Tree.{Node, Edges}
 use Rattle.cover.specs.Trusted.Cover.{Cover, net, top, Fanins, end, old, new, pick, arity, frontier, tables, tables*, width, widths, Fits, Fits*, SplitOf, split, Matched, done, match, Rooted, rooted, CoverOf, Least}
@@ -20,7 +21,6 @@ use Rattle.cover.specs.Eval.{numbered-append}
 use Rattle.cover.specs.Trusted.Placed.{rootNumber, placed, code, codes, codes*, gateTable, records, records*}
 use Rattle.cover.specs.Trusted.CoverTables.{Circuit, CoverTables}
 use Rattle.cover.specs.Legal.{Legal}
-use Rattle.table.specs.Trusted.Limits.{tableBase}
 use Rattle.part.specs.Trusted.Parts.{tablesOf}
 use Rattle.part.specs.Trusted.Sound.{Sound}
 use Rattle.part.specs.SoundLaws.{sound-reflects}
@@ -245,7 +245,7 @@ module _ (p : Part) (text : List ℕ) where
   accepted-possible : (s : Circuit) → Readable s → Least (p .k) (s .tree) (leastNumber (p .k) s) → (q : Part) × (a : Answer) × Accepted p s q a
   accepted-possible s r l =
       let c = l .some in
-      let n = cover-added tableBase (p .k) (tablesOf p) s (r .legal) (c .0) (c .1) in (
+      let n = cover-added codeBase (p .k) (tablesOf p) s (r .legal) (c .0) (c .1) in (
         extended p (n .0),
         accepted,
         record {

@@ -8,6 +8,7 @@ use mathlib.Core.List.{List, [], _∷_, _++_, append-assoc, append-nil, Memᴰ·
 use lib.ListN.{length, length-take}
 use Rattle.lists.specs.Trusted.Lists.{_∈_, first, later, Every}
 use Rattle.lists.specs.ListLaws.{every-none, every-cons, every-append}
+use Rattle.tree.specs.Trusted.Limits.{codeBase}
 use Rattle.cover.specs.Trusted.Tables.{LookupTable}
 use Rattle.cover.specs.Trusted.CoverTables.{Circuit}
 use Rattle.cover.specs.History.{History, start, Met}
@@ -16,7 +17,6 @@ use Rattle.sheet.specs.Trusted.Sheet.{DrawnSheet, sheet as drew}
 use Rattle.sheet.specs.Trusted.Read.{readSheet}
 use Rattle.sheet.specs.Trusted.Trees.{drawn}
 use Rattle.sheet.specs.ValueLaws.{sheet-value}
-use Rattle.table.specs.Trusted.Limits.{tableBase}
 use Rattle.table.specs.Trusted.Records.{tableOf}
 use Rattle.part.specs.Trusted.Parts.{inUse, tablesOf, Shaped}
 use Rattle.part.specs.Trusted.Sound.{Sound}
@@ -70,7 +70,7 @@ same-grows p q e = ([], ap tablesOf e ∙ sym (append-nil (tablesOf p)))
 
 -- a history of the part goes on by the sheets that the call accepted
 abbrev Goes : ℕ → Part → List Circuit → List Circuit → Type 0
-Goes k q ss more = (all : List Circuit) × History tableBase k (tablesOf q) all × Every (λ s. s ∈ all) ss × Every (λ s. s ∈ all) more
+Goes k q ss more = (all : List Circuit) × History codeBase k (tablesOf q) all × Every (λ s. s ∈ all) ss × Every (λ s. s ∈ all) more
 
 module _ (p : Part) (shape : Shaped p) (text : List ℕ) where
   outcome-grows : {q : Part} {a : Answer} → AddCase p text q a → Grows p q
@@ -81,11 +81,11 @@ module _ (p : Part) (shape : Shaped p) (text : List ℕ) where
   outcome-grows (full s n h e f l m r) = same-grows p _ (r .0)
   outcome-grows (taken s h e f t room) = (t .new, ap tablesOf (t .part) ∙ extended-tables p shape h (t .new))
 
-  module _ (ss : List Circuit) (history : History tableBase (p .k) (tablesOf p) ss) where
+  module _ (ss : List Circuit) (history : History codeBase (p .k) (tablesOf p) ss) where
     same-goes : (number place : ℕ) (q : Part) (a : Answer) → Refused p number place q a → Goes (p .k) q ss (ifAccepted a (sheetsRead (readOf text)))
     same-goes number place q a r = (
       ss,
-      subst (λ q. History tableBase (p .k) (tablesOf q) ss) (sym (r .0)) history,
+      subst (λ q. History codeBase (p .k) (tablesOf q) ss) (sym (r .0)) history,
       λ s m. m,
       subst (λ a. Every (λ s. s ∈ ss) (ifAccepted a (sheetsRead (readOf text)))) (sym (r .1)) (every-none _),
     )
@@ -98,7 +98,7 @@ module _ (p : Part) (shape : Shaped p) (text : List ℕ) where
     outcome-goes (full s n h e f l m r) = same-goes _ _ _ _ r
     outcome-goes (taken s h e f t room) = (
       s ∷ ss,
-      subst (λ ts. History tableBase (p .k) ts (s ∷ ss)) (sym (ap tablesOf (t .part) ∙ extended-tables p shape h (t .new)))
+      subst (λ ts. History codeBase (p .k) ts (s ∷ ss)) (sym (ap tablesOf (t .part) ∙ extended-tables p shape h (t .new)))
           (History.add history (reads-right text s e .legal) (t .least .added) f),
       λ u m. later m,
       subst (λ us. Every (λ u. u ∈ s ∷ ss) us) (sym (ap₂ (λ a v. ifAccepted a (sheetsRead v)) (t .answer) e)) (every-cons (first refl) (every-none _)),
@@ -107,7 +107,7 @@ module _ (p : Part) (shape : Shaped p) (text : List ℕ) where
 call-grows : (p : Part) → Shaped p → (c : Call) (q : Part) (a : Answer) → Promise p c q a → Grows p q
 call-grows p shape (add text) q a h = outcome-grows p shape text (add-case p text q a h)
 
-call-goes : (p : Part) → Shaped p → (ss : List Circuit) → History tableBase (p .k) (tablesOf p) ss → (c : Call) (q : Part) (a : Answer) →
+call-goes : (p : Part) → Shaped p → (ss : List Circuit) → History codeBase (p .k) (tablesOf p) ss → (c : Call) (q : Part) (a : Answer) →
     Promise p c q a → Goes (p .k) q ss (ifAccepted a (sheetsOf c))
 call-goes p shape ss g (add text) q a h = outcome-goes p shape text ss g (add-case p text q a h)
 
@@ -119,14 +119,14 @@ chain-grows {p} (call {c = c} {r = r} h t) shape =
     (g .0 ++ i .0, i .1 ∙ ap (λ ts. ts ++ i .0) (g .1) ∙ append-assoc (tablesOf p) (g .0) (i .0))
 
 chain-goes : {p : Part} {cs : List Call} {rs : List Result} → Chain p cs rs → Shaped p → (ss : List Circuit) →
-    History tableBase (p .k) (tablesOf p) ss → Goes (p .k) (final p rs) ss (acceptedIn cs rs)
+    History codeBase (p .k) (tablesOf p) ss → Goes (p .k) (final p rs) ss (acceptedIn cs rs)
 chain-goes {p} done shape ss g = (ss, g, λ s m. m, every-none _)
 chain-goes {p} (call {c = c} {cs = cs} {r = r} {rs = rs} h t) shape ss g =
     let k = call-kept p shape c (r .part) (r .answer) h in
     let x = call-goes p shape ss g c (r .part) (r .answer) h in
-    let y = chain-goes t (k .shaped) (x .0) (subst (λ n. History tableBase n (tablesOf (r .part)) (x .0)) (sym (k .same-k)) (x .1)) in (
+    let y = chain-goes t (k .shaped) (x .0) (subst (λ n. History codeBase n (tablesOf (r .part)) (x .0)) (sym (k .same-k)) (x .1)) in (
       y .0,
-      subst (λ n. History tableBase n (tablesOf (final (r .part) rs)) (y .0)) (k .same-k) (y .1),
+      subst (λ n. History codeBase n (tablesOf (final (r .part) rs)) (y .0)) (k .same-k) (y .1),
       λ s m. y .2 s (x .2 s m),
       every-append (ifAccepted (r .answer) (sheetsOf c)) (acceptedIn cs rs) (λ s m. y .2 s (x .3 s m)) (y .3),
     )
@@ -143,7 +143,7 @@ link-accepted : {p o : Part} {cs : List Call} {rs : List Result} {ss : List Circ
 link-accepted (here {cs = cs} {rs = rs}) s m = Memᴰ·append-left (acceptedIn cs rs) m
 link-accepted (next {c = c} {r = r} l) s m = Memᴰ·append-right (ifAccepted (r .answer) (sheetsOf c)) (link-accepted l s m)
 
-module _ (p : Part) (shape : Shaped p) (history : History tableBase (p .k) (tablesOf p) []) (cs : List Call) (rs : List Result)
+module _ (p : Part) (shape : Shaped p) (history : History codeBase (p .k) (tablesOf p) []) (cs : List Call) (rs : List Result)
     (chain : Chain p cs rs) where
   add-served : (ss : List Circuit) (o : Part) (text : List ℕ) (r : Result) → Link p cs rs ss o (add text) r → r .answer ≡ accepted →
       (d : DrawnSheet) × (new : List LookupTable) × Served (final p rs) o text r d new
@@ -171,7 +171,7 @@ module _ (p : Part) (shape : Shaped p) (history : History tableBase (p .k) (tabl
       mine = subst (λ us. t .0 ∈ us) (sym (ap₂ (λ a v. ifAccepted a (sheetsRead v)) e (t .2 .read))) (first refl)
 
       met : (σ : ℕ → Bool) → Met (valuesIn (final p rs) σ) (t .0)
-      met σ = history-met tableBase (p .k) (g .1) σ (t .0) (g .3 (t .0) (link-accepted l (t .0) mine))
+      met σ = history-met codeBase (p .k) (g .1) σ (t .0) (g .3 (t .0) (link-accepted l (t .0) mine))
 
   served : (ss : List Circuit) (o : Part) (c : Call) (r : Result) → Link p cs rs ss o c r → CallServed (final p rs) o c r
   served ss o (add text) r l = add-served ss o text r l
@@ -182,4 +182,4 @@ pub opened-served : (k capacity : ℕ) → (opened k capacity) .answer ≡ accep
     Link ((opened k capacity) .part) cs rs ss o c r → CallServed (lastPart k capacity rs) o c r
 opened-served k capacity a cs rs chain ss o c r l =
     let e = opened-empty k capacity a in
-    served ((opened k capacity) .part) (opened-shaped k capacity) (subst (λ q. History tableBase (q .k) (tablesOf q) []) (sym e) start) cs rs chain ss o c r l
+    served ((opened k capacity) .part) (opened-shaped k capacity) (subst (λ q. History codeBase (q .k) (tablesOf q) []) (sym e) start) cs rs chain ss o c r l

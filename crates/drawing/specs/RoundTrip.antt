@@ -14,12 +14,12 @@ use Rattle.lists.specs.Trusted.Tests.{elem}
 use Rattle.lists.specs.TestLaws.{reflects-lt, reflects-eq, reflects-not, reflects-elem, reflects-within, reflects-true}
 use Rattle.tree.specs.declared.Kind.{Kind}
 use Rattle.tree.specs.declared.Kind.the-variants.{And as and, Or as or}
-use Rattle.tree.specs.Trusted.Limits.{greatestNet, fewestFanins, mostFanins}
+use Rattle.tree.specs.Trusted.Limits.{greatestNet, fewestFanins, mostFanins, codeBase}
 use Rattle.decimal.specs.Trusted.Number.{columns, Within}
 use Rattle.sheet.specs.declared.Source.{Source}
 use Rattle.sheet.specs.declared.Source.the-variants.{Net as net, Gate as gate}
 use Rattle.sheet.specs.declared.Edge.{Edge as Fanin}
-use Rattle.sheet.specs.Trusted.Limits.{gateBase, mostGates, mostLeaves}
+use Rattle.sheet.specs.Trusted.Limits.{mostGates, mostLeaves}
 use Rattle.sheet.specs.Trusted.Line.{fields}
 use Rattle.sheet.specs.Trusted.Sheet.{DrawnGate, DrawnSheet, sheet, netOf, gateOf, codeOf, faninNets, faninGates, leafNets, gatesRead, from}
 use Rattle.sheet.specs.Trusted.Step.{Step, good, _>>=_, require, given}
@@ -51,7 +51,7 @@ small b n l u = record { size = omega arith; sign = λ e. (l, omega arith) }
 
 source-small : (g : ℕ) (b : Bool) (s : Source) → g ≤ mostGates → Every Net (netOf s) → Every (Before g) (gateOf s) → Within columns (signedNumber b (codeOf s))
 source-small g b (net n) m h k = let r = every-head h in small b n (r .0) (omega arith)
-source-small g b (gate j) m h k = let r = every-head k in small b (gateBase + j) (omega arith) (omega arith)
+source-small g b (gate j) m h k = let r = every-head k in small b (codeBase + j) (omega arith) (omega arith)
 
 fanins-small : (g : ℕ) (fs : List Fanin) → g ≤ mostGates → Every Net (faninNets fs) → Every (Before g) (faninGates fs) → Every (Within columns) (map faninNumber fs)
 fanins-small g [] m h k = every-none _
@@ -78,10 +78,10 @@ source-back : (g : ℕ) (s : Source) → Every Net (netOf s) → Every (Before g
 source-back g (net n) h k = rw (reflects-true (reflects-within 1 greatestNet n) (every-head h))
 source-back g (gate j) h k =
     let r = every-head k in
-    let low : gateBase < gateBase + j = omega arith in
-    let high : gateBase + j < gateBase + g = omega arith in
-    let above : greatestNet < gateBase + j = omega arith in
-    rw (le-leb 1 (gateBase + j) (omega arith), lt-leb (gateBase + j) greatestNet above, lt-ltb gateBase (gateBase + j) low, lt-ltb (gateBase + j) (gateBase + g) high)
+    let low : codeBase < codeBase + j = omega arith in
+    let high : codeBase + j < codeBase + g = omega arith in
+    let above : greatestNet < codeBase + j = omega arith in
+    rw (le-leb 1 (codeBase + j) (omega arith), lt-leb (codeBase + j) greatestNet above, lt-ltb codeBase (codeBase + j) low, lt-ltb (codeBase + j) (codeBase + g) high)
     (ap (λ n. some (gate n)) (omega arith))
 
 -- the nets `ns` and the gates `gs` can be read on top of those seen

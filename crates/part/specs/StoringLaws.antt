@@ -11,6 +11,7 @@ use lib.Seq.{length-take-le, getD-take}
 use Rattle.lists.specs.ListLaws.{every-head, every-tail, every-at}
 use Rattle.lists.specs.Trusted.Tests.{any, elem}
 use Rattle.lists.specs.TestLaws.{reflects-true}
+use Rattle.tree.specs.Trusted.Limits.{codeBase}
 use Rattle.cover.specs.Trusted.Tables.{LookupTable}
 use Rattle.cover.specs.Trusted.CoverTables.{Circuit, LeastCoverTables}
 use Rattle.sheet.specs.Trusted.Sheet.{DrawnSheet, sheet as read, refused as unread}
@@ -22,7 +23,6 @@ use Rattle.sheet.specs.Trusted.Answers.{drawnSheet, answered}
 use Rattle.sheet.specs.Promise.{SheetRead}
 use Rattle.sheet.specs.Trusted.Trees.{drawn}
 use Rattle.table.specs.declared.Table.{Table}
-use Rattle.table.specs.Trusted.Limits.{tableBase}
 use Rattle.table.specs.Trusted.Records.{reads, tableOf, recordOf}
 use Rattle.table.specs.Trusted.Rules.{AllZero, Padded}
 use Rattle.table.specs.LoopLaws.{take-next, take-none}
@@ -115,7 +115,7 @@ module _ (p : Part) (shape : Shaped p) (h : Sound p) (s : CodeSheet) (m : Mappin
   unfolding new
   new-count = length-map (take (m .count) (m .tables)) tableOf ∙ taken-count
 
-  new-least : LeastCoverTables tableBase (p .k) (tablesOf p) new (circuitOf s)
+  new-least : LeastCoverTables codeBase (p .k) (tablesOf p) new (circuitOf s)
   unfolding new
   new-least = g .least (tablesOf p) (length-map (inUse p) tableOf ∙ used-count p shape h)
 

@@ -6,10 +6,10 @@ ghost use lib.Dec.{ltb};
 ghost use Rattle.table.specs.Trusted.RecordTest.{isPadded, isCoded, isSized, isBlank};
 use table::Table;
 use table::in_use;
-use table_inputs::GREATEST_NET;
 use table_inputs::all_codes;
 use table_inputs::rising;
 use table_inputs::zero_from;
+use tree::GREATEST_NET;
 
 // A whole record is zero.
 pub fn is_blank(r: Table) -> bool

@@ -12,9 +12,9 @@ use Rattle.lists.specs.ListLaws.{every-none, every-cons, every-head, every-appe
 use Rattle.lists.specs.Cases.{and-split}
 use Rattle.lists.specs.Trusted.Tests.{within}
 use Rattle.lists.specs.TestLaws.{reflects-elem, reflects-within}
-use Rattle.tree.specs.Trusted.Limits.{greatestNet, fewestFanins, mostFanins}
+use Rattle.tree.specs.Trusted.Limits.{greatestNet, fewestFanins, mostFanins, codeBase}
 use Rattle.decimal.specs.Trusted.Number.{Number}
-use Rattle.sheet.specs.Trusted.Limits.{gateBase, mostGates, mostLeaves}
+use Rattle.sheet.specs.Trusted.Limits.{mostGates, mostLeaves}
 use Rattle.sheet.specs.Trusted.Line.{fields}
 use Rattle.sheet.specs.declared.Source.{Source}
 use Rattle.sheet.specs.declared.Source.the-variants.{Net as net, Gate as gate}
@@ -68,17 +68,17 @@ pub record Named (g n : ℕ) (s : Source) : Type 0 where
 
 pub source-named : (g n : ℕ) (s : Source) → sourceOf g n ≡ some s → Named g n s
 source-named g n =
-    by-test (λ b. (s : Source) → cond b (some (net n)) (cond (ltb gateBase n && ltb n (gateBase + g)) (some (gate (n - gateBase))) none) ≡ some s → Named g n s)
+    by-test (λ b. (s : Source) → cond b (some (net n)) (cond (ltb codeBase n && ltb n (codeBase + g)) (some (gate (n - codeBase))) none) ≡ some s → Named g n s)
     (within 1 greatestNet n)
     (λ t s e.
     let q : net n ≡ s = cc in
     subst (Named g n) q (record { is-net = every-cons (reflects-within 1 greatestNet n .to t) (every-none _); is-before = every-none _; code = refl }))
-    (λ f. by-test (λ b. (s : Source) → cond b (some (gate (n - gateBase))) none ≡ some s → Named g n s) (ltb gateBase n && ltb n (gateBase + g))
+    (λ f. by-test (λ b. (s : Source) → cond b (some (gate (n - codeBase))) none ≡ some s → Named g n s) (ltb codeBase n && ltb n (codeBase + g))
     (λ t s e.
-    let q : gate (n - gateBase) ≡ s = cc in
-    let a = and-split (ltb gateBase n) (ltb n (gateBase + g)) t in
-    let l = ltb→lt gateBase n (a .0) in
-    let u = ltb→lt n (gateBase + g) (a .1) in
+    let q : gate (n - codeBase) ≡ s = cc in
+    let a = and-split (ltb codeBase n) (ltb n (codeBase + g)) t in
+    let l = ltb→lt codeBase n (a .0) in
+    let u = ltb→lt n (codeBase + g) (a .1) in
     subst (Named g n) q (record { is-net = every-none _; is-before = every-cons (omega arith) (every-none _); code = omega arith }))
     (λ t s e. let z : _≡_ {A = ℕ} 0 1 = cc in absurd (omega arith)))
 

@@ -9,10 +9,11 @@ use lib.Seq.{getD-append-add}
 use lib.Dec.{T}
 use Rattle.lists.specs.Trusted.Lists.{Every, Inserted, here, there, Permuted, empty, more, gather}
 use Rattle.lists.specs.ListLaws.{every-none, every-cons, every-head, every-tail, every-append, gather-append, permuted-refl, permuted-insert, permuted-sym, permuted-trans, permuted-append, permuted-swap, permuted-to, permuted-length, gather-permuted, gather-same, interchange}
+use Rattle.tree.specs.Trusted.Limits.{codeBase}
 use Rattle.tree.specs.declared.Kind.{Kind}
 use Rattle.tree.specs.Trusted.Tree.{Node, leaf, Edges, many, proper, propers}
 use Rattle.tree.specs.Leaves.{leaves, leaves*}
-use Rattle.sheet.specs.Trusted.Limits.{gateBase, mostLeaves}
+use Rattle.sheet.specs.Trusted.Limits.{mostLeaves}
 use Rattle.sheet.specs.declared.Source.{Source}
 use Rattle.sheet.specs.declared.Source.the-variants.{Net as net, Gate as gate}
 use Rattle.sheet.specs.declared.Edge.{Edge as Fanin}
@@ -246,7 +247,7 @@ pub leaves-count : (s : DrawnSheet) → WellFormed s → length (leaves (treeOf 
 leaves-count s w = omega (arith, permuted-length (leaves-are s w), w .leaf-count)
 
 -- A WELL FORMED SHEET IS LEGAL
-drawn-legal : (s : DrawnSheet) → WellFormed s → Legal gateBase (drawn s)
+drawn-legal : (s : DrawnSheet) → WellFormed s → Legal codeBase (drawn s)
 drawn-legal s w = record {
   out-net = omega (arith, w .out-net);
   leaf-nets = permuted-to (leaves-are s w) (λ x m. let n = w .leaf-nets x m in (omega arith, omega arith, n .2));
@@ -259,7 +260,7 @@ pub record Drawn (s : DrawnSheet) : Type 0 where
   pub formed : WellFormed s
   pub is-proper : T (proper (treeOf s))
   pub root : (k : Kind) × (es : Edges) × (treeOf s ≡ Node.gate k es)
-  pub legal : Legal gateBase (drawn s)
+  pub legal : Legal codeBase (drawn s)
   pub few : length (leaves (treeOf s)) ≤ mostLeaves
   pub leaves-once : Permuted (leafNets (s .gates)) (leaves (treeOf s))
   pub gates-once : Permuted (treesOf [] (s .gates)) (gateTrees (treeOf s))

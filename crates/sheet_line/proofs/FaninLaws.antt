@@ -13,9 +13,10 @@ use lib.Seq.{getD-set-same, getD-set-other}
 use Rattle.lists.specs.Cases.{by-eqb}
 use Rattle.lists.specs.ListLaws.{every-head}
 use Rattle.lists.specs.Trusted.Tests.{elem}
+use Rattle.tree.specs.Trusted.Limits.{codeBase}
 use Rattle.sheet.specs.declared.Source.{Source}
 use Rattle.sheet.specs.declared.Source.the-variants.{Net as net, Gate as gate}
-use Rattle.sheet.specs.Trusted.Limits.{gateBase, mostGates, mostLeaves}
+use Rattle.sheet.specs.Trusted.Limits.{mostGates, mostLeaves}
 use Rattle.sheet.specs.Trusted.Sheet.{netOf}
 use Rattle.sheet.specs.Trusted.Step.{good, bad, _>>=_, require, given}
 use Rattle.sheet.specs.Trusted.Read.{Seen, nothing, sourceOf, readFanin}
@@ -96,7 +97,7 @@ pub marked-start : Marked (replicate flagCount false) 0 nothing
 marked-start = record {
   whole = length-replicate flagCount false;
   nets = λ n l. getD-replicate flagCount (0 + n) false false (omega arith);
-  gates = λ n l. getD-replicate flagCount (gateBase + n) false false (omega arith);
+  gates = λ n l. getD-replicate flagCount (codeBase + n) false false (omega arith);
   count = refl;
 }
 
@@ -132,9 +133,9 @@ module _ (g n : ℕ) (few : g ≤ mostGates) where
         let q : 0 + m ≡ n = omega (arith, d .code) in
         record {
           whole = simp length-set (h .whole);
-          nets = subst (λ i. Flagged 0 gateBase (set flags i true) (seen .nets ++ (m ∷ []))) q
-              (flag-in 0 gateBase flags (seen .nets) m (omega (arith, h .whole)) (h .nets));
-          gates = flag-out gateBase (mostGates + 1) flags (seen .gates) n (λ i l z. omega arith) (h .gates);
+          nets = subst (λ i. Flagged 0 codeBase (set flags i true) (seen .nets ++ (m ∷ []))) q
+              (flag-in 0 codeBase flags (seen .nets) m (omega (arith, h .whole)) (h .nets));
+          gates = flag-out codeBase (mostGates + 1) flags (seen .gates) n (λ i l z. omega arith) (h .gates);
           count = length-append (seen .nets) (m ∷ []) ∙ ap (λ i. i + 1) (h .count);
         }
     marked-more (gate j) e =
@@ -142,8 +143,8 @@ module _ (g n : ℕ) (few : g ≤ mostGates) where
         let k = every-head (d .is-before) in
         record {
           whole = simp length-set (h .whole);
-          nets = flag-out 0 gateBase flags (seen .nets) n (λ i l z. omega (arith, d .code)) (h .nets);
-          gates = subst (λ i. Flagged gateBase (mostGates + 1) (set flags i true) (seen .gates ++ (j ∷ []))) (d .code)
-              (flag-in gateBase (mostGates + 1) flags (seen .gates) j (omega (arith, h .whole)) (h .gates));
+          nets = flag-out 0 codeBase flags (seen .nets) n (λ i l z. omega (arith, d .code)) (h .nets);
+          gates = subst (λ i. Flagged codeBase (mostGates + 1) (set flags i true) (seen .gates ++ (j ∷ []))) (d .code)
+              (flag-in codeBase (mostGates + 1) flags (seen .gates) j (omega (arith, h .whole)) (h .gates));
           count = h .count ∙ sym (add-zero leaves);
         }

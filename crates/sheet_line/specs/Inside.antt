@@ -8,7 +8,7 @@ use lib.Dec.{eqb}
 use lib.ListN.{length, getD, take, drop}
 use Rattle.lists.specs.Trusted.Tests.{elem}
 use Rattle.tree.specs.declared.Kind.{Kind}
-use Rattle.tree.specs.Trusted.Limits.{mostFanins}
+use Rattle.tree.specs.Trusted.Limits.{mostFanins, codeBase}
 use Rattle.decimal.specs.Trusted.Number.{Number}
 use Rattle.sheet.specs.declared.Source.{Source}
 use Rattle.sheet_line.specs.declared.Ending.{Ending}
@@ -29,7 +29,7 @@ use Rattle.sheet_line.specs.declared.Fault.{Fault}
 use Rattle.sheet_line.specs.declared.Fault.the-variants.{Nothing, Is as IsFault}
 use Rattle.sheet_line.specs.declared.GateLine.{GateLine}
 use Rattle.sheet.specs.Trusted.Sheet.{netOf}
-use Rattle.sheet.specs.Trusted.Limits.{gateBase, mostFields, mostGates, mostLeaves}
+use Rattle.sheet.specs.Trusted.Limits.{mostFields, mostGates, mostLeaves}
 use Rattle.sheet.specs.Trusted.Line.{line, fields}
 use Rattle.sheet.specs.Trusted.Step.{Step, good, bad, _>>=_, given}
 use Rattle.sheet.specs.Trusted.Read.{Head as LineOne, gateHeadOf, Seen, sourceOf, readFanin}
@@ -124,13 +124,13 @@ Flagged base size flags xs = (n : ℕ) → n < size → getD flags (base + n) fa
 
 -- how many numbers have a flag: all that a fanin may be written as, and those below
 abbrev pub flagCount : ℕ
-flagCount = gateBase + mostGates + 1
+flagCount = codeBase + mostGates + 1
 
 -- the flags and the number of leaves stand for what was read so far: a net has its flag at its number, gate g at the base and g
 pub record Marked (flags : List Bool) (leaves : ℕ) (seen : Seen) : Type 0 where
   pub whole : length flags ≡ flagCount
-  pub nets : Flagged 0 gateBase flags (seen .nets)
-  pub gates : Flagged gateBase (mostGates + 1) flags (seen .gates)
+  pub nets : Flagged 0 codeBase flags (seen .nets)
+  pub gates : Flagged codeBase (mostGates + 1) flags (seen .gates)
   pub count : length (seen .nets) ≡ leaves
 
 -- one net or gate more

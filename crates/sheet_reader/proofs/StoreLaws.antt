@@ -10,11 +10,12 @@ use lib.ListN.{length, getD, take, drop, set, length-drop}
 use lib.Seq.{take-suc-set, take-set-le, drop-set-lt, drop-set-add, getD-drop}
 use Rattle.lists.specs.Trusted.Lists.{Every}
 use Rattle.lists.specs.ListLaws.{every-none, every-cons, every-head, every-tail, every-append}
+use Rattle.tree.specs.Trusted.Limits.{codeBase}
 use Rattle.sheet.specs.declared.Source.{Source}
 use Rattle.sheet.specs.declared.Source.the-variants.{Net as net, Gate as gate}
 use Rattle.sheet.specs.declared.Edge.{Edge}
 use Rattle.sheet.specs.declared.Gate.{Gate}
-use Rattle.sheet.specs.Trusted.Limits.{gateBase, mostGates, mostLeaves, faninRoom}
+use Rattle.sheet.specs.Trusted.Limits.{mostGates, mostLeaves, faninRoom}
 use Rattle.sheet.specs.Trusted.Sheet.{netOf}
 use Rattle.sheet.specs.Trusted.Read.{sourceOf}
 use Rattle.sheet.specs.ReadLaws.{source-named}
@@ -43,11 +44,11 @@ raised-set (false ∷ bs) (suc i) l e = raised-set bs i (omega arith) e
 
 -- how many fanins were read: so many leaves, and as many gates as have their flag set
 abbrev pub readCount : List Bool → ℕ → ℕ
-readCount flags leaves = leaves + raised (drop gateBase flags)
+readCount flags leaves = leaves + raised (drop codeBase flags)
 
 module _ (flags : List Bool) (whole : length flags ≡ flagCount) where
-  gates-most : raised (drop gateBase flags) ≤ mostGates + 1
-  gates-most = omega (arith, raised-most (drop gateBase flags), length-drop gateBase flags)
+  gates-most : raised (drop codeBase flags) ≤ mostGates + 1
+  gates-most = omega (arith, raised-most (drop codeBase flags), length-drop codeBase flags)
 
   pub read-most : (leaves : ℕ) → leaves ≤ mostLeaves → readCount flags leaves ≤ faninRoom
   read-most leaves l = omega (arith, gates-most)
@@ -58,16 +59,16 @@ module _ (flags : List Bool) (whole : length flags ≡ flagCount) where
   read-more g n leaves few (net m) e f =
       let d = source-named g n (net m) e in
       let k = every-head (d .is-net) in
-      let q = ap raised (drop-set-lt gateBase flags n true (omega (arith, d .code))) in
+      let q = ap raised (drop-set-lt codeBase flags n true (omega (arith, d .code))) in
       omega (arith, q)
   read-more g n leaves few (gate j) e f =
       let d = source-named g n (gate j) e in
       let k = every-head (d .is-before) in
-      let at : gateBase + j ≡ n = d .code in
-      let q : raised (drop gateBase (set flags n true)) ≡ suc (raised (drop gateBase flags)) =
-      ap (λ i. raised (drop gateBase (set flags i true))) (sym at)
-      ∙ (ap raised (drop-set-add gateBase flags j true)
-      ∙ raised-set (drop gateBase flags) j (omega (arith, length-drop gateBase flags)) (getD-drop gateBase flags j false ∙ (ap (λ i. getD flags i false) at ∙ f))) in
+      let at : codeBase + j ≡ n = d .code in
+      let q : raised (drop codeBase (set flags n true)) ≡ suc (raised (drop codeBase flags)) =
+      ap (λ i. raised (drop codeBase (set flags i true))) (sym at)
+      ∙ (ap raised (drop-set-add codeBase flags j true)
+      ∙ raised-set (drop codeBase flags) j (omega (arith, length-drop codeBase flags)) (getD-drop codeBase flags j false ∙ (ap (λ i. getD flags i false) at ∙ f))) in
       omega (arith, q)
 
 -- ---- the fanins of the gates

@@ -7,7 +7,8 @@ use mathlib.Core.Bool.{Bool, true, false}
 use mathlib.Core.List.{List, _∷_}
 use lib.ListN.{getD}
 use Rattle.lists.specs.Trusted.Tests.{elem}
-use Rattle.sheet.specs.Trusted.Limits.{gateBase, mostGates}
+use Rattle.tree.specs.Trusted.Limits.{codeBase}
+use Rattle.sheet.specs.Trusted.Limits.{mostGates}
 use Rattle.sheet.specs.Trusted.Sheet.{from}
 use Rattle.sheet.specs.Trusted.Step.{good, bad, _>>=_, require}
 use Rattle.sheet.specs.Trusted.Read.{readUnread}
@@ -16,7 +17,7 @@ use Rattle.sheet_line.specs.Inside.{Flagged}
 -- what is left to look at is the gates from g on
 pub record Passed (flags : List Bool) (count g : ℕ) : Type 0 where
   pub least : 1 ≤ g
-  pub same : (read : List ℕ) → Flagged gateBase (mostGates + 1) flags read → readUnread (from 1 (count - 1)) read ≡ readUnread (from g (count - g)) read
+  pub same : (read : List ℕ) → Flagged codeBase (mostGates + 1) flags read → readUnread (from 1 (count - 1)) read ≡ readUnread (from g (count - g)) read
 
 pub passed-none : (flags : List Bool) (count : ℕ) → Passed flags count 1
 passed-none flags count = record { least = omega arith; same = λ read h. refl }
@@ -36,19 +37,19 @@ module _ {flags : List Bool} {count g : ℕ} (p : Passed flags count g) where
     one-more =
         ap (from g) (let q : count - g ≡ suc (count - (g + 1)) = omega arith in q) ∙ ap (λ n. g ∷ from n (count - (g + 1))) (sym (add-one g))
 
-    pub passed-more : getD flags (gateBase + g) false ≡ true → Passed flags count (g + 1)
+    pub passed-more : getD flags (codeBase + g) false ≡ true → Passed flags count (g + 1)
     passed-more e = record {
       least = omega arith;
       same = λ read h.
           p .same read h ∙ (ap (λ gs. readUnread gs read) one-more ∙ unread-later g (from (g + 1) (count - (g + 1))) read (sym (h g (omega arith)) ∙ e));
     }
 
-    pub passed-first : getD flags (gateBase + g) false ≡ false → (read : List ℕ) → Flagged gateBase (mostGates + 1) flags read →
+    pub passed-first : getD flags (codeBase + g) false ≡ false → (read : List ℕ) → Flagged codeBase (mostGates + 1) flags read →
         readUnread (from 1 (count - 1)) read ≡ bad 13 (g + 1)
     passed-first e read h =
         p .same read h
         ∙ (ap (λ gs. readUnread gs read) one-more
         ∙ (unread-first g (from (g + 1) (count - (g + 1))) read (sym (h g (omega arith)) ∙ e) ∙ ap (bad 13) (sym (add-one g))))
 
-  pub passed-all : count ≤ g → (read : List ℕ) → Flagged gateBase (mostGates + 1) flags read → readUnread (from 1 (count - 1)) read ≡ good tt
+  pub passed-all : count ≤ g → (read : List ℕ) → Flagged codeBase (mostGates + 1) flags read → readUnread (from 1 (count - 1)) read ≡ good tt
   passed-all l read h = p .same read h ∙ ap (λ n. readUnread (from g n) read) (let q : count - g ≡ 0 = omega arith in q)

@@ -5,6 +5,7 @@ use mathlib.Core.Bool.{Bool, not, _&&_, _||_}
 use mathlib.Core.List.{List}
 use lib.Dec.{ltb}
 use lib.ListN.{length, drop}
+use Rattle.tree.specs.Trusted.Limits.{codeBase}
 use Rattle.sheet.specs.declared.ReadAnswer.{ReadAnswer}
 use Rattle.sheet.specs.declared.ReadAnswer.the-variants.{Accepted, Refused}
 use Rattle.sheet_reader.specs.declared.Lines.{Lines}
@@ -13,7 +14,7 @@ use Rattle.sheet.specs.declared.Next.{Next}
 use Rattle.sheet_reader.specs.declared.Unread.the-variants.{First, Nowhere}
 use Rattle.sheet_line.specs.Inside.{Flagged}
 use Rattle.sheet.specs.Trusted.Sheet.{DrawnGate, DrawnSheet, from}
-use Rattle.sheet.specs.Trusted.Limits.{gateBase, mostGates}
+use Rattle.sheet.specs.Trusted.Limits.{mostGates}
 use Rattle.sheet.specs.Trusted.Line.{line}
 use Rattle.sheet.specs.Trusted.Step.{Step, good, bad, _>>=_, require, given}
 use Rattle.sheet.specs.Trusted.Read.{isEmpty, Head as LineOne, readHead, Seen, nothing, readLeft, readUnread}
@@ -30,7 +31,7 @@ Comes (Refused why line) P m = m ≡ bad (numberOf why) line
 -- what was read: the gates, the nets and gates seen, and the rest of the text
 pub record GatesHeld (text : List ℕ) (count : ℕ) (l : Lines) (a : List DrawnGate × Seen × List ℕ) : Type 0 where
   pub gates : a .0 ≡ drawnGates (l .fanins) count (l .gates)
-  pub marked : Flagged gateBase (mostGates + 1) (l .seen) (a .1 .gates)
+  pub marked : Flagged codeBase (mostGates + 1) (l .seen) (a .1 .gates)
   pub rest : a .2 ≡ drop (l .end) text
   pub within : l .end ≤ length text
 
@@ -44,7 +45,7 @@ unreadStep Nowhere = good tt
 unreadStep (First line) = bad 13 line
 
 abbrev pub UnreadFound : List Bool → ℕ → Unread → Type 0
-UnreadFound flags count r = (read : List ℕ) → Flagged gateBase (mostGates + 1) flags read → readUnread (from 1 (count - 1)) read ≡ unreadStep r
+UnreadFound flags count r = (read : List ℕ) → Flagged codeBase (mostGates + 1) flags read → readUnread (from 1 (count - 1)) read ≡ unreadStep r
 
 -- ---- a sheet
 

@@ -11,8 +11,8 @@ use lib.Seq.{getD-append-seam, getD-set-same, getD-set-other}
 use Rattle.lists.specs.Cases.{by-eqb, by-leb}
 use Rattle.lists.specs.Trusted.Tests.{all, elem}
 use Rattle.lists.specs.TestLaws.{reflects-lt, reflects-eq, reflects-same, reflects-true}
-use Rattle.tree.specs.Trusted.Limits.{greatestNet}
-use Rattle.table.specs.Trusted.Limits.{tableBase, tableRoom}
+use Rattle.tree.specs.Trusted.Limits.{greatestNet, codeBase}
+use Rattle.table.specs.Trusted.Limits.{tableRoom}
 use Rattle.table.specs.Trusted.Records.{reads, blank}
 use Rattle.table.specs.Trusted.RecordTest.{isCode, isPadded, isSized, sourced, clear, unclaimed, keeps}
 use Rattle.table.specs.PrefixTest.{Stands, emptyPrefix, claimAll, prefixAfter, sourcedIn, unclaimedIn, keepsIn}
@@ -127,10 +127,10 @@ module _ (s : Prefix) (before : List Table) (h : Stands s before) where
   source-stands : (x : ℕ) → sourcedIn (s .drives) (s .count) x ≡ sourced before x
   source-stands x =
       rw (h .count)
-      (by-leb (λ b. b || (leb x (tableBase + length before) && not (getD (s .drives) (x - suc tableBase) true)) ≡ b || (leb x (tableBase + length before) && eqb ((getD before (x - suc tableBase) blank) .net) 0)) x tableBase
+      (by-leb (λ b. b || (leb x (codeBase + length before) && not (getD (s .drives) (x - suc codeBase) true)) ≡ b || (leb x (codeBase + length before) && eqb ((getD before (x - suc codeBase) blank) .net) 0)) x codeBase
       (λ l. refl)
-      (λ l. by-leb (λ b. b && not (getD (s .drives) (x - suc tableBase) true) ≡ b && eqb ((getD before (x - suc tableBase) blank) .net) 0) x (tableBase + length before)
-      (λ m. h .drives (x - suc tableBase) (omega (arith, h .room)))
+      (λ l. by-leb (λ b. b && not (getD (s .drives) (x - suc codeBase) true) ≡ b && eqb ((getD before (x - suc codeBase) blank) .net) 0) x (codeBase + length before)
+      (λ m. h .drives (x - suc codeBase) (omega (arith, h .room)))
       (λ m. refl)))
 
   all-stands : (xs : List ℕ) → all (sourcedIn (s .drives) (s .count)) xs ≡ all (sourced before) xs

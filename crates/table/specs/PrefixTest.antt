@@ -7,8 +7,8 @@ use mathlib.Core.List.{List, [], _∷_}
 use lib.Dec.{leb, ltb, eqb}
 use lib.ListN.{length, getD, set, replicate}
 use Rattle.lists.specs.Trusted.Tests.{all, elem}
-use Rattle.tree.specs.Trusted.Limits.{greatestNet}
-use Rattle.table.specs.Trusted.Limits.{tableBase, tableRoom}
+use Rattle.tree.specs.Trusted.Limits.{greatestNet, codeBase}
+use Rattle.table.specs.Trusted.Limits.{tableRoom}
 use Rattle.table.specs.Trusted.Records.{reads, blank}
 use Rattle.table.specs.Trusted.RecordTest.{isPadded, isCoded, isSized, clear}
 use Rattle.table.specs.declared.Table.{Table}
@@ -41,7 +41,7 @@ prefixAfter s r =
 
 -- the tests of RecordTest by what is kept
 abbrev pub sourcedIn : List Bool → ℕ → ℕ → Bool
-sourcedIn drives count x = leb x tableBase || (leb x (tableBase + count) && not (getD drives (x - suc tableBase) true))
+sourcedIn drives count x = leb x codeBase || (leb x (codeBase + count) && not (getD drives (x - suc codeBase) true))
 
 abbrev pub unclaimedIn : List Bool → Table → Bool
 unclaimedIn claimed r = eqb (r .net) 0 || (not (getD claimed (r .net) false) && not (elem (r .net) (reads r)))

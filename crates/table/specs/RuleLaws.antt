@@ -9,9 +9,9 @@ use lib.ListN.{length, getD, length-map}
 use Rattle.lists.specs.Cases.{by-leb}
 use Rattle.lists.specs.Trusted.Lists.{_∈_, first, later, Every}
 use Rattle.lists.specs.ListLaws.{every-none, every-cons, every-head, every-append, every-left, every-right}
+use Rattle.tree.specs.Trusted.Limits.{codeBase}
 use Rattle.cover.specs.Trusted.Tables.{Placed, numbered}
 use Rattle.cover.specs.Eval.{numbered-append, numbered-is, numbered-one}
-use Rattle.table.specs.Trusted.Limits.{tableBase}
 use Rattle.table.specs.Trusted.Records.{reads, tableOf, blank}
 use Rattle.table.specs.Trusted.Rules.{NamesTable, Padded, Coded, Sized, Sourced, DrivenOnce, ReadAfter, EveryTwo, places, Rules}
 use Rattle.table.specs.declared.Table.{Table}
@@ -114,7 +114,7 @@ module _ (k : ℕ) (old new : List Table) where
 
 -- an input of a record after the records `old`: a net, or the name of one of them that drives no net
 abbrev pub Known : List Table → ℕ → Type 0
-Known old x = (x ≤ tableBase) ⊎ ((x ≤ tableBase + length old) × ((getD old (x - suc tableBase) blank) .net ≡ 0))
+Known old x = (x ≤ codeBase) ⊎ ((x ≤ codeBase + length old) × ((getD old (x - suc codeBase) blank) .net ≡ 0))
 
 abbrev pub Clear : ℕ → Table → Type 0
 Clear n r = (r .net ≢ n) × (¬ (n ∈ reads r))
@@ -138,10 +138,10 @@ module _ (k : ℕ) (old : List Table) (r : Table) where
   unfolding last
   keeps-source h x m t = ⊎-elim (λ l. absurd (omega arith)) found (h x m)
     where
-      found : (x ≤ tableBase + length old) × ((getD old (x - suc tableBase) blank) .net ≡ 0) →
-          (q : Placed) × (q ∈ places old ++ placesAfter old (r ∷ [])) × (x ≡ tableBase + q .0) × (q .0 < suc (length old)) × (q .1 .drives ≡ 0)
+      found : (x ≤ codeBase + length old) × ((getD old (x - suc codeBase) blank) .net ≡ 0) →
+          (q : Placed) × (q ∈ places old ++ placesAfter old (r ∷ [])) × (x ≡ codeBase + q .0) × (q .0 < suc (length old)) × (q .1 .drives ≡ 0)
       found f =
-          let i : ℕ = x - suc tableBase in
+          let i : ℕ = x - suc codeBase in
           ((suc (0 + i), tableOf (getD old i blank)), Memᴰ·append-left (placesAfter old (r ∷ [])) (place-at 0 old i (omega (arith, t))), omega (arith, t), omega (arith, t), f .1)
 
   pub keeps-follows : Keeps k old r → Follows k old (r ∷ [])
@@ -173,23 +173,23 @@ module _ (k : ℕ) (old : List Table) (r : Table) where
     padded = every-head (every-right old (r ∷ []) (h .padded));
     coded = every-head (every-right old (r ∷ []) (h .coded));
     sized = every-head (every-right old (r ∷ []) (h .sized));
-    sourced = λ x m. by-leb (λ b. Known old x) x tableBase inl (λ t. inr (known x m t));
+    sourced = λ x m. by-leb (λ b. Known old x) x codeBase inl (λ t. inr (known x m t));
     unclaimed = by-leb (λ b. Unclaimed old r) (r .net) 0 (λ z. inl (omega arith)) (λ l. inr (clear l));
   }
     where
       qs : List Placed
       qs = placesAfter old (r ∷ [])
 
-      named : (x : ℕ) (q : Placed) → q ∈ places old → x ≡ tableBase + q .0 → q .1 .drives ≡ 0 →
-          (x ≤ tableBase + length old) × ((getD old (x - suc tableBase) blank) .net ≡ 0)
+      named : (x : ℕ) (q : Placed) → q ∈ places old → x ≡ codeBase + q .0 → q .1 .drives ≡ 0 →
+          (x ≤ codeBase + length old) × ((getD old (x - suc codeBase) blank) .net ≡ 0)
       named x q m e d =
           let l = old-place old q m in
-          let i : ℕ = x - suc tableBase in (
+          let i : ℕ = x - suc codeBase in (
             omega (arith, e),
             ap (λ p. p .1 .drives) (numbered-one 0 (map tableOf old) (suc (0 + i), tableOf (getD old i blank)) q (place-at 0 old i (omega (arith, e))) m (omega (arith, e))) ∙ d,
           )
 
-      known : (x : ℕ) → x ∈ reads r → NamesTable x → (x ≤ tableBase + length old) × ((getD old (x - suc tableBase) blank) .net ≡ 0)
+      known : (x : ℕ) → x ∈ reads r → NamesTable x → (x ≤ codeBase + length old) × ((getD old (x - suc codeBase) blank) .net ≡ 0)
       known x m t =
           let q = every-head (every-right (places old) qs (rw places-append at (h .sourced))) x m t in
           named x (q .0) (in-old old (r ∷ []) (q .0) (q .1) (omega (arith, q .3))) (q .2) (q .4)

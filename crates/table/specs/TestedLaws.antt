@@ -11,8 +11,8 @@ use lib.Seq.{take-append-le, take-append-add}
 use Rattle.lists.specs.ListLaws.{every-none}
 use Rattle.lists.specs.Trusted.Tests.{within}
 use Rattle.lists.specs.TestLaws.{Reflects, reflects-le, reflects-lt, reflects-eq, reflects-map, reflects-not, reflects-and, reflects-or, reflects-all, reflects-elem, reflects-pairwise, reflects-within, by-reflects}
-use Rattle.tree.specs.Trusted.Limits.{greatestNet}
-use Rattle.table.specs.Trusted.Limits.{tableBase, inputRoom, tableRoom, KRange, CapacityRange}
+use Rattle.tree.specs.Trusted.Limits.{greatestNet, codeBase}
+use Rattle.table.specs.Trusted.Limits.{inputRoom, tableRoom, KRange, CapacityRange}
 use Rattle.table.specs.Trusted.Records.{reads}
 use Rattle.table.specs.Trusted.Rules.{AllZero, Blank, Coded, Sized, Fine, FirstBad}
 use Rattle.table.specs.RuleLaws.{Known, Clear, Unclaimed, Keeps, rules-snoc, rules-keeps, rules-prefix}
@@ -32,7 +32,7 @@ blank-reflects r =
 
 coded-reflects : (r : Table) → Reflects (isCoded r) (Coded r)
 coded-reflects r =
-    reflects-and (reflects-le (r .net) greatestNet) (reflects-all _ (λ x. reflects-or (reflects-within 1 greatestNet x) (reflects-lt tableBase x)) (reads r))
+    reflects-and (reflects-le (r .net) greatestNet) (reflects-all _ (λ x. reflects-or (reflects-within 1 greatestNet x) (reflects-lt codeBase x)) (reads r))
 
 sized-reflects : (k : ℕ) (r : Table) → Reflects (isSized k r) (Sized k r)
 sized-reflects k r =
@@ -41,7 +41,7 @@ sized-reflects k r =
     (reflects-and (reflects-pairwise ltb reflects-lt (reads r)) (reflects-lt (r .truth) _))))
 
 known-reflects : (old : List Table) (x : ℕ) → Reflects (sourced old x) (Known old x)
-known-reflects old x = reflects-or (reflects-le x tableBase) (reflects-and (reflects-le x (tableBase + length old)) (reflects-eq _ 0))
+known-reflects old x = reflects-or (reflects-le x codeBase) (reflects-and (reflects-le x (codeBase + length old)) (reflects-eq _ 0))
 
 clear-reflects : (n : ℕ) (r : Table) → Reflects (clear n r) (Clear n r)
 clear-reflects n r = reflects-and (reflects-not (reflects-eq (r .net) n)) (reflects-not (reflects-elem n (reads r)))

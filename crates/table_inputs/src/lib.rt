@@ -6,11 +6,8 @@ ghost use lib.ListN.{take, drop};
 ghost use Rattle.lists.specs.Trusted.Tests.{all, elem, pairwise};
 ghost use Rattle.table.specs.Trusted.RecordTest.{allZero, isCode};
 use table::within;
-
-// The greatest net, and the base of the tables' codes.
-pub const GREATEST_NET: u16 = 999;
-
-pub const TABLE_BASE: u16 = 1000;
+use tree::CODE_BASE;
+use tree::GREATEST_NET;
 
 // The input is a net or names a table.
 fn is_code(x: u16) -> bool
@@ -19,7 +16,7 @@ fn is_code(x: u16) -> bool
     if within(1, GREATEST_NET as u32, x as u32) {
         true
     } else {
-        TABLE_BASE < x
+        CODE_BASE < x
     }
 }
 

@@ -12,17 +12,17 @@ use record_rules::sized;
 use table::Prefix;
 use table::Table;
 use table::in_use;
-use table_inputs::TABLE_BASE;
 use table_inputs::reads_net;
+use tree::CODE_BASE;
 
 // An input that names a table names one of the records before, and that one drives no net.
 fn sourced(drives: &[bool], count: u16, x: u16) -> bool
     ensures { λ b. ⌜ b ≡ sourcedIn (now (drives .entry)) count x ⌝ }
 {
-    if x <= TABLE_BASE {
+    if x <= CODE_BASE {
         return true;
     }
-    let t = x - TABLE_BASE - 1;
+    let t = x - CODE_BASE - 1;
     if t >= count {
         return false;
     }

@@ -8,13 +8,14 @@ use mathlib.Core.Bool.{Bool}
 use mathlib.Core.List.{List, [], _∷_, _++_, map}
 use lib.ListN.{length}
 use Rattle.lists.specs.Trusted.Lists.{Every}
+use Rattle.tree.specs.Trusted.Limits.{codeBase}
 use Rattle.cover.specs.Trusted.Cover.{Least}
 use Rattle.cover.specs.Trusted.Tables.{LookupTable, settled}
 use Rattle.cover.specs.Trusted.CoverTables.{Circuit, CoverTables, Fresh}
 use Rattle.sheet.specs.Trusted.Sheet.{DrawnSheet, sheet as drew}
 use Rattle.sheet.specs.Trusted.Read.{readSheet}
 use Rattle.sheet.specs.Trusted.Values.{sheetValue}
-use Rattle.table.specs.Trusted.Limits.{tableBase, KRange, CapacityRange}
+use Rattle.table.specs.Trusted.Limits.{KRange, CapacityRange}
 use Rattle.table.specs.Trusted.Records.{recordOf}
 use Rattle.table.specs.Trusted.Rules.{IsNet}
 use Rattle.part.specs.Trusted.Parts.{inUse, tablesOf, Shaped}
@@ -91,7 +92,7 @@ pub record Demand1 : Type 0 where
 
 -- the value of each net in the part p, where the nets are set by σ, and then those that a table drives take its value
 abbrev pub valuesIn : Part → (ℕ → Bool) → ℕ → Bool
-valuesIn p = settled tableBase (tablesOf p)
+valuesIn p = settled codeBase (tablesOf p)
 
 -- An add on the part o, with the result r, in calls that end with the part `last`: the text reads as the sheet d, and its tables `new` stand
 -- unchanged in the last part; and there its output net has the value that its gates give, one after the other, at the values of the nets.
@@ -145,7 +146,7 @@ pub record Taken (k : ℕ) (o : Part) (text : List ℕ) (q : Part) (s : Circuit)
   pub read : readOf text ≡ sheet s
   pub records : inUse q ≡ inUse o ++ map recordOf new
   pub tables : tablesOf q ≡ tablesOf o ++ new
-  pub cover : CoverTables tableBase k (tablesOf o) new s
+  pub cover : CoverTables codeBase k (tablesOf o) new s
   pub least : Least k (s .tree) (length new)
   pub used : q .used ≡ o .used + length new
 

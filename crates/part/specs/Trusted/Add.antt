@@ -7,10 +7,11 @@ use mathlib.Core.List.{List, _++_, map}
 use lib.Dec.{leb, eqb}
 use lib.ListN.{length, drop}
 use Rattle.lists.specs.Trusted.Tests.{any, elem, within, either}
+use Rattle.tree.specs.Trusted.Limits.{codeBase}
 use Rattle.cover.specs.Trusted.Cover.{Least}
 use Rattle.cover.specs.Trusted.Tables.{LookupTable}
 use Rattle.cover.specs.Trusted.CoverTables.{Circuit, LeastCoverTables}
-use Rattle.table.specs.Trusted.Limits.{tableBase, inputRoom, tableRoom}
+use Rattle.table.specs.Trusted.Limits.{inputRoom, tableRoom}
 use Rattle.table.specs.Trusted.Records.{recordOf}
 use Rattle.part.specs.Trusted.Parts.{inUse, tablesOf}
 use Rattle.part.specs.Trusted.SoundTest.{sound}
@@ -54,7 +55,7 @@ Refused p number place q a = (q ≡ p) × (a ≡ refused number place)
 -- taken: some least cover of the sheet, in some order of its tables, inputs before readers and the root's last, after the old ones
 pub record Accepted (p : Part) (s : Circuit) (q : Part) (a : Answer) : Type 0 where
   pub new : List LookupTable
-  pub least : LeastCoverTables tableBase (p .k) (tablesOf p) new s
+  pub least : LeastCoverTables codeBase (p .k) (tablesOf p) new s
   pub part : q ≡ extended p new
   pub answer : a ≡ accepted
 

@@ -8,9 +8,9 @@ use lib.ListN.{length}
 use Rattle.lists.specs.Trusted.Tests.{within, elem}
 use Rattle.tree.specs.declared.Kind.{Kind}
 use Rattle.tree.specs.declared.Kind.the-variants.{And as and, Or as or}
-use Rattle.tree.specs.Trusted.Limits.{greatestNet, fewestFanins, mostFanins}
+use Rattle.tree.specs.Trusted.Limits.{greatestNet, fewestFanins, mostFanins, codeBase}
 use Rattle.decimal.specs.Trusted.Number.{Number}
-use Rattle.sheet.specs.Trusted.Limits.{gateBase, mostGates, mostLeaves}
+use Rattle.sheet.specs.Trusted.Limits.{mostGates, mostLeaves}
 use Rattle.sheet.specs.Trusted.Line.{line, fields}
 use Rattle.sheet.specs.declared.Source.{Source}
 use Rattle.sheet.specs.declared.Source.the-variants.{Net as net, Gate as gate}
@@ -67,7 +67,7 @@ nothing = record { nets = []; gates = [] }
 
 -- what the number n names as a fanin of gate g: a net, or an earlier gate
 abbrev pub sourceOf : (g n : ℕ) → Option Source
-sourceOf g n = cond (within 1 greatestNet n) (some (net n)) (cond (ltb gateBase n && ltb n (gateBase + g)) (some (gate (n - gateBase))) none)
+sourceOf g n = cond (within 1 greatestNet n) (some (net n)) (cond (ltb codeBase n && ltb n (codeBase + g)) (some (gate (n - codeBase))) none)
 
 abbrev pub readSource : (out place : ℕ) → Seen → Source → Step Seen
 readSource out place seen (gate g) = do

@@ -3,8 +3,8 @@ use Prim.Native.Nat.{ℕ, zero, suc, _+_}
 use mathlib.Core.Bool.{Bool}
 use mathlib.Core.List.{List, [], _∷_}
 use Rattle.lists.specs.Trusted.Lists.{gather}
+use Rattle.tree.specs.Trusted.Limits.{codeBase}
 use Rattle.tree.specs.declared.Kind.{Kind}
-use Rattle.sheet.specs.Trusted.Limits.{gateBase}
 -- a fanin, and what it reads, are those of the code
 use Rattle.sheet.specs.declared.Source.{Source}
 use Rattle.sheet.specs.declared.Source.the-variants.{Net as net, Gate as gate}
@@ -37,7 +37,7 @@ gateOf (gate g) = g ∷ []
 -- the number that it is written as
 abbrev pub codeOf : Source → ℕ
 codeOf (net n) = n
-codeOf (gate g) = gateBase + g
+codeOf (gate g) = codeBase + g
 
 -- the nets and the gates that some fanins read, from left to right
 abbrev pub faninNets : List Fanin → List ℕ

@@ -1,10 +1,5 @@
 -- The numbers that the rules fix, each named once. Definitions only.
 use Prim.Native.Nat.{ℕ, _≤_}
-use Rattle.tree.specs.Trusted.Limits.{codeBase}
-
--- as an input, table t is this plus t
-abbrev pub tableBase : ℕ
-tableBase = codeBase
 
 -- the inputs that a record has room for
 abbrev pub inputRoom : ℕ

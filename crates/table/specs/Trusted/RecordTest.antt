@@ -9,8 +9,8 @@ use lib.Dec.{leb, ltb, eqb}
 use lib.ListN.{length, getD, drop}
 use Rattle.table.specs.declared.Table.{Table}
 use Rattle.lists.specs.Trusted.Tests.{all, elem, pairwise, within}
-use Rattle.tree.specs.Trusted.Limits.{greatestNet}
-use Rattle.table.specs.Trusted.Limits.{tableBase, inputRoom, tableRoom, KRange, CapacityRange}
+use Rattle.tree.specs.Trusted.Limits.{greatestNet, codeBase}
+use Rattle.table.specs.Trusted.Limits.{inputRoom, tableRoom, KRange, CapacityRange}
 use Rattle.table.specs.Trusted.Records.{reads, blank}
 use Rattle.table.specs.Trusted.Rules.{Fine, FirstBad}
 
@@ -25,7 +25,7 @@ isPadded r = allZero (drop (r .count) (r .inputs))
 
 -- a net, or the name of a table
 abbrev pub isCode : ℕ → Bool
-isCode x = within 1 greatestNet x || ltb tableBase x
+isCode x = within 1 greatestNet x || ltb codeBase x
 
 abbrev pub isCoded : Table → Bool
 isCoded r = leb (r .net) greatestNet && all isCode (reads r)
@@ -35,7 +35,7 @@ isSized k r = leb 2 (r .count) && (leb (r .count) k && (pairwise ltb (reads r) &
 
 -- an input that names a table names one of the records before, and that one drives no net
 abbrev pub sourced : List Table → ℕ → Bool
-sourced before x = leb x tableBase || (leb x (tableBase + length before) && eqb ((getD before (x - suc tableBase) blank) .net) 0)
+sourced before x = leb x codeBase || (leb x (codeBase + length before) && eqb ((getD before (x - suc codeBase) blank) .net) 0)
 
 -- the record neither drives nor reads the net
 abbrev pub clear : ℕ → Table → Bool

@@ -6,9 +6,8 @@ use mathlib.Core.Logic.{_⊎_}
 use mathlib.Core.List.{List, map}
 use lib.ListN.{length, take, drop}
 use Rattle.lists.specs.Trusted.Lists.{_∈_, Every, Rising}
-use Rattle.tree.specs.Trusted.Limits.{greatestNet}
+use Rattle.tree.specs.Trusted.Limits.{greatestNet, codeBase}
 use Rattle.cover.specs.Trusted.Tables.{Placed, numbered}
-use Rattle.table.specs.Trusted.Limits.{tableBase}
 use Rattle.table.specs.Trusted.Records.{reads, tableOf}
 use Rattle.table.specs.declared.Table.{Table}
 
@@ -30,7 +29,7 @@ abbrev pub IsNet : ℕ → Type 0
 IsNet x = (1 ≤ x) × (x ≤ greatestNet)
 
 abbrev pub NamesTable : ℕ → Type 0
-NamesTable x = tableBase < x
+NamesTable x = codeBase < x
 
 -- the net driven is 0 to 999, and an input is a net or names a table
 abbrev pub Coded : Table → Type 0
@@ -42,7 +41,7 @@ Sized k r = (2 ≤ r .count) × (r .count ≤ k) × Rising (reads r) × (r .trut
 
 -- of the numbered tables `ps`, the table p: each table input names an earlier table that drives no net
 abbrev pub Sourced : List Placed → Placed → Type 0
-Sourced ps p = Every (λ x. NamesTable x → (q : Placed) × (q ∈ ps) × (x ≡ tableBase + q .0) × (q .0 < p .0) × (q .1 .drives ≡ 0)) (p .1 .inputs)
+Sourced ps p = Every (λ x. NamesTable x → (q : Placed) × (q ∈ ps) × (x ≡ codeBase + q .0) × (q .0 < p .0) × (q .1 .drives ≡ 0)) (p .1 .inputs)
 
 -- two tables that drive one net are one table
 abbrev pub DrivenOnce : Placed → Placed → Type 0
