@@ -10,6 +10,7 @@ use Rattle.lists.specs.Trusted.Lists.{Every}
 use Rattle.lists.specs.Trusted.Tests.{elem, within}
 use Rattle.lists.specs.TestLaws.{Reflects, reflects-le, reflects-eq, reflects-any, reflects-elem, reflects-within, by-reflects, by-either}
 use Rattle.tree.specs.Trusted.Limits.{codeBase}
+use Rattle.lists.specs.Trusted.Checked.{Checked, passed, refused as unread}
 use Rattle.cover.specs.Trusted.Cover.{Least}
 use Rattle.plan.specs.Least.{least-unique}
 use Rattle.cover.specs.Trusted.Tables.{LookupTable}
@@ -23,7 +24,7 @@ use Rattle.part.specs.Trusted.Parts.{blanks, tablesOf, Shaped}
 use Rattle.part.specs.Trusted.Sound.{Sound}
 use Rattle.part.specs.Trusted.SoundTest.{sound}
 use Rattle.part.specs.SoundLaws.{sound-reflects}
-use Rattle.part.specs.Trusted.Reading.{CircuitReading, sheet, refused as unread, readOf}
+use Rattle.part.specs.Trusted.Reading.{readOf}
 use Rattle.part.specs.Trusted.Answers.{Answer, accepted, refused, Result, empty}
 use Rattle.part.specs.Trusted.Add.{opened, isDriven, isRead, Refused, Accepted, Take, Add}
 use Rattle.demands.specs.Trusted.Nets.{Driven, Read}
@@ -105,11 +106,11 @@ pub record Kept (p q : Part) : Type 0 where
 pub data AddCase (p : Part) (text : List ℕ) (q : Part) (a : Answer) : Type 0 where
   unsound : ¬ (Sound p) → Refused p 20 0 q a → AddCase p text q a
   misread : (number place : ℕ) → Sound p → readOf text ≡ unread number place → Refused p number place q a → AddCase p text q a
-  driven : (s : Circuit) → Sound p → readOf text ≡ sheet s → Driven (s .out) (tablesOf p) → Refused p 21 0 q a → AddCase p text q a
-  read : (s : Circuit) → Sound p → readOf text ≡ sheet s → ¬ (Driven (s .out) (tablesOf p)) → Read (s .out) (tablesOf p) → Refused p 22 0 q a → AddCase p text q a
-  full : (s : Circuit) (n : ℕ) → Sound p → readOf text ≡ sheet s → Fresh s (tablesOf p) → Least (p .k) (s .tree) n → p .capacity - p .used < n →
+  driven : (s : Circuit) → Sound p → readOf text ≡ passed s → Driven (s .out) (tablesOf p) → Refused p 21 0 q a → AddCase p text q a
+  read : (s : Circuit) → Sound p → readOf text ≡ passed s → ¬ (Driven (s .out) (tablesOf p)) → Read (s .out) (tablesOf p) → Refused p 22 0 q a → AddCase p text q a
+  full : (s : Circuit) (n : ℕ) → Sound p → readOf text ≡ passed s → Fresh s (tablesOf p) → Least (p .k) (s .tree) n → p .capacity - p .used < n →
       Refused p 23 0 q a → AddCase p text q a
-  taken : (s : Circuit) → Sound p → readOf text ≡ sheet s → Fresh s (tablesOf p) → (t : Accepted p s q a) → p .used + length (t .new) ≤ p .capacity →
+  taken : (s : Circuit) → Sound p → readOf text ≡ passed s → Fresh s (tablesOf p) → (t : Accepted p s q a) → p .used + length (t .new) ≤ p .capacity →
       AddCase p text q a
 
 module _ (p : Part) (text : List ℕ) (q : Part) (a : Answer) where
@@ -121,9 +122,9 @@ module _ (p : Part) (text : List ℕ) (q : Part) (a : Answer) where
           p .used + length (t .new) ≤ p .capacity
       room h s n l le t = omega (arith, le, h .used-fits, least-unique l (t .least .fewest))
 
-      reading : Sound p → (v : CircuitReading) → readOf text ≡ v → Take p v q a → AddCase p text q a
+      reading : Sound p → (v : Checked Circuit) → readOf text ≡ v → Take p v q a → AddCase p text q a
       reading h (unread number place) e = misread number place h e
-      reading h (sheet s) e =
+      reading h (passed s) e =
           by-either (driven-reflects (s .out) (tablesOf p)) (driven s h e)
           (λ d. by-either (read-reflects (s .out) (tablesOf p)) (read s h e d)
           (λ r o. by-either (reflects-le (o .0) (p .capacity - p .used))

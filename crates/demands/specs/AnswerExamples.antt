@@ -3,9 +3,9 @@ use Prim.Native.Nat.{ℕ}
 use Prim.Native.String.{String}
 use mathlib.Core.Path.{_≡_, refl}
 use mathlib.Core.List.{List, [], _∷_, map}
+use Rattle.lists.specs.Trusted.Checked.{_>>=_, require, given}
 use Rattle.plan.specs.Key.{pack}
 use Rattle.plan.specs.Subsets.{least-of}
-use Rattle.sheet.specs.Trusted.Step.{_>>=_, require, given}
 use Rattle.sheet.specs.Checks.{bytes}
 use Rattle.part.specs.Trusted.Parts.{blanks}
 use Rattle.part.specs.Trusted.SoundTest.{sound}

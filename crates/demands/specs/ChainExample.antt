@@ -7,16 +7,16 @@ use mathlib.Core.Bool.{true, false}
 use mathlib.Core.List.{List, [], _∷_}
 use Rattle.lists.specs.Trusted.Lists.{Every, here}
 use Rattle.lists.specs.ListLaws.{every-none, every-cons, permuted-refl}
+use Rattle.lists.specs.Trusted.Checked.{passed, _>>=_, require, given}
 use Rattle.tree.specs.declared.Kind.the-variants.{And as and, Or as or}
 use Rattle.tree.specs.Trusted.Tree.{leaf, gate, none, edge}
 use Rattle.cover.specs.Trusted.Cover.{Cover, net, top, end, old, Rooted, rooted, tables, CoverOf, Least, same, split, done, match}
 use Rattle.cover.specs.Trusted.Tables.{LookupTable}
 use Rattle.cover.specs.Trusted.CoverTables.{Circuit, LeastCoverTables}
-use Rattle.sheet.specs.Trusted.Step.{_>>=_, require, given}
 use Rattle.sheet.specs.Checks.{bytes}
 use Rattle.part.specs.Trusted.Parts.{blanks}
 use Rattle.part.specs.Trusted.SoundTest.{sound}
-use Rattle.part.specs.Trusted.Reading.{sheet, readOf}
+use Rattle.part.specs.Trusted.Reading.{readOf}
 use Rattle.part.specs.Trusted.Answers.{accepted, Result}
 use Rattle.part.specs.Trusted.Add.{opened, extended, Add}
 use Rattle.demands.specs.Trusted.Calls.{add, final, Chain, call}
@@ -44,11 +44,11 @@ abbrev second-text : List ℕ
 second-text = bytes "   -21     1\n     1     2    20    -5\n"
 
 -- the texts read as the sheets
-first-read : readOf first-text ≡ sheet first
+first-read : readOf first-text ≡ passed first
 unfolding readOf _>>=_ require given
 first-read = refl
 
-second-read : readOf second-text ≡ sheet second
+second-read : readOf second-text ≡ passed second
 unfolding readOf _>>=_ require given
 second-read = refl
 

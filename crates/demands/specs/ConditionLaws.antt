@@ -8,6 +8,7 @@ use mathlib.Core.List.{List}
 use lib.Dec.{leb}
 use lib.ListN.{length}
 use Rattle.lists.specs.TestLaws.{Reflects, reflects-le, reflects-true, by-reflects}
+use Rattle.lists.specs.Trusted.Checked.{Checked, passed, refused as unwritten}
 use Rattle.cover.specs.Trusted.Cover.{Least}
 use Rattle.plan.specs.Least.{least-unique}
 use Rattle.cover.specs.Trusted.CoverTables.{Circuit}
@@ -17,7 +18,7 @@ use Rattle.part.specs.Trusted.Parts.{tablesOf}
 use Rattle.part.specs.Trusted.Sound.{Sound}
 use Rattle.part.specs.Trusted.SoundTest.{sound}
 use Rattle.part.specs.SoundLaws.{sound-reflects}
-use Rattle.part.specs.Trusted.Reading.{CircuitReading, sheet, readOf}
+use Rattle.part.specs.Trusted.Reading.{readOf}
 use Rattle.part.specs.Trusted.Answers.{Answer, accepted, refused}
 use Rattle.part.specs.Trusted.Add.{opened, isDriven, isRead, Add}
 use Rattle.demands.specs.AddLaws.{driven-reflects, read-reflects, opened-cases, AddCase, unsound, misread, driven, read, full, taken, add-case, not-refused, refused-stays}
@@ -26,8 +27,7 @@ use Rattle.demands.specs.Determined.{leastNumber, answerOf}
 use Rattle.demands.specs.ReadingLaws.{reads-right}
 use Rattle.demands.specs.DeterminedLaws.{least-number, add-answer}
 use Rattle.listing.specs.Trusted.Listing.{lineOf, listOf}
-use Rattle.list_line.specs.Trusted.Writes as Writes
-use Rattle.list_line.specs.Trusted.Writes.{wrote, pasted}
+use Rattle.list_line.specs.Trusted.Writes.{pasted}
 use Rattle.listing.specs.Lines.{turnedDown, fitted, lineWritten, listWritten}
 use Rattle.demands.specs.Trusted.Demands.{OpeningCondition, bad-k, bad-capacity, OpeningTold, AddCondition, not-sound, out-driven, out-read, no-room, not-read, Passes, AddTold}
 use Rattle.demands.specs.Trusted.Demands.{WriteCondition, part-unsound, not-there, too-short, WriteTold}
@@ -79,16 +79,16 @@ module _ (p : Part) (text : List ℕ) where
   abbrev fits : Circuit → Bool
   fits s = leb (leastNumber (p .k) s) (p .capacity - p .used)
 
-  fits-reflects : (s : Circuit) (n : ℕ) → Sound p → readOf text ≡ sheet s → Least (p .k) (s .tree) n → Reflects (fits s) (n ≤ p .capacity - p .used)
+  fits-reflects : (s : Circuit) (n : ℕ) → Sound p → readOf text ≡ passed s → Least (p .k) (s .tree) n → Reflects (fits s) (n ≤ p .capacity - p .used)
   fits-reflects s n h e l =
       subst (λ m. Reflects (fits s) (m ≤ p .capacity - p .used)) (least-unique (least-number (p .k) (h .k-range .0) s (reads-right text s e)) l)
       (reflects-le (leastNumber (p .k) s) (p .capacity - p .used))
 
   -- the answer of a sound part to what is read, and by the last three tests
-  read-answer : Sound p → {v : CircuitReading} → readOf text ≡ v → answerOf p (readOf text) ≡ Determined.taken p v
+  read-answer : Sound p → {v : Checked Circuit} → readOf text ≡ v → answerOf p (readOf text) ≡ Determined.taken p v
   read-answer h e = ap (λ b. cond b (Determined.taken p (readOf text)) (refused 20 0)) (reflects-true (sound-reflects p) h) ∙ ap (Determined.taken p) e
 
-  tests-answer : (s : Circuit) {d r f : Bool} → Sound p → readOf text ≡ sheet s → isDriven (s .out) (tablesOf p) ≡ d → isRead (s .out) (tablesOf p) ≡ r →
+  tests-answer : (s : Circuit) {d r f : Bool} → Sound p → readOf text ≡ passed s → isDriven (s .out) (tablesOf p) ≡ d → isRead (s .out) (tablesOf p) ≡ r →
       fits s ≡ f → answerOf p (readOf text) ≡ cond d (refused 21 0) (cond r (refused 22 0) (cond f accepted (refused 23 0)))
   tests-answer s h e x y z = read-answer h e ∙ (λ i. cond (x i) (refused 21 0) (cond (y i) (refused 22 0) (cond (z i) accepted (refused 23 0))))
 
@@ -116,14 +116,14 @@ module _ (p : Part) (text : List ℕ) where
   found (full s n h g f l m r) e = told (r .1) e (no-room s n (record { sound = h; read = g; fresh = f }) l m)
   found (taken s h g f t room) e = absurd (not-refused e (t .answer))
 
-  passed : {q : Part} {a : Answer} → AddCase p text q a → a ≡ accepted →
+  accepted-passes : {q : Part} {a : Answer} → AddCase p text q a → a ≡ accepted →
       (s : Circuit) × (n : ℕ) × Passes p text s × Least (p .k) (s .tree) n × (n ≤ p .capacity - p .used)
-  passed (unsound n r) e = absurd (not-refused (r .1) e)
-  passed (misread m l h g r) e = absurd (not-refused (r .1) e)
-  passed (driven s h g d r) e = absurd (not-refused (r .1) e)
-  passed (read s h g d i r) e = absurd (not-refused (r .1) e)
-  passed (full s n h g f l m r) e = absurd (not-refused (r .1) e)
-  passed (taken s h g f t room) e = (s, length (t .new), record { sound = h; read = g; fresh = f }, t .least .fewest, omega (arith, room))
+  accepted-passes (unsound n r) e = absurd (not-refused (r .1) e)
+  accepted-passes (misread m l h g r) e = absurd (not-refused (r .1) e)
+  accepted-passes (driven s h g d r) e = absurd (not-refused (r .1) e)
+  accepted-passes (read s h g d i r) e = absurd (not-refused (r .1) e)
+  accepted-passes (full s n h g f l m r) e = absurd (not-refused (r .1) e)
+  accepted-passes (taken s h g f t room) e = (s, length (t .new), record { sound = h; read = g; fresh = f }, t .least .fewest, omega (arith, room))
 
   pub add-told : (q : Part) (a : Answer) → Add p text q a → AddTold p text q a
   add-told q a h =
@@ -131,7 +131,7 @@ module _ (p : Part) (text : List ℕ) where
       let e = add-answer p text q a h in
       record {
         refuses = λ m l. (found o, λ c. e ∙ condition-answer c);
-        accepts = (passed o, λ g. e ∙ passes-answer (g .0) (g .2) (reflects-true (fits-reflects (g .0) (g .1) (g .2 .sound) (g .2 .read) (g .3)) (g .4)));
+        accepts = (accepted-passes o, λ g. e ∙ passes-answer (g .0) (g .2) (reflects-true (fits-reflects (g .0) (g .1) (g .2 .sound) (g .2 .read) (g .3)) (g .4)));
         stays = λ m l r. refused-stays p text q a m l h r;
       }
 
@@ -140,7 +140,7 @@ module _ (p : Part) (text : List ℕ) where
 module _ (p : Part) (There : Type 0) (old : List ℕ) (at : ℕ) (new : List ℕ) where
   -- no two of the conditions hold
   one-only : {m l number place : ℕ} → WriteCondition p There old at new m l → WriteCondition p There old at new number place →
-      Writes.refused m l ≡ Writes.refused number place
+      _≡_ {A = Checked ℕ} (unwritten m l) (unwritten number place)
   one-only (part-unsound n) (part-unsound i) = refl
   one-only (part-unsound n) (not-there h i) = absurd (n h)
   one-only (part-unsound n) (too-short h t l) = absurd (n h)
@@ -156,7 +156,7 @@ module _ (p : Part) (There : Type 0) (old : List ℕ) (at : ℕ) (new : List ℕ
   none-holds h t l (not-there g n) = n t
   none-holds h t l (too-short g u m) = omega (arith, l, m)
 
-  not-written : {number place count : ℕ} → Writes.refused number place ≡ wrote count → ⊥
+  not-written : {number place count : ℕ} → unwritten number place ≡ passed count → ⊥
   not-written e = let z : _≡_ {A = ℕ} 0 1 = cc in omega arith
 
   turned-told : (number : ℕ) → WriteCondition p There old at new number 0 → WriteTold p There old at new (turnedDown number old)
@@ -167,10 +167,10 @@ module _ (p : Part) (There : Type 0) (old : List ℕ) (at : ℕ) (new : List ℕ
     bytes = λ n e. absurd (not-written e);
   }
 
-  written-told : Sound p → There → at + length new ≤ length old → WriteTold p There old at new (record { result = wrote (length new); bytes = pasted old at new })
+  written-told : Sound p → There → at + length new ≤ length old → WriteTold p There old at new (record { result = passed (length new); bytes = pasted old at new })
   written-told h t l = record {
     refuses = λ m k. (λ e. absurd (not-written (sym e)), λ c. absurd (none-holds h t l c));
-    writes = λ n. (λ e. (h, t, l, (let i : length new ≡ n = cc in sym i)), λ g. ap wrote (sym (g .3)));
+    writes = λ n. (λ e. (h, t, l, (let i : length new ≡ n = cc in sym i)), λ g. ap passed (sym (g .3)));
     stays = λ m k e. absurd (not-written (sym e));
     bytes = λ n e. refl;
   }
@@ -180,7 +180,7 @@ module _ (p : Part) (There : Type 0) (old : List ℕ) (at : ℕ) (new : List ℕ
       by-reflects (λ x. WriteTold p There old at new (cond x (cond b (fitted old at new) (turnedDown 15 old)) (turnedDown 20 old))) (sound-reflects p)
       (λ h. by-reflects (λ x. WriteTold p There old at new (cond x (fitted old at new) (turnedDown 15 old))) r
       (λ t. by-reflects
-      (λ x. WriteTold p There old at new (cond x (record { result = wrote (length new); bytes = pasted old at new }) (turnedDown 14 old)))
+      (λ x. WriteTold p There old at new (cond x (record { result = passed (length new); bytes = pasted old at new }) (turnedDown 14 old)))
       (reflects-le (at + length new) (length old)) (written-told h t) (λ l. turned-told 14 (too-short h t (omega arith))))
       (λ n. turned-told 15 (not-there h n)))
       (λ n. turned-told 20 (part-unsound n))

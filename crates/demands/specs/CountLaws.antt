@@ -5,13 +5,14 @@ use mathlib.Core.Path.{_≡_, refl, sym, ap, ap₂, _∙_, subst}
 use mathlib.Core.List.{List, _∷_, _++_}
 use lib.ListN.{length}
 use Rattle.lists.specs.Trusted.Lists.{_∈_}
+use Rattle.lists.specs.Trusted.Checked.{Checked, passed, refused as unread}
 use Rattle.cover.specs.Trusted.Cover.{Least}
 use Rattle.plan.specs.Least.{least-unique}
 use Rattle.cover.specs.Trusted.Tables.{LookupTable}
 use Rattle.cover.specs.Trusted.CoverTables.{Circuit}
 use Rattle.part.specs.Trusted.Parts.{inUse, tablesOf, Shaped}
 use Rattle.part.specs.Trusted.Sound.{Sound}
-use Rattle.part.specs.Trusted.Reading.{CircuitReading, sheet, refused as unread, readOf}
+use Rattle.part.specs.Trusted.Reading.{readOf}
 use Rattle.part.specs.Trusted.Answers.{Answer, accepted, refused, Result}
 use Rattle.part.specs.Trusted.Add.{Refused, Accepted}
 use Rattle.part.specs.declared.Part.{Part}
@@ -22,10 +23,10 @@ use Rattle.demands.specs.Trusted.Calls.{Call, add, final, sheetsRead, if
 use Rattle.demands.specs.Trusted.Demands.{Total, none, more, left, Passes, Taken, RoomTold, CallAccounted, Demand3}
 
 -- two readings
-pub same-sheet : {v : CircuitReading} {s t : Circuit} → v ≡ sheet s → v ≡ sheet t → s ≡ t
+pub same-sheet : {v : Checked Circuit} {s t : Circuit} → v ≡ passed s → v ≡ passed t → s ≡ t
 same-sheet e f = cc
 
-not-read : {v : CircuitReading} {number place : ℕ} {s : Circuit} → v ≡ unread number place → v ≡ sheet s → ⊥
+not-read : {v : Checked Circuit} {number place : ℕ} {s : Circuit} → v ≡ unread number place → v ≡ passed s → ⊥
 not-read e f = let z : _≡_ {A = ℕ} 0 1 = cc in omega arith
 
 -- two refusals
@@ -52,7 +53,7 @@ Grown k ss u v = (n : ℕ) × Total k ss n × (v ≡ u + n)
 -- ---- one add
 
 module _ (p : Part) (shape : Shaped p) (text : List ℕ) where
-  accepted-taken : (s : Circuit) (q : Part) (a : Answer) → Sound p → readOf text ≡ sheet s → (t : Accepted p s q a) → Taken (p .k) p text q s (t .new)
+  accepted-taken : (s : Circuit) (q : Part) (a : Answer) → Sound p → readOf text ≡ passed s → (t : Accepted p s q a) → Taken (p .k) p text q s (t .new)
   accepted-taken s q a h e t = record {
     read = e;
     records = ap inUse (t .part) ∙ extended-inUse p shape h (t .new);

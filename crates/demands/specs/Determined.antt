@@ -4,12 +4,12 @@ use Prim.Native.Nat.{ℕ, _-_}
 use mathlib.Core.Path.{_≡_}
 use mathlib.Core.Bool.{cond}
 use lib.Dec.{leb}
+use Rattle.lists.specs.Trusted.Checked.{Checked, passed, refused as unread}
 use Rattle.plan.specs.Least.{least-tables}
 use Rattle.cover.specs.Trusted.CoverTables.{Circuit}
 use Rattle.table.specs.Trusted.Rules.{IsNet}
 use Rattle.part.specs.Trusted.Parts.{tablesOf}
 use Rattle.part.specs.Trusted.SoundTest.{sound}
-use Rattle.part.specs.Trusted.Reading.{CircuitReading, sheet, refused as unread}
 use Rattle.part.specs.Trusted.Answers.{Answer, accepted, refused}
 use Rattle.part.specs.Trusted.Add.{isDriven, isRead}
 use Rattle.part.specs.declared.Part.{Part}
@@ -33,9 +33,9 @@ offered p s =
     (cond (isRead (s .out) (tablesOf p)) (refused 22 0)
     (cond (leb (leastNumber (p .k) s) (p .capacity - p .used)) accepted (refused 23 0)))
 
-abbrev pub taken : Part → CircuitReading → Answer
-taken p (sheet s) = offered p s
+abbrev pub taken : Part → Checked Circuit → Answer
+taken p (passed s) = offered p s
 taken p (unread number place) = refused number place
 
-abbrev pub answerOf : Part → CircuitReading → Answer
+abbrev pub answerOf : Part → Checked Circuit → Answer
 answerOf p v = cond (sound p) (taken p v) (refused 20 0)

@@ -13,6 +13,7 @@ use Rattle.lists.specs.TestLaws.{reflects-le, reflects-eq, reflects-or, reflect
 use Rattle.tree.specs.Trusted.Limits.{codeBase}
 use Rattle.tree.specs.Trusted.Tree.{proper}
 use Rattle.tree.specs.Leaves.{leaves}
+use Rattle.lists.specs.Trusted.Checked.{Checked, passed, refused as unread}
 use Rattle.cover.specs.Trusted.Cover.{Least}
 use Rattle.plan.specs.Least.{least-unique, least-tables, least-is}
 use Rattle.cover.specs.Trusted.CoverTables.{Circuit, Fresh}
@@ -21,7 +22,7 @@ use Rattle.part.specs.Trusted.Parts.{tablesOf, Shaped}
 use Rattle.part.specs.Trusted.Sound.{Sound}
 use Rattle.part.specs.Trusted.SoundTest.{sound}
 use Rattle.part.specs.SoundLaws.{sound-reflects}
-use Rattle.part.specs.Trusted.Reading.{CircuitReading, sheet, refused as unread, readOf}
+use Rattle.part.specs.Trusted.Reading.{readOf}
 use Rattle.part.specs.Trusted.Answers.{Answer, accepted, refused, Result}
 use Rattle.part.specs.Trusted.Add.{isDriven, isRead, Refused, Accepted, Fill, Offer, Take, Add}
 use Rattle.demands.specs.ExtendLaws.{extended-tables, extended-sound}
@@ -72,7 +73,7 @@ module _ (p : Part) (text : List ℕ) (q : Part) (a : Answer) where
       by-reflects (λ b. either b (Accepted p s q a) (Refused p 23 0 q a) → a ≡ cond b accepted (refused 23 0))
       (reflects-le (leastNumber (p .k) s) (p .capacity - p .used)) (λ l t. t .answer) (λ l r. r .1)
 
-  offer-answer : Sound p → (s : Circuit) → readOf text ≡ sheet s → Offer p s q a → a ≡ offered p s
+  offer-answer : Sound p → (s : Circuit) → readOf text ≡ passed s → Offer p s q a → a ≡ offered p s
   offer-answer h s e =
       by-reflects (λ b. either b (Refused p 21 0 q a) Others → a ≡ cond b (refused 21 0) others) (driven-reflects (s .out) (tablesOf p))
       (λ d r. r .1)
@@ -92,8 +93,8 @@ module _ (p : Part) (text : List ℕ) (q : Part) (a : Answer) where
       others : Answer
       others = cond (isRead (s .out) (tablesOf p)) (refused 22 0) last
 
-  take-answer : Sound p → (v : CircuitReading) → readOf text ≡ v → Take p v q a → a ≡ taken p v
-  take-answer h (sheet s) e o = offer-answer h s e o
+  take-answer : Sound p → (v : Checked Circuit) → readOf text ≡ v → Take p v q a → a ≡ taken p v
+  take-answer h (passed s) e o = offer-answer h s e o
   take-answer h (unread number place) e r = r .1
 
   -- THE ANSWER OF AN ADD
@@ -110,8 +111,8 @@ alike-offered p q s h g = λ i.
     cond (g .driven (s .out) h i) (refused 21 0)
     (cond (g .read (s .out) h i) (refused 22 0) (cond (leb (leastNumber (g .k i) s) (g .capacity i - g .used i)) accepted (refused 23 0)))
 
-alike-taken : (p q : Part) (text : List ℕ) (v : CircuitReading) → readOf text ≡ v → Alike p q → taken p v ≡ taken q v
-alike-taken p q text (sheet s) e g = let l = reads-right text s e .legal .out-net in alike-offered p q s (omega arith) g
+alike-taken : (p q : Part) (text : List ℕ) (v : Checked Circuit) → readOf text ≡ v → Alike p q → taken p v ≡ taken q v
+alike-taken p q text (passed s) e g = let l = reads-right text s e .legal .out-net in alike-offered p q s (omega arith) g
 alike-taken p q text (unread number place) e g = refl
 
 alike-answer : (p q : Part) (text : List ℕ) → Alike p q → answerOf p (readOf text) ≡ answerOf q (readOf text)
@@ -122,10 +123,10 @@ abbrev Stays : Part → Part → Answer → Type 0
 Stays p q a = (number : ℕ) × (place : ℕ) × Refused p number place q a
 
 abbrev Takes : Part → List ℕ → Part → Answer → Type 0
-Takes p text q a = (s : Circuit) × (readOf text ≡ sheet s) × After p s q × (a ≡ accepted)
+Takes p text q a = (s : Circuit) × (readOf text ≡ passed s) × After p s q × (a ≡ accepted)
 
 module _ (p : Part) (shape : Shaped p) (text : List ℕ) where
-  accepted-after : (s : Circuit) (q : Part) (a : Answer) → Sound p → readOf text ≡ sheet s → Fresh s (tablesOf p) → (t : Accepted p s q a) →
+  accepted-after : (s : Circuit) (q : Part) (a : Answer) → Sound p → readOf text ≡ passed s → Fresh s (tablesOf p) → (t : Accepted p s q a) →
       p .used + length (t .new) ≤ p .capacity → After p s q
   accepted-after s q a h e f t room = record {
     k = ap (λ q. q .k) (t .part);

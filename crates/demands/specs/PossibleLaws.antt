@@ -12,6 +12,7 @@ use Rattle.lists.specs.NumberLaws.{sorted-permuted}
 use Rattle.lists.specs.Trusted.Tests.{either}
 use Rattle.lists.specs.TestLaws.{reflects-le, by-reflects}
 use Rattle.tree.specs.Trusted.Limits.{codeBase}
+use Rattle.lists.specs.Trusted.Checked.{Checked, passed, refused as unread}
 use Rattle.tree.specs.declared.Kind.{Kind}
 use Rattle.tree.specs.Trusted.Tree.{Node, Edges}
 use Rattle.cover.specs.Trusted.Cover.{Cover, net, top, Fanins, end, old, new, pick, arity, frontier, tables, tables*, width, widths, Fits, Fits*, SplitOf, split, Matched, done, match, Rooted, rooted, CoverOf, Least}
@@ -24,7 +25,7 @@ use Rattle.cover.specs.Legal.{Legal}
 use Rattle.part.specs.Trusted.Parts.{tablesOf}
 use Rattle.part.specs.Trusted.Sound.{Sound}
 use Rattle.part.specs.SoundLaws.{sound-reflects}
-use Rattle.part.specs.Trusted.Reading.{CircuitReading, sheet, refused as unread, readOf}
+use Rattle.part.specs.Trusted.Reading.{readOf}
 use Rattle.demands.specs.Readable.{Readable}
 use Rattle.demands.specs.ReadingLaws.{reads-right}
 use Rattle.part.specs.Trusted.Answers.{Answer, accepted, refused, Result}
@@ -277,8 +278,8 @@ module _ (p : Part) (text : List ℕ) where
       last : (q : Part) × (a : Answer) × Last q a
       last = (filled .0, filled .1, (leastNumber (p .k) s, least, filled .2))
 
-  take-possible : Sound p → (v : CircuitReading) → readOf text ≡ v → (q : Part) × (a : Answer) × Take p v q a
-  take-possible h (sheet s) e = offer-possible h s (reads-right text s e)
+  take-possible : Sound p → (v : Checked Circuit) → readOf text ≡ v → (q : Part) × (a : Answer) × Take p v q a
+  take-possible h (passed s) e = offer-possible h s (reads-right text s e)
   take-possible h (unread number place) e = (p, refused number place, (refl, refl))
 
   -- EVERY PROMISE OF AN ADD can be kept

@@ -9,11 +9,12 @@ use lib.ListN.{length, length-take}
 use Rattle.lists.specs.Trusted.Lists.{_∈_, first, later, Every}
 use Rattle.lists.specs.ListLaws.{every-none, every-cons, every-append}
 use Rattle.tree.specs.Trusted.Limits.{codeBase}
+use Rattle.lists.specs.Trusted.Checked.{passed}
 use Rattle.cover.specs.Trusted.Tables.{LookupTable}
 use Rattle.cover.specs.Trusted.CoverTables.{Circuit}
 use Rattle.cover.specs.History.{History, start, Met}
 use Rattle.cover.specs.HistoryLaws.{history-met}
-use Rattle.sheet.specs.Trusted.Sheet.{DrawnSheet, sheet as drew}
+use Rattle.sheet.specs.Trusted.Sheet.{DrawnSheet}
 use Rattle.sheet.specs.Trusted.Read.{readSheet}
 use Rattle.sheet.specs.Trusted.Trees.{drawn}
 use Rattle.sheet.specs.ValueLaws.{sheet-value}
@@ -161,7 +162,7 @@ module _ (p : Part) (shape : Shaped p) (history : History codeBase (p .k) (table
       t : (s : Circuit) × (new : List LookupTable) × Taken (p .k) o text (r .part) s new
       t = (counted p shape cs rs chain) .each ss o (add text) r l .2 .taken e
 
-      d : (d : DrawnSheet) × (readSheet text ≡ drew d) × (drawn d ≡ t .0)
+      d : (d : DrawnSheet) × (readSheet text ≡ passed d) × (drawn d ≡ t .0)
       d = drawn-back text (t .0) (t .2 .read)
 
       g : Goes (p .k) (final p rs) [] (acceptedIn cs rs)

@@ -3,12 +3,12 @@ use Prim.Native.String.{String}
 use mathlib.Core.Path.{_≡_, refl}
 use mathlib.Core.Bool.{true, false}
 use mathlib.Core.List.{List, [], _∷_, _++_, map}
+use Rattle.lists.specs.Trusted.Checked.{passed, _>>=_, require, given}
 use Rattle.tree.specs.declared.Kind.the-variants.{And as and, Or as or}
 use Rattle.sheet.specs.declared.Source.{Source}
 use Rattle.sheet.specs.declared.Source.the-variants.{Net as net, Gate as gate}
 use Rattle.sheet.specs.declared.Edge.{Edge as Fanin}
-use Rattle.sheet.specs.Trusted.Sheet.{DrawnSheet, sheet}
-use Rattle.sheet.specs.Trusted.Step.{_>>=_, require, given}
+use Rattle.sheet.specs.Trusted.Sheet.{DrawnSheet}
 use Rattle.sheet.specs.Trusted.Read.{readSheet}
 use Rattle.sheet.specs.Checks.{bytes}
 use Rattle.drawing.specs.Trusted.Written.{written}
@@ -56,6 +56,6 @@ drawings = (
 pub drawings-written : map (λ (d : Drawing). written (d .1)) drawings ≡ map (λ (d : Drawing). bytes (d .0)) drawings
 drawings-written = refl
 
-pub drawings-read : map (λ (d : Drawing). readSheet (written (d .1))) drawings ≡ map (λ (d : Drawing). sheet (d .1)) drawings
+pub drawings-read : map (λ (d : Drawing). readSheet (written (d .1))) drawings ≡ map (λ (d : Drawing). passed (d .1)) drawings
 unfolding _>>=_ require given
 drawings-read = refl

@@ -10,16 +10,16 @@ use lib.ListN.{length, take, drop, length-map, take-append-drop}
 use Rattle.lists.specs.Trusted.Lists.{gather}
 use Rattle.lists.specs.Cases.{and-split}
 use Rattle.lists.specs.Trusted.Tests.{within}
+use Rattle.lists.specs.Trusted.Checked.{passed}
+use Rattle.lists.specs.CheckedLaws.{Meets, on, meets-any, meets-of, meets-bind, meets-require, meets-given}
 use Rattle.tree.specs.declared.Kind.{Kind}
 use Rattle.tree.specs.declared.Kind.the-variants.{And as and, Or as or}
 use Rattle.tree.specs.Trusted.Limits.{fewestFanins, mostFanins}
 use Rattle.decimal.specs.Trusted.Number.{Number, columns, fieldNumber}
 use Rattle.sheet.specs.Trusted.Limits.{mostGates, mostFields}
 use Rattle.sheet.specs.Trusted.Line.{line, with, cells, fields}
-use Rattle.sheet.specs.Trusted.Sheet.{DrawnSheet, sheet, codeOf}
-use Rattle.sheet.specs.Trusted.Step.{Step}
-use Rattle.sheet.specs.StepLaws.{Meets, on, off, meets-any, meets-bind, meets-require, meets-given}
-use Rattle.sheet.specs.Trusted.Read.{counts, two, Seen, nothing, readHead, readFanin, readFanins, kindOf, gateHeadOf, readGate, readLeft, readAll, reading, readSheet}
+use Rattle.sheet.specs.Trusted.Sheet.{DrawnSheet, codeOf}
+use Rattle.sheet.specs.Trusted.Read.{counts, two, Seen, nothing, headOf, readFanin, readFanins, kindOf, gateHeadOf, readGate, readLeft, readSheet}
 use Rattle.sheet.specs.Trusted.Formed.{WellFormed}
 use Rattle.sheet.specs.NumberLaws.{by-test, counts-holds}
 use Rattle.sheet.specs.ReadLaws.{source-named, read-formed}
@@ -78,7 +78,7 @@ kind-text x k =
 
 -- ---- the lines of a sheet
 
-head-text : (bytes : List ℕ) → Meets (λ h. bytes ≡ fieldsText (signedNumber (h .inverted) (h .out) ∷ plainNumber (h .count) ∷ [])) (readHead bytes)
+head-text : (bytes : List ℕ) → Meets (λ h. bytes ≡ fieldsText (signedNumber (h .inverted) (h .out) ∷ plainNumber (h .count) ∷ [])) (headOf (fields bytes))
 head-text bytes =
     meets-given _ _ _ _ (λ xs d. meets-given _ _ _ _ (λ x e.
     meets-require _ _ _ _ (λ t. meets-require _ _ _ _ (λ u. meets-require _ _ _ _ (λ v.
@@ -121,7 +121,7 @@ left-text out (suc n) g seen text =
       ap suc (f .1),
     ))))
 
-all-text : (text : List ℕ) → Meets (λ s. text ≡ written s) (readAll text)
+all-text : (text : List ℕ) → Meets (λ s. text ≡ written s) (readSheet text)
 all-text text =
     meets-given _ _ _ _ (λ p e.
     meets-bind _ _ (head-text (p .0)) (λ h b.
@@ -132,14 +132,10 @@ all-text text =
     ∙ ap₂ (λ n l. lineText (signedNumber (h .inverted) (h .out) ∷ plainNumber n ∷ []) ++ l) (sym (f .1))
     (f .0 ∙ ap (λ l. gather gateText (r .0) ++ l) (empty-is (r .2) t) ∙ append-nil (gather gateText (r .0)))))))))
 
-pub read-text : (text : List ℕ) (s : DrawnSheet) → readSheet text ≡ sheet s → text ≡ written s
-read-text text s e = of (readAll text) (all-text text) e
-  where
-    of : (m : Step DrawnSheet) → Meets (λ s. text ≡ written s) m → reading m ≡ sheet s → text ≡ written s
-    of m (on {a = a} h) f = let q : a ≡ s = cc in h ∙ ap written q
-    of m off f = let z : _≡_ {A = ℕ} 0 1 = cc in absurd (omega arith)
+pub read-text : (text : List ℕ) (s : DrawnSheet) → readSheet text ≡ passed s → text ≡ written s
+read-text text s e = meets-of (all-text text) e
 
 -- THE TEXTS THAT ARE READ ARE THE WELL-FORMED SHEETS WRITTEN, AND NO OTHERS
 pub read-exactly : (text : List ℕ) (s : DrawnSheet) →
-    (readSheet text ≡ sheet s → WellFormed s × (text ≡ written s)) × (WellFormed s × (text ≡ written s) → readSheet text ≡ sheet s)
+    (readSheet text ≡ passed s → WellFormed s × (text ≡ written s)) × (WellFormed s × (text ≡ written s) → readSheet text ≡ passed s)
 read-exactly text s = (λ e. (read-formed text s e, read-text text s e), λ h. ap readSheet (h .1) ∙ read-written s (h .0))

@@ -12,6 +12,7 @@ use Rattle.lists.specs.Trusted.Lists.{_∈_, first, later, Every, Distinct, gat
 use Rattle.lists.specs.ListLaws.{every-none, every-cons, every-head, every-tail, every-left, every-right, permuted-to}
 use Rattle.lists.specs.Trusted.Tests.{elem}
 use Rattle.lists.specs.TestLaws.{reflects-lt, reflects-eq, reflects-not, reflects-elem, reflects-within, reflects-true}
+use Rattle.lists.specs.Trusted.Checked.{Checked, passed, _>>=_, require, given}
 use Rattle.tree.specs.declared.Kind.{Kind}
 use Rattle.tree.specs.declared.Kind.the-variants.{And as and, Or as or}
 use Rattle.tree.specs.Trusted.Limits.{greatestNet, fewestFanins, mostFanins, codeBase}
@@ -21,9 +22,8 @@ use Rattle.sheet.specs.declared.Source.the-variants.{Net as net, Gate as gate}
 use Rattle.sheet.specs.declared.Edge.{Edge as Fanin}
 use Rattle.sheet.specs.Trusted.Limits.{mostGates, mostLeaves}
 use Rattle.sheet.specs.Trusted.Line.{fields}
-use Rattle.sheet.specs.Trusted.Sheet.{DrawnGate, DrawnSheet, sheet, netOf, gateOf, codeOf, faninNets, faninGates, leafNets, gatesRead, from}
-use Rattle.sheet.specs.Trusted.Step.{Step, good, _>>=_, require, given}
-use Rattle.sheet.specs.Trusted.Read.{Seen, nothing, readHead, sourceOf, readSource, readFanins, kindOf, gateHeadOf, readGate, readLeft, readUnread, readAll, reading, readSheet}
+use Rattle.sheet.specs.Trusted.Sheet.{DrawnGate, DrawnSheet, netOf, gateOf, codeOf, faninNets, faninGates, leafNets, gatesRead, from}
+use Rattle.sheet.specs.Trusted.Read.{Seen, nothing, headOf, sourceOf, readSource, readFanins, kindOf, gateHeadOf, readGate, readLeft, readUnread, readSheet}
 use Rattle.sheet.specs.Trusted.Formed.{Net, LeafNet, FaninCount, Before, Earlier, WellFormed}
 use Rattle.sheet.specs.ReadLaws.{gates-distinct}
 use Rattle.drawing.specs.Trusted.Written.{signedNumber, plainNumber, fieldsText, headNumbers, kindNumber, faninNumber, gateNumbers, gateText, written}
@@ -31,16 +31,16 @@ use Rattle.drawing.specs.LineLaws.{line-written, fields-written}
 
 -- ---- steps that go on
 
-on-bind : {A B : Type 0} {r : Step B} (m : Step A) (f : A → Step B) {a : A} → m ≡ good a → f a ≡ r → (m >>= f) ≡ r
+on-bind : {A B : Type 0} {r : Checked B} (m : Checked A) (f : A → Checked B) {a : A} → m ≡ passed a → f a ≡ r → (m >>= f) ≡ r
 unfolding _>>=_
 on-bind m f e h = ap (λ k. k >>= f) e ∙ h
 
-on-require : {B : Type 0} {r : Step B} (b : Bool) (number place : ℕ) (f : Unit {0} → Step B) → T b → f tt ≡ r → (require b number place >>= f) ≡ r
+on-require : {B : Type 0} {r : Checked B} (b : Bool) (number place : ℕ) (f : Unit {0} → Checked B) → T b → f tt ≡ r → (require b number place >>= f) ≡ r
 unfolding _>>=_ require
 on-require true number place f t h = h
 on-require false number place f t h = absurd t
 
-on-given : {A B : Type 0} {r : Step B} (o : Option A) (number place : ℕ) (f : A → Step B) {a : A} → o ≡ some a → f a ≡ r → (given o number place >>= f) ≡ r
+on-given : {A B : Type 0} {r : Checked B} (o : Option A) (number place : ℕ) (f : A → Checked B) {a : A} → o ≡ some a → f a ≡ r → (given o number place >>= f) ≡ r
 unfolding _>>=_ given
 on-given o number place f e h = ap (λ p. given p number place >>= f) e ∙ h
 
@@ -63,7 +63,7 @@ fanins-small g (f ∷ fs) m h k =
 -- ---- line 1
 
 head-back : (s : DrawnSheet) → WellFormed s →
-    readHead (fieldsText (headNumbers s)) ≡ good (record { out = s .out; inverted = s .inverted; count = length (s .gates) })
+    headOf (fields (fieldsText (headNumbers s))) ≡ passed (record { out = s .out; inverted = s .inverted; count = length (s .gates) })
 head-back s w =
     on-given _ _ _ _ (fields-written (signedNumber (s .inverted) (s .out)) (plainNumber (length (s .gates)) ∷ []) (omega arith)
     (every-cons (small (s .inverted) (s .out) (w .out-net .0) (omega arith)) (every-cons (small false (length (s .gates)) (w .gate-count .0) (omega arith)) (every-none _))))
@@ -127,29 +127,29 @@ unlisted : (xs : List ℕ) (x : ℕ) → Distinct (xs ++ (x ∷ [])) → T (not 
 unlisted xs x d = reflects-not (reflects-elem x xs) .from (new-last xs x d)
 
 source-seen : (out place : ℕ) (seen : Seen) (s : Source) → Unseen out seen (netOf s) (gateOf s) →
-    readSource out place seen s ≡ good (seenWith seen (netOf s) (gateOf s))
+    readSource out place seen s ≡ passed (seenWith seen (netOf s) (gateOf s))
 source-seen out place seen (net n) u =
     on-require _ _ _ _ (unlisted (seen .nets) n (u .leaf-once))
     (on-require _ _ _ _ (reflects-not (reflects-eq n out) .from (every-head (u .leaf-nets) .2))
     (on-require _ _ _ _ (reflects-lt (length (seen .nets)) mostLeaves .from (omega (arith, simp length-append at (u .leaf-count))))
-    (ap (λ l. good (record { nets = seen .nets ++ (n ∷ []); gates = l })) (sym (append-nil (seen .gates))))))
+    (ap (λ l. passed (record { nets = seen .nets ++ (n ∷ []); gates = l })) (sym (append-nil (seen .gates))))))
 source-seen out place seen (gate j) u =
     on-require _ _ _ _ (unlisted (seen .gates) j (u .gate-once))
-    (ap (λ l. good (record { nets = l; gates = seen .gates ++ (j ∷ []) })) (sym (append-nil (seen .nets))))
+    (ap (λ l. passed (record { nets = l; gates = seen .gates ++ (j ∷ []) })) (sym (append-nil (seen .nets))))
 
 leaf-net : {out : ℕ} {ns : List ℕ} → Every (LeafNet out) ns → Every Net ns
 leaf-net h n m = let r = h n m in (r .0, r .1)
 
 fanins-back : (out g : ℕ) (seen : Seen) (fs : List Fanin) → Unseen out seen (faninNets fs) (faninGates fs) → Every (Before g) (faninGates fs) →
-    readFanins out g seen (map faninNumber fs) ≡ good (fs, seenWith seen (faninNets fs) (faninGates fs))
-fanins-back out g seen [] u k = ap₂ (λ x y. good ([], record { nets = x; gates = y })) (sym (append-nil (seen .nets))) (sym (append-nil (seen .gates)))
+    readFanins out g seen (map faninNumber fs) ≡ passed (fs, seenWith seen (faninNets fs) (faninGates fs))
+fanins-back out g seen [] u k = ap₂ (λ x y. passed ([], record { nets = x; gates = y })) (sym (append-nil (seen .nets))) (sym (append-nil (seen .gates)))
 fanins-back out g seen (f ∷ fs) u k =
     let s = f .source in
     let v = unseen-first (netOf s) (faninNets fs) (gateOf s) (faninGates fs) u in
     on-bind _ _
     (on-given _ _ _ _ (source-back g s (leaf-net (v .leaf-nets)) (every-left (gateOf s) (faninGates fs) k)) (on-bind _ _ (source-seen out (suc g) seen s v) refl))
     (on-bind _ _ (fanins-back out g (seenWith seen (netOf s) (gateOf s)) fs (unseen-then (netOf s) (faninNets fs) (gateOf s) (faninGates fs) u) (every-right (gateOf s) (faninGates fs) k))
-    (ap (λ x. good (f ∷ fs, x)) (seen-both seen (netOf s) (faninNets fs) (gateOf s) (faninGates fs))))
+    (ap (λ x. passed (f ∷ fs, x)) (seen-both seen (netOf s) (faninNets fs) (gateOf s) (faninGates fs))))
 
 -- ---- gates
 
@@ -168,7 +168,7 @@ module _ (out g : ℕ) (seen : Seen) (x : DrawnGate) (number : g ≤ mostGates) 
       fields-written (plainNumber (kindNumber (x .kind))) (plainNumber (length (x .fanins)) ∷ map faninNumber (x .fanins)) (simp length-map (omega arith))
       (every-cons (kind-small (x .kind)) (every-cons (small false (length (x .fanins)) (omega arith) (omega arith)) (fanins-small g (x .fanins) number (leaf-net (u .leaf-nets)) k)))
 
-  gate-head-back : gateHeadOf g (fields (fieldsText (gateNumbers x))) ≡ good (x .kind, map faninNumber (x .fanins))
+  gate-head-back : gateHeadOf g (fields (fieldsText (gateNumbers x))) ≡ passed (x .kind, map faninNumber (x .fanins))
   gate-head-back =
       on-given _ _ _ _ gate-fields
       (on-given _ _ _ _ refl
@@ -176,37 +176,34 @@ module _ (out g : ℕ) (seen : Seen) (x : DrawnGate) (number : g ≤ mostGates) 
       (on-require _ _ _ _ (reflects-within fewestFanins mostFanins (length (x .fanins)) .from count)
       (on-require _ _ _ _ (reflects-eq (length (map faninNumber (x .fanins))) (length (x .fanins)) .from (simp length-map)) refl))))
 
-  gate-back : readGate out g seen (fieldsText (gateNumbers x)) ≡ good (x, seenWith seen (faninNets (x .fanins)) (faninGates (x .fanins)))
+  gate-back : readGate out g seen (fieldsText (gateNumbers x)) ≡ passed (x, seenWith seen (faninNets (x .fanins)) (faninGates (x .fanins)))
   gate-back = on-bind _ _ gate-head-back (on-bind _ _ (fanins-back out g seen (x .fanins) u k) refl)
 
 left-back : (out g : ℕ) (seen : Seen) (xs : List DrawnGate) → g + length xs ≤ mostGates + 1 → Every FaninCount xs → Earlier g xs →
     Unseen out seen (leafNets xs) (gatesRead xs) →
-    readLeft out (length xs) g seen (gather gateText xs) ≡ good (xs, seenWith seen (leafNets xs) (gatesRead xs), [])
-left-back out g seen [] l c k u = ap₂ (λ x y. good ([], record { nets = x; gates = y }, [])) (sym (append-nil (seen .nets))) (sym (append-nil (seen .gates)))
+    readLeft out (length xs) g seen (gather gateText xs) ≡ passed (xs, seenWith seen (leafNets xs) (gatesRead xs), [])
+left-back out g seen [] l c k u = ap₂ (λ x y. passed ([], record { nets = x; gates = y }, [])) (sym (append-nil (seen .nets))) (sym (append-nil (seen .gates)))
 left-back out g seen (x ∷ xs) l c k u =
     let ns = faninNets (x .fanins) in
     let gs = faninGates (x .fanins) in
     on-given _ _ _ _ (line-written (gateNumbers x) (gather gateText xs))
     (on-bind _ _ (gate-back out g seen x (omega arith) (every-head c) (unseen-first ns (leafNets xs) gs (gatesRead xs) u) (k .0))
     (on-bind _ _ (left-back out (suc g) (seenWith seen ns gs) xs (omega arith) (every-tail c) (k .1) (unseen-then ns (leafNets xs) gs (gatesRead xs) u))
-    (ap (λ y. good (x ∷ xs, y, [])) (seen-both seen ns (leafNets xs) gs (gatesRead xs)))))
+    (ap (λ y. passed (x ∷ xs, y, [])) (seen-both seen ns (leafNets xs) gs (gatesRead xs)))))
 
 -- ---- a sheet
 
-unread-back : (gs read : List ℕ) → Every (λ g. g ∈ read) gs → readUnread gs read ≡ good tt
+unread-back : (gs read : List ℕ) → Every (λ g. g ∈ read) gs → readUnread gs read ≡ passed tt
 unread-back [] read h = refl
 unread-back (g ∷ gs) read h = on-require _ _ _ _ (reflects-elem g read .from (every-head h)) (unread-back gs read (every-tail h))
 
 all-unseen : (s : DrawnSheet) → WellFormed s → Unseen (s .out) nothing (leafNets (s .gates)) (gatesRead (s .gates))
 all-unseen s w = record { leaf-nets = w .leaf-nets; leaf-once = w .leaf-once; leaf-count = w .leaf-count; gate-once = gates-distinct s w }
 
-all-back : (s : DrawnSheet) → WellFormed s → readAll (written s) ≡ good s
-all-back s w =
+pub read-written : (s : DrawnSheet) → WellFormed s → readSheet (written s) ≡ passed s
+read-written s w =
     on-given _ _ _ _ (line-written (headNumbers s) (gather gateText (s .gates)))
     (on-bind _ _ (head-back s w)
     (on-bind _ _ (left-back (s .out) 1 nothing (s .gates) (omega arith) (w .fanin-counts) (w .earlier) (all-unseen s w))
     (on-require _ _ _ _ tt
     (on-bind _ _ (unread-back (from 1 (length (s .gates) - 1)) (gatesRead (s .gates)) (permuted-to (w .read-once) (λ g m. m))) refl))))
-
-pub read-written : (s : DrawnSheet) → WellFormed s → readSheet (written s) ≡ sheet s
-read-written s w = ap reading (all-back s w)

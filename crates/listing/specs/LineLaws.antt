@@ -11,6 +11,7 @@ use lib.Seq.{getD-take}
 use Rattle.lists.specs.ListLaws.{every-at, gather-append, gather-map}
 use Rattle.lists.specs.Trusted.Lists.{gather, upto}
 use Rattle.lists.specs.Cases.{by-leb}
+use Rattle.lists.specs.Trusted.Checked.{passed}
 use Rattle.table.specs.Trusted.Records.{blank}
 use Rattle.table.specs.RuleLaws.{map-append}
 use Rattle.part.specs.declared.Part.{Part}
@@ -21,7 +22,7 @@ use Rattle.part.specs.Trusted.SoundTest.{sound}
 use Rattle.part.specs.SoundLaws.{sound-reflects}
 use Rattle.list_line.specs.Trusted.TableLine.{tableLine}
 use Rattle.listing.specs.Trusted.Listing.{lineOf, listOf}
-use Rattle.list_line.specs.Trusted.Writes.{wrote, pasted}
+use Rattle.list_line.specs.Trusted.Writes.{pasted}
 use Rattle.list_line.specs.FieldLaws.{table-length}
 use Rattle.list_line.specs.Line.{tableWidth, topLine}
 use Rattle.listing.specs.Lines.{turnedDown, fitted, lineWritten, listWritten, tableLines, longest}
@@ -81,10 +82,10 @@ module _ (p : Part) (s : Sound p) where
 
 module _ (old : List ℕ) (at : ℕ) {line new : List ℕ} (e : line ≡ new) where
   pub fitted-out : leb (at + length new) (length old) ≡ false → fitted old at line ≡ turnedDown 14 old
-  fitted-out h = ap (fitted old at) e ∙ ap (λ b. cond b (record { result = wrote (length new); bytes = pasted old at new }) (turnedDown 14 old)) h
+  fitted-out h = ap (fitted old at) e ∙ ap (λ b. cond b (record { result = passed (length new); bytes = pasted old at new }) (turnedDown 14 old)) h
 
-  pub fitted-in : leb (at + length new) (length old) ≡ true → fitted old at line ≡ record { result = wrote (length new); bytes = pasted old at new }
-  fitted-in h = ap (fitted old at) e ∙ ap (λ b. cond b (record { result = wrote (length new); bytes = pasted old at new }) (turnedDown 14 old)) h
+  pub fitted-in : leb (at + length new) (length old) ≡ true → fitted old at line ≡ record { result = passed (length new); bytes = pasted old at new }
+  fitted-in h = ap (fitted old at) e ∙ ap (λ b. cond b (record { result = passed (length new); bytes = pasted old at new }) (turnedDown 14 old)) h
 
 module _ (p : Part) (line : ℕ) (old : List ℕ) (at : ℕ) where
   pub line-unsound : sound p ≡ false → lineWritten p line old at ≡ turnedDown 20 old

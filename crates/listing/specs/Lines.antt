@@ -6,13 +6,14 @@ use mathlib.Core.List.{List}
 use lib.Dec.{leb}
 use lib.ListN.{length, getD}
 use Rattle.lists.specs.Trusted.Lists.{gather, upto}
+use Rattle.lists.specs.Trusted.Checked.{passed, refused}
 use Rattle.table.specs.Trusted.Limits.{inputRoom, tableRoom}
 use Rattle.table.specs.Trusted.Records.{blank}
 use Rattle.part.specs.declared.Part.{Part}
 use Rattle.part.specs.Trusted.SoundTest.{sound}
 use Rattle.list_line.specs.Trusted.TableLine.{tableLine}
 use Rattle.listing.specs.Trusted.Listing.{lineOf, listOf}
-use Rattle.list_line.specs.Trusted.Writes.{wrote, refused, WriteOutcome, pasted}
+use Rattle.list_line.specs.Trusted.Writes.{WriteOutcome, pasted}
 
 -- turned down: no byte is altered
 abbrev pub turnedDown : ℕ → List ℕ → WriteOutcome
@@ -20,7 +21,7 @@ turnedDown number old = record { result = refused number 0; bytes = old }
 
 -- 14 where fewer bytes are left from the place on, or the place is past the end
 abbrev pub fitted : List ℕ → ℕ → List ℕ → WriteOutcome
-fitted old at new = cond (leb (at + length new) (length old)) (record { result = wrote (length new); bytes = pasted old at new }) (turnedDown 14 old)
+fitted old at new = cond (leb (at + length new) (length old)) (record { result = passed (length new); bytes = pasted old at new }) (turnedDown 14 old)
 
 -- WRITING A LINE: 20, then 15, then 14
 abbrev pub lineWritten : Part → ℕ → List ℕ → ℕ → WriteOutcome

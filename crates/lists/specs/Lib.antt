@@ -4,3 +4,4 @@ pub mod ListLaws
 pub mod MixLaws
 pub mod NumberLaws
 pub mod TestLaws
+pub mod CheckedLaws

@@ -1,1 +1,1 @@
-// Laws of lists and of computed tests, for every crate above. They are all in specs/: there is no code.
+// Laws of lists, of computed tests and of results that can be refused, for every crate above. They are all in specs/: there is no code.

@@ -12,9 +12,10 @@ use Rattle.lists.specs.ListLaws.{every-head, every-tail, every-at}
 use Rattle.lists.specs.Trusted.Tests.{any, elem}
 use Rattle.lists.specs.TestLaws.{reflects-true}
 use Rattle.tree.specs.Trusted.Limits.{codeBase}
+use Rattle.lists.specs.Trusted.Checked.{passed, refused as unread, _>>=_}
 use Rattle.cover.specs.Trusted.Tables.{LookupTable}
 use Rattle.cover.specs.Trusted.CoverTables.{Circuit, LeastCoverTables}
-use Rattle.sheet.specs.Trusted.Sheet.{DrawnSheet, sheet as read, refused as unread}
+use Rattle.sheet.specs.Trusted.Sheet.{DrawnSheet}
 use Rattle.sheet.specs.declared.Sheet.{Sheet as CodeSheet}
 use Rattle.sheet.specs.declared.ReadAnswer.{ReadAnswer as CodeAnswer}
 use Rattle.sheet.specs.declared.ReadResult.{ReadResult as CodeReading}
@@ -161,11 +162,11 @@ module _ (p : Part) (text : List ℕ) where
 
   module _ (h : Sound p) where
     pub add-misread : (number line : ℕ) → readSheet text ≡ unread number line → Add p text p (refused number line)
-    unfolding Add readOf
+    unfolding Add readOf _>>=_
     add-misread number line e = rw (reflects-true (sound-reflects p) h) (rw e (refl, refl))
 
-    pub add-offered : (s : DrawnSheet) → readSheet text ≡ read s → (q : Part) (a : Answer) → Offer p (drawn s) q a → Add p text q a
-    unfolding Add readOf
+    pub add-offered : (s : DrawnSheet) → readSheet text ≡ passed s → (q : Part) (a : Answer) → Offer p (drawn s) q a → Add p text q a
+    unfolding Add readOf _>>=_
     add-offered s e q a o = rw (reflects-true (sound-reflects p) h) (rw e o)
 
 -- what the code read

@@ -12,6 +12,7 @@ use mir.Val.{SFits, toZ, ofZ}
 use mir.Facts.{toZ-ofZ}
 use Rattle.lists.specs.Cases.{by-leb}
 use Rattle.lists.specs.TestLaws.{reflects-true}
+use Rattle.lists.specs.Trusted.Checked.{passed, refused}
 use Rattle.decimal.specs.Trusted.Number.{Number, columns}
 use Rattle.decimal.specs.Trusted.Columns.{fieldOf, signedFieldOf}
 use Rattle.decimal.specs.Reading.{numberOfInt}
@@ -23,7 +24,7 @@ use Rattle.part.specs.Trusted.Sound.{Sound}
 use Rattle.part.specs.SoundLaws.{sound-reflects}
 use Rattle.listing.specs.Trusted.Listing.{listOf}
 use Rattle.part.specs.declared.Part.{Part}
-use Rattle.list_line.specs.Trusted.Writes.{WriteOutcome, wrote, refused, pasted}
+use Rattle.list_line.specs.Trusted.Writes.{WriteOutcome, pasted}
 use Rattle.listing.specs.Trusted.WriteAnswers.{resultOf}
 use Rattle.listing.specs.Lines.{turnedDown, fitted, listWritten}
 use Rattle.list_line.specs.PasteLaws.{paste-one, paste-length, paste-next}
@@ -46,7 +47,7 @@ printedOf NoRoom = Printed-NoRoom
 
 only-14 : (old line : List ℕ) (number : ℕ) → refused number 0 ≡ fitted old 0 line .result → number ≡ 14
 only-14 old line number =
-    by-leb (λ b. refused number 0 ≡ (cond b (record { result = wrote (length line); bytes = pasted old 0 line }) (turnedDown 14 old)) .result → number ≡ 14)
+    by-leb (λ b. refused number 0 ≡ (cond b (record { result = passed (length line); bytes = pasted old 0 line }) (turnedDown 14 old)) .result → number ≡ 14)
     (0 + length line) (length old)
     (λ l e. let z : _≡_ {A = ℕ} 0 1 = cc in absurd (omega arith))
     (λ l e. cc)
@@ -86,7 +87,7 @@ module _ (old : List ℕ) (number sheet place : ℕ) where
         record { answer = x; bytes = a } ≡ writing.signedWrittenAt old 0 6 (minus number) →
         record { answer = y; bytes = b } ≡ writing.fieldWrittenAt a 6 6 sheet →
         record { answer = z; bytes = d } ≡ writing.fieldWrittenAt b 12 6 place →
-        record { result = wrote 19; bytes = set d 18 10 } ≡ fitted old 0 (refusalLine number sheet place)
+        record { result = passed 19; bytes = set d 18 10 } ≡ fitted old 0 (refusalLine number sheet place)
     refusal-in a b d e f g =
         let x = signedFieldOf columns (minus number) in
         let y = fieldOf 6 sheet in
@@ -103,5 +104,5 @@ module _ (old : List ℕ) (number sheet place : ℕ) where
         let ld : length d ≡ length old = ap length ed ∙ paste-length old 0 ((x ++ y) ++ z) (omega arith) in
         let es : set d 18 10 ≡ pasted old 0 (refusalLine number sheet place) =
         paste-next old d (set d 18 10) 0 18 ((x ++ y) ++ z) (10 ∷ []) ed refl (omega arith) (paste-one d 18 10 (omega arith)) in
-        ap (λ bs. record { result = wrote 19; bytes = bs }) es
+        ap (λ bs. record { result = passed 19; bytes = bs }) es
         ∙ sym (fitted-in old 0 {line = refusalLine number sheet place} refl (le-leb 19 (length old) room))

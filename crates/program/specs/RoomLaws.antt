@@ -6,12 +6,13 @@ use mathlib.Core.List.{List}
 use lib.ListN.{length, take, drop}
 use lib.Seq.{take-at, drop-at}
 use borrow.Author.Tests.{le-leb}
+use Rattle.lists.specs.Trusted.Checked.{passed, refused as unwritten}
 use Rattle.part.specs.Trusted.Parts.{Shaped}
 use Rattle.part.specs.Trusted.Sound.{Sound}
 use Rattle.part.specs.Trusted.Answers.{Answer, accepted, refused}
 use Rattle.demands.specs.AddLaws.{kept, add-case}
 use Rattle.part.specs.declared.Part.{Part}
-use Rattle.list_line.specs.Trusted.Writes as writes
+use Rattle.list_line.specs.Trusted.Writes.{WriteOutcome, pasted}
 use Rattle.listing.specs.Lines.{longest}
 use Rattle.list_line.specs.PasteLaws.{paste-length}
 use Rattle.listing.specs.LineLaws.{list-short, fitted-in}
@@ -51,10 +52,10 @@ module _ (input line new old : List ℕ) (h : Prints input line) (room : 0 + len
   written-front : (n : ℕ) → WrittenAs line (Wrote n) new old → AtFront input n new old
   written-front n e =
       let i = e ∙ fitted-in old 0 {line = line} refl (le-leb (0 + length line) (length old) room) in
-      let w : writes.wrote n ≡ writes.wrote (length line) = ap (λ (o : writes.WriteOutcome). o .result) i in
+      let w : passed n ≡ passed (length line) = ap (λ (o : WriteOutcome). o .result) i in
       let c : length line ≡ n = cc in
       let d : 0 + length line ≡ n = omega arith in
-      let b : new ≡ writes.pasted old 0 line = ap (λ (o : writes.WriteOutcome). o .bytes) i in
+      let b : new ≡ pasted old 0 line = ap (λ (o : WriteOutcome). o .bytes) i in
       record {
         prints = subst (Prints input) (sym (ap (take n) b ∙ take-at line (drop (0 + length line) old) n c)) h;
         within = omega (arith, ap length b, paste-length old 0 line room);
@@ -63,7 +64,8 @@ module _ (input line new old : List ℕ) (h : Prints input line) (room : 0 + len
 
   written-all : WrittenAs line NoRoom new old → ⊥
   written-all e =
-      let i : writes.refused 14 0 ≡ writes.wrote (length line) = ap (λ (o : writes.WriteOutcome). o .result) (e ∙ fitted-in old 0 {line = line} refl (le-leb (0 + length line) (length old) room)) in
+      let f = e ∙ fitted-in old 0 {line = line} refl (le-leb (0 + length line) (length old) room) in
+      let i : unwritten 14 0 ≡ passed (length line) = ap (λ (o : WriteOutcome). o .result) f in
       let z : _≡_ {A = ℕ} 0 1 = cc in
       omega arith
 

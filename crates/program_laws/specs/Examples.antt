@@ -5,7 +5,7 @@ use mathlib.Core.Path.{_≡_, refl}
 use mathlib.Core.Bool.{false}
 use mathlib.Core.Option.{none, some}
 use mathlib.Core.List.{List, [], _∷_, _++_, map}
-use Rattle.sheet.specs.Trusted.Step.{_>>=_, require, given}
+use Rattle.lists.specs.Trusted.Checked.{_>>=_, require, given}
 use Rattle.sheet.specs.Checks.{bytes}
 use Rattle.sheet.specs.Trusted.Cut.{sheetText}
 use Rattle.part.specs.Trusted.Answers.{accepted, refused}

@@ -8,11 +8,12 @@ use mathlib.Core.List.{List, [], _∷_, _++_}
 use lib.ListN.{length, take, drop, length-append, length-drop, take-append-drop, List·getD-append}
 use lib.Seq.{take-all, take-append-le, drop-append-le, length-take-le}
 use Rattle.lists.specs.Cases.{by-leb}
+use Rattle.lists.specs.Trusted.Checked.{passed}
 use Rattle.decimal.specs.Trusted.Number.{columns}
 use Rattle.tree.specs.Leaves.{leaves}
 use Rattle.cover.specs.Trusted.CoverTables.{Circuit}
 use Rattle.cover.specs.Nets.{least-bounds}
-use Rattle.sheet.specs.Trusted.Sheet.{DrawnSheet, sheet as drew}
+use Rattle.sheet.specs.Trusted.Sheet.{DrawnSheet}
 use Rattle.sheet.specs.Trusted.Read.{readSheet}
 use Rattle.sheet.specs.Trusted.Cut.{sheetText}
 use Rattle.sheet.specs.CutLaws.{text-whole}
@@ -49,7 +50,7 @@ enough = tableBytes * tableRoom + sheetRoom
 -- it was read, and is no longer than its tables allow
 record Took (p : Part) (text : List ℕ) (q : Part) : Type 0 where
   sheet : DrawnSheet
-  read : readSheet text ≡ drew sheet
+  read : readSheet text ≡ passed sheet
   short : tableBytes * p .used + length text ≤ tableBytes * q .used
 
 took : (p : Part) → Shaped p → Sound p → (text : List ℕ) (q : Part) → Add p text q accepted → Took p text q

@@ -9,6 +9,7 @@ use mathlib.Core.Option.{Option, none, some}
 use mathlib.Core.List.{List, [], _∷_, _++_, map}
 use lib.ListN.{length, drop}
 use Rattle.lists.specs.Trusted.Lists.{upto, gather}
+use Rattle.lists.specs.Trusted.Checked.{Checked, passed, refused, _>>=_, require, given}
 use Rattle.tree.specs.declared.Kind.the-variants.{And as and, Or as or}
 use Rattle.tree.specs.Trusted.Tree.{Node, Edges}
 use Rattle.tree.specs.Leaves.{leaves}
@@ -18,8 +19,7 @@ use Rattle.sheet.specs.declared.Source.{Source}
 use Rattle.sheet.specs.declared.Source.the-variants.{Net as net, Gate as gate}
 use Rattle.sheet.specs.declared.Edge.{Edge as Fanin}
 use Rattle.sheet.specs.declared.Sheet.{Sheet}
-use Rattle.sheet.specs.Trusted.Sheet.{DrawnSheet, SheetReading, sheet, refused}
-use Rattle.sheet.specs.Trusted.Step.{_>>=_, require, given}
+use Rattle.sheet.specs.Trusted.Sheet.{DrawnSheet}
 use Rattle.sheet.specs.Trusted.Read.{readSheet}
 use Rattle.sheet.specs.Trusted.Cut.{sheetText}
 use Rattle.sheet.specs.Trusted.Trees.{treeOf}
@@ -148,12 +148,12 @@ first-tree = refl
 -- ---- what comes of texts
 
 abbrev pub Case : Type 0
-Case = String × SheetReading
+Case = String × Checked DrawnSheet
 
 abbrev pub cases : List Case
 cases =
-    (first, sheet firstSheet)
-    ∷ (second, sheet secondSheet)
+    (first, passed firstSheet)
+    ∷ (second, passed secondSheet)
     -- 1: line 1 missing, unended, empty, badly laid out, with one field or three
     ∷ ("", refused 1 1)
     ∷ ("    20     1", refused 1 1)
@@ -241,8 +241,8 @@ abbrev link : ℕ → List ℕ
 link g = bytes "     1     2" ++ three (101 + g) ++ bytes "  1" ++ drop 3 (three g) ++ (10 ∷ [])
 
 -- the numbers of gates and of leaves
-abbrev sizes : SheetReading → ℕ × ℕ
-sizes (sheet s) = (length (s .gates), length (leaves (treeOf s)))
+abbrev sizes : Checked DrawnSheet → ℕ × ℕ
+sizes (passed s) = (length (s .gates), length (leaves (treeOf s)))
 sizes (refused number place) = (0, 0)
 
 pub chain-read : sizes (readSheet (bytes "   999   255\n     1     2   100   101\n" ++ gather link (drop 1 (upto 255)))) ≡ (255, 256)

@@ -9,11 +9,11 @@ use mathlib.Core.List.{List, [], _∷_, _++_, append-assoc, append-nil}
 use lib.Dec.{T}
 use lib.ListN.{length, length-append}
 use Rattle.lists.specs.Cases.{by-eqb}
-use Rattle.sheet.specs.Trusted.Line.{after, line}
-use Rattle.sheet.specs.Trusted.Sheet.{DrawnGate, DrawnSheet, sheet, from}
-use Rattle.sheet.specs.Trusted.Step.{Step, good, bad, _>>=_, require, given}
-use Rattle.sheet.specs.StepLaws.{Meets, on, off, meets-any, meets-self, meets-bind, meets-require, meets-given}
-use Rattle.sheet.specs.Trusted.Read.{isEmpty, Head, Seen, nothing, readHead, readGate, readLeft, readUnread, readAll, reading, readSheet}
+use Rattle.sheet.specs.Trusted.Line.{after, line, fields}
+use Rattle.sheet.specs.Trusted.Sheet.{DrawnGate, DrawnSheet, from}
+use Rattle.sheet.specs.Trusted.Read.{isEmpty, Head, Seen, nothing, readGate, readLeft, readUnread, readSheet, headOf}
+use Rattle.lists.specs.Trusted.Checked.{Checked, passed, refused, _>>=_, require, given}
+use Rattle.lists.specs.CheckedLaws.{Meets, on, off, meets-any, meets-self, meets-of, meets-bind, meets-require, meets-given}
 use Rattle.sheet.specs.Trusted.Cut.{lines, gatesOf, sheetText, readNext}
 
 -- ---- a line
@@ -54,13 +54,13 @@ lines-some : (n : ℕ) (text : List ℕ) (p : List ℕ × List ℕ) → line tex
     lines (suc n) text ≡ (p .0 ++ (10 ∷ lines n (p .1) .0), lines n (p .1) .1)
 lines-some n text p e = rw (e, lines)
 
-pub left-none : (out n g : ℕ) (seen : Seen) (text : List ℕ) → line text ≡ none → readLeft out (suc n) g seen text ≡ bad 1 (suc g)
+pub left-none : (out n g : ℕ) (seen : Seen) (text : List ℕ) → line text ≡ none → readLeft out (suc n) g seen text ≡ refused 1 (suc g)
 unfolding _>>=_ given
 left-none out n g seen text e = rw (e, readLeft)
 
 pub left-some : (out n g : ℕ) (seen : Seen) (text : List ℕ) (p : List ℕ × List ℕ) → line text ≡ some p →
     readLeft out (suc n) g seen text
-    ≡ (readGate out g seen (p .0) >>= λ q. readLeft out n (suc g) (q .1) (p .1) >>= λ r. good (q .0 ∷ r .0, r .1, r .2))
+    ≡ (readGate out g seen (p .0) >>= λ q. readLeft out n (suc g) (q .1) (p .1) >>= λ r. passed (q .0 ∷ r .0, r .1, r .2))
 unfolding _>>=_ given
 left-some out n g seen text p e = rw (e, readLeft)
 
@@ -82,22 +82,22 @@ abbrev pub Gates : Type 0
 Gates = List DrawnGate × Seen × List ℕ
 
 -- the one reading is the other with a rest, where that has none
-abbrev Fronted : List ℕ → Step Gates → Step Gates → Type 0
-Fronted rest f k = (f ≡ (k >>= λ r. good (r .0, r .1, rest))) × Meets (λ r. r .2 ≡ []) k
+abbrev Fronted : List ℕ → Checked Gates → Checked Gates → Type 0
+Fronted rest f k = (f ≡ (k >>= λ r. passed (r .0, r .1, rest))) × Meets (λ r. r .2 ≡ []) k
 
-abbrev pub added : DrawnGate → Step Gates → Step Gates
-added x f = f >>= λ r. good (x ∷ r .0, r .1, r .2)
+abbrev pub added : DrawnGate → Checked Gates → Checked Gates
+added x f = f >>= λ r. passed (x ∷ r .0, r .1, r .2)
 
-fronted-more : (rest : List ℕ) (x : DrawnGate) (f k : Step Gates) → Fronted rest f k → Fronted rest (added x f) (added x k)
+fronted-more : (rest : List ℕ) (x : DrawnGate) (f k : Checked Gates) → Fronted rest f k → Fronted rest (added x f) (added x k)
 unfolding _>>=_
 fronted-more rest x f k (e, on {a = a} q) = (ap (added x) e, on q)
 fronted-more rest x f k (e, off) = (ap (added x) e, off)
 
-fronted-step : (rest : List ℕ) (m : Step (DrawnGate × Seen)) (f k : DrawnGate × Seen → Step Gates) → ((q : DrawnGate × Seen) → Fronted rest (f q) (k q)) →
+fronted-step : (rest : List ℕ) (m : Checked (DrawnGate × Seen)) (f k : DrawnGate × Seen → Checked Gates) → ((q : DrawnGate × Seen) → Fronted rest (f q) (k q)) →
     Fronted rest (m >>= λ q. added (q .0) (f q)) (m >>= λ q. added (q .0) (k q))
 unfolding _>>=_
-fronted-step rest (good q) f k h = fronted-more rest (q .0) (f q) (k q) (h q)
-fronted-step rest (bad number place) f k h = (refl, off)
+fronted-step rest (passed q) f k h = fronted-more rest (q .0) (f q) (k q) (h q)
+fronted-step rest (refused number place) f k h = (refl, off)
 
 left-lines : (out n g : ℕ) (seen : Seen) (text : List ℕ) → Fronted (lines n text .1) (readLeft out n g seen text) (readLeft out n g seen (lines n text .0))
 unfolding _>>=_
@@ -125,80 +125,85 @@ left-lines out (suc n) g seen text = of (line text) refl (λ q rest. left-lines 
 text-none : (text : List ℕ) → line text ≡ none → sheetText text ≡ (text, [])
 text-none text e = rw (e, sheetText)
 
-text-bad : (text : List ℕ) (p : List ℕ × List ℕ) (number place : ℕ) → line text ≡ some p → readHead (p .0) ≡ bad number place → sheetText text ≡ (text, [])
-text-bad text p number place e h = rw (e, sheetText) (ap (λ (m : Step Head). elim (gatesOf m) as (λ x. List ℕ × List ℕ) [ none ↦ (text, []) | some n ↦ lines (suc n) text ]) h)
+-- what is cut off, by what line 1 says
+abbrev cutBy : List ℕ → Checked Head → List ℕ × List ℕ
+cutBy text m = elim (gatesOf m) [ none ↦ (text, []) | some n ↦ lines (suc n) text ]
 
-text-good : (text : List ℕ) (p : List ℕ × List ℕ) (h : Head) → line text ≡ some p → readHead (p .0) ≡ good h →
+text-refused : (text : List ℕ) (p : List ℕ × List ℕ) (number place : ℕ) → line text ≡ some p → headOf (fields (p .0)) ≡ refused number place →
+    sheetText text ≡ (text, [])
+text-refused text p number place e h = rw (e, sheetText) (ap (cutBy text) h)
+
+text-passed : (text : List ℕ) (p : List ℕ × List ℕ) (h : Head) → line text ≡ some p → headOf (fields (p .0)) ≡ passed h →
     sheetText text ≡ lines (suc (h .count)) text
-text-good text p h e g = rw (e, sheetText) (ap (λ (m : Step Head). elim (gatesOf m) as (λ x. List ℕ × List ℕ) [ none ↦ (text, []) | some n ↦ lines (suc n) text ]) g)
+text-passed text p h e g = rw (e, sheetText) (ap (cutBy text) g)
 
 abbrev pub sheetOf : Head → List DrawnGate → DrawnSheet
 sheetOf h gs = record { out = h .out; inverted = h .inverted; gates = gs }
 
 -- what comes after the gates, with a rest and without
-abbrev pub withRest : Head → Step Gates → Step (DrawnSheet × List ℕ)
-withRest h f = f >>= λ r. readUnread (from 1 (h .count - 1)) (r .1 .gates) >>= λ _. good (sheetOf h (r .0), r .2)
+abbrev pub withRest : Head → Checked Gates → Checked (DrawnSheet × List ℕ)
+withRest h f = f >>= λ r. readUnread (from 1 (h .count - 1)) (r .1 .gates) >>= λ _. passed (sheetOf h (r .0), r .2)
 
-abbrev withNone : Head → Step Gates → Step DrawnSheet
-withNone h k = k >>= λ r. require (isEmpty (r .2)) 1 (h .count + 2) >>= λ _. readUnread (from 1 (h .count - 1)) (r .1 .gates) >>= λ _. good (sheetOf h (r .0))
+abbrev withNone : Head → Checked Gates → Checked DrawnSheet
+withNone h k = k >>= λ r. require (isEmpty (r .2)) 1 (h .count + 2) >>= λ _. readUnread (from 1 (h .count - 1)) (r .1 .gates) >>= λ _. passed (sheetOf h (r .0))
 
-pub next-none : (text : List ℕ) → line text ≡ none → (readNext text ≡ bad 1 1) × (readAll text ≡ bad 1 1)
+pub next-none : (text : List ℕ) → line text ≡ none → (readNext text ≡ refused 1 1) × (readSheet text ≡ refused 1 1)
 unfolding _>>=_ given
 next-none text e = (rw e, rw e)
 
 pub next-some : (text : List ℕ) (p : List ℕ × List ℕ) → line text ≡ some p →
-    (readNext text ≡ (readHead (p .0) >>= λ h. withRest h (readLeft (h .out) (h .count) 1 nothing (p .1))))
-    × (readAll text ≡ (readHead (p .0) >>= λ h. withNone h (readLeft (h .out) (h .count) 1 nothing (p .1))))
+    (readNext text ≡ (headOf (fields (p .0)) >>= λ h. withRest h (readLeft (h .out) (h .count) 1 nothing (p .1))))
+    × (readSheet text ≡ (headOf (fields (p .0)) >>= λ h. withNone h (readLeft (h .out) (h .count) 1 nothing (p .1))))
 unfolding _>>=_ given
 next-some text p e = (rw e, rw e)
 
--- what the step has read, with a rest
-abbrev pub leaving : {A : Type 0} → List ℕ → Step A → Step (A × List ℕ)
-leaving rest m = m >>= λ a. good (a, rest)
+-- the result, with a rest
+abbrev pub leaving : {A : Type 0} → List ℕ → Checked A → Checked (A × List ℕ)
+leaving rest m = m >>= λ a. passed (a, rest)
 
-then-rest : {A : Type 0} (m : Step (Unit {0})) (a : A) (rest : List ℕ) → _>>=_ {B = A × List ℕ} m (λ _. good (a, rest)) ≡ leaving rest (m >>= λ _. good a)
+then-rest : {A : Type 0} (m : Checked (Unit {0})) (a : A) (rest : List ℕ) → _>>=_ {B = A × List ℕ} m (λ _. passed (a, rest)) ≡ leaving rest (m >>= λ _. passed a)
 unfolding _>>=_
-then-rest (good u) a rest = refl
-then-rest (bad number place) a rest = refl
+then-rest (passed u) a rest = refl
+then-rest (refused number place) a rest = refl
 
-with-rest : (h : Head) (rest : List ℕ) (f k : Step Gates) → Fronted rest f k → withRest h f ≡ leaving rest (withNone h k)
+with-rest : (h : Head) (rest : List ℕ) (f k : Checked Gates) → Fronted rest f k → withRest h f ≡ leaving rest (withNone h k)
 unfolding _>>=_ require
 with-rest h rest f k (e, off) = ap (withRest h) e
 with-rest h rest f k (e, on {a = a} q) =
     ap (withRest h) e
     ∙ (then-rest (readUnread (from 1 (h .count - 1)) (a .1 .gates)) (sheetOf h (a .0)) rest
-    ∙ ap (λ l. leaving rest (withNone h (good (a .0, a .1, l)))) (sym q))
+    ∙ ap (λ l. leaving rest (withNone h (passed (a .0, a .1, l)))) (sym q))
 
 -- TO READ WHAT IS CUT OFF IS TO READ THE NEXT SHEET, and what follows it is the rest
-pub next-is : (text : List ℕ) → readNext text ≡ leaving (sheetText text .1) (readAll (sheetText text .0))
+pub next-is : (text : List ℕ) → readNext text ≡ leaving (sheetText text .1) (readSheet (sheetText text .0))
 unfolding _>>=_
 next-is text = of (line text) refl
   where
-    bads : (number place : ℕ) → sheetText text ≡ (text, []) → readNext text ≡ bad number place → readAll text ≡ bad number place →
-        readNext text ≡ leaving (sheetText text .1) (readAll (sheetText text .0))
-    bads number place c n a = n ∙ (ap (leaving []) (sym a) ∙ ap (λ (r : List ℕ × List ℕ). leaving (r .1) (readAll (r .0))) (sym c))
+    bads : (number place : ℕ) → sheetText text ≡ (text, []) → readNext text ≡ refused number place → readSheet text ≡ refused number place →
+        readNext text ≡ leaving (sheetText text .1) (readSheet (sheetText text .0))
+    bads number place c n a = n ∙ (ap (leaving []) (sym a) ∙ ap (λ (r : List ℕ × List ℕ). leaving (r .1) (readSheet (r .0))) (sym c))
 
-    heads : (p : List ℕ × List ℕ) → line text ≡ some p → (m : Step Head) → readHead (p .0) ≡ m →
-        readNext text ≡ leaving (sheetText text .1) (readAll (sheetText text .0))
-    heads p e (bad number place) h =
+    heads : (p : List ℕ × List ℕ) → line text ≡ some p → (m : Checked Head) → headOf (fields (p .0)) ≡ m →
+        readNext text ≡ leaving (sheetText text .1) (readSheet (sheetText text .0))
+    heads p e (refused number place) h =
         let n = next-some text p e in
-        bads number place (text-bad text p number place e h)
-        (n .0 ∙ ap (λ (m : Step Head). m >>= λ h. withRest h (readLeft (h .out) (h .count) 1 nothing (p .1))) h)
-        (n .1 ∙ ap (λ (m : Step Head). m >>= λ h. withNone h (readLeft (h .out) (h .count) 1 nothing (p .1))) h)
-    heads p e (good h) g =
+        bads number place (text-refused text p number place e h)
+        (n .0 ∙ ap (λ (m : Checked Head). m >>= λ h. withRest h (readLeft (h .out) (h .count) 1 nothing (p .1))) h)
+        (n .1 ∙ ap (λ (m : Checked Head). m >>= λ h. withNone h (readLeft (h .out) (h .count) 1 nothing (p .1))) h)
+    heads p e (passed h) g =
         let n = next-some text p e in
         let rest = lines (h .count) (p .1) in
         let a = next-some (p .0 ++ (10 ∷ rest .0)) (p .0, rest .0) (line-cut text p e .again (rest .0)) in
         n .0
-        ∙ (ap (λ (m : Step Head). m >>= λ h. withRest h (readLeft (h .out) (h .count) 1 nothing (p .1))) g
+        ∙ (ap (λ (m : Checked Head). m >>= λ h. withRest h (readLeft (h .out) (h .count) 1 nothing (p .1))) g
         ∙ (with-rest h (rest .1) (readLeft (h .out) (h .count) 1 nothing (p .1)) (readLeft (h .out) (h .count) 1 nothing (rest .0)) (left-lines (h .out) (h .count) 1 nothing (p .1))
-        ∙ (ap (λ (m : Step Head). leaving (rest .1) (m >>= λ h. withNone h (readLeft (h .out) (h .count) 1 nothing (rest .0)))) (sym g)
+        ∙ (ap (λ (m : Checked Head). leaving (rest .1) (m >>= λ h. withNone h (readLeft (h .out) (h .count) 1 nothing (rest .0)))) (sym g)
         ∙ (ap (leaving (rest .1)) (sym (a .1))
-        ∙ ap (λ (r : List ℕ × List ℕ). leaving (r .1) (readAll (r .0))) (sym (text-good text p h e g ∙ lines-some (h .count) text p e))))))
+        ∙ ap (λ (r : List ℕ × List ℕ). leaving (r .1) (readSheet (r .0))) (sym (text-passed text p h e g ∙ lines-some (h .count) text p e))))))
 
-    of : (o : Option (List ℕ × List ℕ)) → line text ≡ o → readNext text ≡ leaving (sheetText text .1) (readAll (sheetText text .0))
+    of : (o : Option (List ℕ × List ℕ)) → line text ≡ o → readNext text ≡ leaving (sheetText text .1) (readSheet (sheetText text .0))
     of none e = let n = next-none text e in bads 1 1 (text-none text e) (n .0) (n .1)
-    of (some p) e = heads p e (readHead (p .0)) refl
+    of (some p) e = heads p e (headOf (fields (p .0))) refl
 
 -- ---- the cut loses nothing, and it takes something
 
@@ -210,13 +215,13 @@ data Way (text : List ℕ) : Type 0 where
 way : (text : List ℕ) → Way text
 way text = of (line text) refl
   where
-    heads : (p : List ℕ × List ℕ) → line text ≡ some p → (m : Step Head) → readHead (p .0) ≡ m → Way text
-    heads p e (bad number place) h = all (text-bad text p number place e h)
-    heads p e (good h) g = some-lines p (h .count) e (text-good text p h e g)
+    heads : (p : List ℕ × List ℕ) → line text ≡ some p → (m : Checked Head) → headOf (fields (p .0)) ≡ m → Way text
+    heads p e (refused number place) h = all (text-refused text p number place e h)
+    heads p e (passed h) g = some-lines p (h .count) e (text-passed text p h e g)
 
     of : (o : Option (List ℕ × List ℕ)) → line text ≡ o → Way text
     of none e = all (text-none text e)
-    of (some p) e = heads p e (readHead (p .0)) refl
+    of (some p) e = heads p e (headOf (fields (p .0))) refl
 
 pub text-whole : (text : List ℕ) → sheetText text .0 ++ sheetText text .1 ≡ text
 text-whole text = of (way text)
@@ -257,23 +262,18 @@ pub empty-is : {A : Type 0} (xs : List A) → T (isEmpty xs) → xs ≡ []
 empty-is [] t = refl
 empty-is (x ∷ xs) t = absurd t
 
-all-on : (text : List ℕ) → Meets (λ s. (rest : List ℕ) → sheetText (text ++ rest) ≡ (text, rest)) (readAll text)
+all-on : (text : List ℕ) → Meets (λ s. (rest : List ℕ) → sheetText (text ++ rest) ≡ (text, rest)) (readSheet text)
 all-on text =
     meets-given _ _ _ _ (λ p e.
-    meets-bind _ _ (meets-self (readHead (p .0))) (λ h g.
+    meets-bind _ _ (meets-self (headOf (fields (p .0)))) (λ h g.
     meets-bind _ _ (left-on (h .out) (h .count) 1 nothing (p .1)) (λ r f.
     meets-require _ _ _ _ (λ t.
     meets-bind _ _ (meets-any (readUnread (from 1 (h .count - 1)) (r .1 .gates))) (λ u v.
     on (λ rest.
     let l = line-on text p rest e in
-    text-good (text ++ rest) (p .0, p .1 ++ rest) h l g
+    text-passed (text ++ rest) (p .0, p .1 ++ rest) h l g
     ∙ (lines-some (h .count) (text ++ rest) (p .0, p .1 ++ rest) l
     ∙ (ap (λ (x : List ℕ × List ℕ). (p .0 ++ (10 ∷ x .0), x .1)) (f (empty-is (r .2) t) rest) ∙ ap (λ l. (l, rest)) (sym (line-cut text p e .whole))))))))))
 
-pub text-of : (text : List ℕ) (s : DrawnSheet) (rest : List ℕ) → readSheet text ≡ sheet s → sheetText (text ++ rest) ≡ (text, rest)
-text-of text s rest e = of (readAll text) (all-on text) e
-  where
-    of : (m : Step DrawnSheet) → Meets (λ s. (rest : List ℕ) → sheetText (text ++ rest) ≡ (text, rest)) m → reading m ≡ sheet s →
-        sheetText (text ++ rest) ≡ (text, rest)
-    of m (on h) e = h rest
-    of m off e = let z : _≡_ {A = ℕ} 0 1 = cc in absurd (omega arith)
+pub text-of : (text : List ℕ) (s : DrawnSheet) (rest : List ℕ) → readSheet text ≡ passed s → sheetText (text ++ rest) ≡ (text, rest)
+text-of text s rest e = meets-of (all-on text) e rest

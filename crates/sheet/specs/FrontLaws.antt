@@ -7,13 +7,13 @@ use mathlib.Core.Option.{Option, none, some}
 use mathlib.Core.List.{List, [], _∷_, _++_, append-assoc}
 use lib.ListN.{length, length-append}
 use Rattle.lists.specs.Cases.{by-leb}
+use Rattle.lists.specs.Trusted.Checked.{Checked, passed, refused, _>>=_, given}
+use Rattle.lists.specs.CheckedLaws.{Meets, on, off, meets-map}
 use Rattle.decimal.specs.Trusted.Number.{Number, columns}
 use Rattle.sheet.specs.Trusted.Limits.{mostFields, mostGates}
 use Rattle.sheet.specs.Trusted.Line.{after, line, fields}
-use Rattle.sheet.specs.Trusted.Sheet.{DrawnGate, DrawnSheet, sheet, from}
-use Rattle.sheet.specs.Trusted.Step.{Step, good, bad, _>>=_, given}
-use Rattle.sheet.specs.StepLaws.{Meets, on, off, meets-map}
-use Rattle.sheet.specs.Trusted.Read.{Head, Seen, nothing, readHead, readGate, readLeft, readUnread, readAll, reading, readSheet}
+use Rattle.sheet.specs.Trusted.Sheet.{DrawnGate, DrawnSheet, from}
+use Rattle.sheet.specs.Trusted.Read.{Head, Seen, nothing, headOf, readGate, readLeft, readUnread, readSheet}
 use Rattle.sheet.specs.ReadLaws.{head-meets}
 use Rattle.sheet.specs.Trusted.Cut.{sheetText, readNext}
 use Rattle.sheet.specs.CutLaws.{Gates, added, sheetOf, withRest, leaving, line-step, line-cut, line-on, left-none, left-some, next-none, next-some, next-is, text-whole, text-of}
@@ -77,31 +77,31 @@ first text more l = of (line text) refl
 
 -- ---- gates
 
-gate-unlaid : (out g : ℕ) (seen : Seen) (bytes : List ℕ) → fields bytes ≡ none → readGate out g seen bytes ≡ bad 1 (suc g)
+gate-unlaid : (out g : ℕ) (seen : Seen) (bytes : List ℕ) → fields bytes ≡ none → readGate out g seen bytes ≡ refused 1 (suc g)
 unfolding _>>=_ given
 gate-unlaid out g seen bytes e = rw e
 
-left-unlaid : (out n g : ℕ) (seen : Seen) (text : List ℕ) → Unlaid text → readLeft out (suc n) g seen text ≡ bad 1 (suc g)
+left-unlaid : (out n g : ℕ) (seen : Seen) (text : List ℕ) → Unlaid text → readLeft out (suc n) g seen text ≡ refused 1 (suc g)
 unfolding _>>=_
 left-unlaid out n g seen text h = of (line text) refl
   where
-    of : (o : Option (List ℕ × List ℕ)) → line text ≡ o → readLeft out (suc n) g seen text ≡ bad 1 (suc g)
+    of : (o : Option (List ℕ × List ℕ)) → line text ≡ o → readLeft out (suc n) g seen text ≡ refused 1 (suc g)
     of none e = left-none out n g seen text e
     of (some p) e = left-some out n g seen text p e ∙ rw (gate-unlaid out g seen (p .0) (h p e))
 
 -- the same reading, with more after the rest
-abbrev trailing : List ℕ → Step Gates → Step Gates
-trailing more f = f >>= λ r. good (r .0, r .1, r .2 ++ more)
+abbrev trailing : List ℕ → Checked Gates → Checked Gates
+trailing more f = f >>= λ r. passed (r .0, r .1, r .2 ++ more)
 
-trailing-step : (more : List ℕ) (m : Step (DrawnGate × Seen)) (f k : DrawnGate × Seen → Step Gates) → ((q : DrawnGate × Seen) → f q ≡ trailing more (k q)) →
+trailing-step : (more : List ℕ) (m : Checked (DrawnGate × Seen)) (f k : DrawnGate × Seen → Checked Gates) → ((q : DrawnGate × Seen) → f q ≡ trailing more (k q)) →
     (m >>= λ q. added (q .0) (f q)) ≡ trailing more (m >>= λ q. added (q .0) (k q))
 unfolding _>>=_
-trailing-step more (bad number place) f k h = refl
-trailing-step more (good q) f k h = ap (added (q .0)) (h q) ∙ of (k q)
+trailing-step more (refused number place) f k h = refl
+trailing-step more (passed q) f k h = ap (added (q .0)) (h q) ∙ of (k q)
   where
-    of : (s : Step Gates) → added (q .0) (trailing more s) ≡ trailing more (added (q .0) s)
-    of (good r) = refl
-    of (bad number place) = refl
+    of : (s : Checked Gates) → added (q .0) (trailing more s) ≡ trailing more (added (q .0) s)
+    of (passed r) = refl
+    of (refused number place) = refl
 
 left-front : (out n g : ℕ) (seen : Seen) (text more : List ℕ) → lineRoom * n ≤ length text →
     readLeft out n g seen (text ++ more) ≡ trailing more (readLeft out n g seen text)
@@ -120,35 +120,35 @@ left-front out (suc n) g seen text more l = of (first text more (omega arith)) (
 
 -- ---- a sheet
 
-head-unlaid : (bytes : List ℕ) → fields bytes ≡ none → readHead bytes ≡ bad 1 1
+head-unlaid : (bytes : List ℕ) → fields bytes ≡ none → headOf (fields bytes) ≡ refused 1 1
 unfolding _>>=_ given
 head-unlaid bytes e = rw e
 
-next-unlaid : (text : List ℕ) → Unlaid text → readNext text ≡ bad 1 1
+next-unlaid : (text : List ℕ) → Unlaid text → readNext text ≡ refused 1 1
 unfolding _>>=_
 next-unlaid text h = of (line text) refl
   where
-    of : (o : Option (List ℕ × List ℕ)) → line text ≡ o → readNext text ≡ bad 1 1
+    of : (o : Option (List ℕ × List ℕ)) → line text ≡ o → readNext text ≡ refused 1 1
     of none e = next-none text e .0
     of (some p) e = next-some text p e .0 ∙ rw (head-unlaid (p .0) (h p e))
 
-abbrev followed : List ℕ → Step (DrawnSheet × List ℕ) → Step (DrawnSheet × List ℕ)
-followed more m = m >>= λ r. good (r .0, r .1 ++ more)
+abbrev followed : List ℕ → Checked (DrawnSheet × List ℕ) → Checked (DrawnSheet × List ℕ)
+followed more m = m >>= λ r. passed (r .0, r .1 ++ more)
 
-followed-rest : (more : List ℕ) (h : Head) (f : Step Gates) → withRest h (trailing more f) ≡ followed more (withRest h f)
+followed-rest : (more : List ℕ) (h : Head) (f : Checked Gates) → withRest h (trailing more f) ≡ followed more (withRest h f)
 unfolding _>>=_
-followed-rest more h (bad number place) = refl
-followed-rest more h (good r) = of (readUnread (from 1 (h .count - 1)) (r .1 .gates)) (sheetOf h (r .0))
+followed-rest more h (refused number place) = refl
+followed-rest more h (passed r) = of (readUnread (from 1 (h .count - 1)) (r .1 .gates)) (sheetOf h (r .0))
   where
-    of : (m : Step (Unit {0})) (s : DrawnSheet) → (m >>= λ _. good (s, r .2 ++ more)) ≡ followed more (m >>= λ _. good (s, r .2))
-    of (good u) s = refl
-    of (bad number place) s = refl
+    of : (m : Checked (Unit {0})) (s : DrawnSheet) → (m >>= λ _. passed (s, r .2 ++ more)) ≡ followed more (m >>= λ _. passed (s, r .2))
+    of (passed u) s = refl
+    of (refused number place) s = refl
 
 next-front : (text more : List ℕ) → sheetRoom ≤ length text → readNext (text ++ more) ≡ followed more (readNext text)
 unfolding _>>=_
 next-front text more l = of (first text more (omega arith))
   where
-    heads : (p : List ℕ × List ℕ) → length text ≤ lineRoom + length (p .1) → (m : Step Head) → Meets (λ h. h .count ≤ mostGates) m →
+    heads : (p : List ℕ × List ℕ) → length text ≤ lineRoom + length (p .1) → (m : Checked Head) → Meets (λ h. h .count ≤ mostGates) m →
         (m >>= λ h. withRest h (readLeft (h .out) (h .count) 1 nothing (p .1 ++ more))) ≡ followed more (m >>= λ h. withRest h (readLeft (h .out) (h .count) 1 nothing (p .1)))
     heads p k m off = refl
     heads p k m (on {a = h} c) = ap (withRest h) (left-front (h .out) (h .count) 1 nothing (p .1) more (omega arith)) ∙ followed-rest more h (readLeft (h .out) (h .count) 1 nothing (p .1))
@@ -157,26 +157,28 @@ next-front text more l = of (first text more (omega arith))
     of (unlaid h k) = next-unlaid (text ++ more) k ∙ ap (followed more) (sym (next-unlaid text h))
     of (whole p e k) =
         next-some (text ++ more) (p .0, p .1 ++ more) (line-on text p more e) .0
-        ∙ (heads p k (readHead (p .0)) (meets-map (λ h c. c .2) (head-meets (p .0)))
+        ∙ (heads p k (headOf (fields (p .0))) (meets-map (λ h c. c .2) (head-meets (p .0)))
         ∙ ap (followed more) (sym (next-some text p e .0)))
 
 -- ---- what is read of the text that is cut off
 
-same-read : (rest rest₁ more : List ℕ) (m k : Step DrawnSheet) → leaving rest₁ m ≡ followed more (leaving rest k) → m ≡ k
+same-read : (rest rest₁ more : List ℕ) (m k : Checked DrawnSheet) → leaving rest₁ m ≡ followed more (leaving rest k) → m ≡ k
 unfolding _>>=_
-same-read rest rest₁ more (good s) (good r) e = let h : _≡_ {A = DrawnSheet × List ℕ} (s, rest₁) (r, rest ++ more) = cc in ap (λ (p : DrawnSheet × List ℕ). good (p .0)) h
-same-read rest rest₁ more (good s) (bad number place) e = let z : _≡_ {A = ℕ} 0 1 = cc in absurd (omega arith)
-same-read rest rest₁ more (bad number place) (good r) e = let z : _≡_ {A = ℕ} 0 1 = cc in absurd (omega arith)
-same-read rest rest₁ more (bad number place) (bad n l) e = cc
+same-read rest rest₁ more (passed s) (passed r) e =
+    let h : _≡_ {A = DrawnSheet × List ℕ} (s, rest₁) (r, rest ++ more) = cc in
+    ap (λ (p : DrawnSheet × List ℕ). passed (p .0)) h
+same-read rest rest₁ more (passed s) (refused number place) e = let z : _≡_ {A = ℕ} 0 1 = cc in absurd (omega arith)
+same-read rest rest₁ more (refused number place) (passed r) e = let z : _≡_ {A = ℕ} 0 1 = cc in absurd (omega arith)
+same-read rest rest₁ more (refused number place) (refused n l) e = cc
 
 -- A LONG TEXT'S NEXT SHEET IS READ, OR TURNED DOWN, THE SAME WHATEVER FOLLOWS THE TEXT
 pub front-read : (text more : List ℕ) → sheetRoom ≤ length text → readSheet (sheetText (text ++ more) .0) ≡ readSheet (sheetText text .0)
 front-read text more l =
-    ap reading (same-read (sheetText text .1) (sheetText (text ++ more) .1) more (readAll (sheetText (text ++ more) .0)) (readAll (sheetText text .0))
-    (sym (next-is (text ++ more)) ∙ (next-front text more l ∙ ap (followed more) (next-is text))))
+    same-read (sheetText text .1) (sheetText (text ++ more) .1) more (readSheet (sheetText (text ++ more) .0)) (readSheet (sheetText text .0))
+    (sym (next-is (text ++ more)) ∙ (next-front text more l ∙ ap (followed more) (next-is text)))
 
 -- and where it is read, what follows it is the rest
-pub front-rest : (text more : List ℕ) (s : DrawnSheet) → readSheet (sheetText text .0) ≡ sheet s →
+pub front-rest : (text more : List ℕ) (s : DrawnSheet) → readSheet (sheetText text .0) ≡ passed s →
     sheetText (text ++ more) ≡ (sheetText text .0, sheetText text .1 ++ more)
 front-rest text more s e =
     let r = sheetText text in

@@ -1,7 +1,6 @@
 pub mod Trusted
 pub mod Promise
 pub mod NumberLaws
-pub mod StepLaws
 pub mod ReadLaws
 pub mod RefusalLaws
 pub mod TreeLaws

@@ -13,16 +13,16 @@ use Rattle.lists.specs.Cases.{and-split}
 use Rattle.lists.specs.Trusted.Tests.{within}
 use Rattle.lists.specs.TestLaws.{reflects-elem, reflects-within}
 use Rattle.tree.specs.Trusted.Limits.{greatestNet, fewestFanins, mostFanins, codeBase}
+use Rattle.lists.specs.Trusted.Checked.{passed}
+use Rattle.lists.specs.CheckedLaws.{Meets, on, meets-of, meets-map, meets-bind, meets-require, meets-given}
 use Rattle.decimal.specs.Trusted.Number.{Number}
 use Rattle.sheet.specs.Trusted.Limits.{mostGates, mostLeaves}
 use Rattle.sheet.specs.Trusted.Line.{fields}
 use Rattle.sheet.specs.declared.Source.{Source}
 use Rattle.sheet.specs.declared.Source.the-variants.{Net as net, Gate as gate}
 use Rattle.sheet.specs.declared.Edge.{Edge as Fanin}
-use Rattle.sheet.specs.Trusted.Sheet.{DrawnGate, DrawnSheet, sheet, netOf, gateOf, codeOf, faninNets, faninGates, leafNets, gatesRead, from}
-use Rattle.sheet.specs.Trusted.Step.{Step}
-use Rattle.sheet.specs.StepLaws.{Meets, on, off, meets-map, meets-bind, meets-require, meets-given}
-use Rattle.sheet.specs.Trusted.Read.{Seen, nothing, readHead, sourceOf, readSource, readFanin, readFanins, gateHeadOf, readGate, readLeft, readUnread, readAll, reading, readSheet}
+use Rattle.sheet.specs.Trusted.Sheet.{DrawnGate, DrawnSheet, netOf, gateOf, codeOf, faninNets, faninGates, leafNets, gatesRead, from}
+use Rattle.sheet.specs.Trusted.Read.{Seen, nothing, headOf, sourceOf, readSource, readFanin, readFanins, gateHeadOf, readGate, readLeft, readUnread, readSheet}
 use Rattle.sheet.specs.Trusted.Formed.{Net, LeafNet, FaninCount, Before, Earlier, WellFormed}
 use Rattle.sheet.specs.NumberLaws.{by-test, counts-holds, not-eqb, not-elem, distinct-end, distinct-permuted, same-numbers, from-once, in-from}
 
@@ -51,7 +51,7 @@ also-more {a = a} {ms = ms} {ns = ns} {fs = fs} {gs = gs} p q = record {
 
 -- ---- line 1
 
-pub head-meets : (bytes : List ℕ) → Meets (λ h. Net (h .out) × (1 ≤ h .count) × (h .count ≤ mostGates)) (readHead bytes)
+pub head-meets : (bytes : List ℕ) → Meets (λ h. Net (h .out) × (1 ≤ h .count) × (h .count ≤ mostGates)) (headOf (fields bytes))
 head-meets bytes =
     meets-given _ _ _ _ (λ xs d. meets-given _ _ _ _ (λ x e.
     meets-require _ _ _ _ (λ t. meets-require _ _ _ _ (λ u. meets-require _ _ _ _ (λ v.
@@ -200,7 +200,7 @@ each-once xs n read l q e d f =
 nothing-sound : {out : ℕ} → SeenSound out nothing
 nothing-sound = record { leaf-nets = every-none _; leaf-once = tt; leaf-count = omega arith; gate-once = tt }
 
-all-meets : (text : List ℕ) → Meets WellFormed (readAll text)
+all-meets : (text : List ℕ) → Meets WellFormed (readSheet text)
 all-meets text =
     meets-given _ _ _ _ (λ l e.
     meets-bind _ _ (head-meets (l .0)) (λ h a.
@@ -219,12 +219,8 @@ all-meets text =
     }))))))
 
 -- A SHEET THAT WAS READ IS WELL FORMED
-pub read-formed : (text : List ℕ) (s : DrawnSheet) → readSheet text ≡ sheet s → WellFormed s
-read-formed text s e = of (readAll text) (all-meets text) e
-  where
-    of : (m : Step DrawnSheet) → Meets WellFormed m → reading m ≡ sheet s → WellFormed s
-    of m (on {a = a} h) e = let q : a ≡ s = cc in subst WellFormed q h
-    of m off e = let z : _≡_ {A = ℕ} 0 1 = cc in absurd (omega arith)
+pub read-formed : (text : List ℕ) (s : DrawnSheet) → readSheet text ≡ passed s → WellFormed s
+read-formed text s e = meets-of (all-meets text) e
 
 -- ---- the same by gates: each is read once, except the last, which is not read
 

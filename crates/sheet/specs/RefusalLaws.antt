@@ -6,41 +6,43 @@ use mathlib.Core.Logic.{_≢_}
 use mathlib.Core.Bool.{Bool, true, false}
 use mathlib.Core.Option.{Option, none, some}
 use mathlib.Core.List.{List, [], _∷_}
+use Rattle.lists.specs.Trusted.Checked.{Checked, passed, refused, _>>=_, require, given}
+use Rattle.lists.specs.CheckedLaws.{Meets, on, off, meets-any}
 use Rattle.decimal.specs.Trusted.Number.{Number}
 use Rattle.sheet.specs.Trusted.Limits.{mostGates}
 use Rattle.sheet.specs.Trusted.Line.{fields}
 use Rattle.sheet.specs.declared.Source.{Source}
 use Rattle.sheet.specs.declared.Source.the-variants.{Net as net, Gate as gate}
-use Rattle.sheet.specs.Trusted.Sheet.{DrawnSheet, refused, from}
-use Rattle.sheet.specs.Trusted.Step.{Step, good, bad, _>>=_, require, given}
-use Rattle.sheet.specs.StepLaws.{Meets, on, off, meets-any}
-use Rattle.sheet.specs.Trusted.Read.{Seen, nothing, readHead, readSource, readFanin, readFanins, gateHeadOf, readGate, readLeft, readUnread, readAll, reading, readSheet}
+use Rattle.sheet.specs.Trusted.Sheet.{DrawnSheet, from}
+use Rattle.sheet.specs.Trusted.Read.{Seen, nothing, headOf, readSource, readFanin, readFanins, gateHeadOf, readGate, readLeft, readUnread, readSheet}
 use Rattle.sheet.specs.ReadLaws.{head-meets}
 
 pub record RefusalTold (number place : ℕ) : Type 0 where
   pub known : (1 ≤ number) × (number ≤ 13) × (number ≢ 2) × (number ≢ 3)
   pub at-line : (1 ≤ place) × (place ≤ mostGates + 2)
 
-data Tells {A : Type 0} : Step A → Type 0 where
-  went : {a : A} → Tells (good a)
-  told : {number place : ℕ} → RefusalTold number place → Tells (bad number place)
+data Tells {A : Type 0} : Checked A → Type 0 where
+  went : {a : A} → Tells (passed a)
+  told : {number place : ℕ} → RefusalTold number place → Tells (refused number place)
 
-tells-bind : {A B : Type 0} {Q : A → Type 0} (m : Step A) (f : A → Step B) → Tells m → Meets Q m → ((a : A) → Q a → Tells (f a)) → Tells (m >>= f)
+tells-bind : {A B : Type 0} {Q : A → Type 0} (m : Checked A) (f : A → Checked B) → Tells m → Meets Q m → ((a : A) → Q a → Tells (f a)) → Tells (m >>= f)
 unfolding _>>=_
 tells-bind m f (went {a = a}) (on q) h = h a q
 tells-bind m f (told t) off h = told t
 
-tells-require : {B : Type 0} (b : Bool) (number place : ℕ) (f : Unit {0} → Step B) → RefusalTold number place → Tells (f tt) → Tells (require b number place >>= f)
+tells-require : {B : Type 0} (b : Bool) (number place : ℕ) (f : Unit {0} → Checked B) → RefusalTold number place → Tells (f tt) →
+    Tells (require b number place >>= f)
 unfolding _>>=_ require
 tells-require true number place f t h = h
 tells-require false number place f t h = told t
 
-tells-given : {A B : Type 0} (o : Option A) (number place : ℕ) (f : A → Step B) → RefusalTold number place → ((a : A) → Tells (f a)) → Tells (given o number place >>= f)
+tells-given : {A B : Type 0} (o : Option A) (number place : ℕ) (f : A → Checked B) → RefusalTold number place → ((a : A) → Tells (f a)) →
+    Tells (given o number place >>= f)
 unfolding _>>=_ given
 tells-given (some a) number place f t h = h a
 tells-given none number place f t h = told t
 
-head-tells : (bytes : List ℕ) → Tells (readHead bytes)
+head-tells : (bytes : List ℕ) → Tells (headOf (fields bytes))
 head-tells bytes =
     tells-given _ _ _ _ (omega arith) (λ xs. tells-given _ _ _ _ (omega arith) (λ x.
     tells-require _ _ _ _ (omega arith) (tells-require _ _ _ _ (omega arith) (tells-require _ _ _ _ (omega arith) went))))
@@ -80,7 +82,7 @@ unread-tells : (n g : ℕ) (read : List ℕ) → n + g ≤ mostGates + 1 → Tel
 unread-tells zero g read l = went
 unread-tells (suc n) g read l = tells-require _ _ _ _ (omega arith) (unread-tells n (suc g) read (omega arith))
 
-all-tells : (text : List ℕ) → Tells (readAll text)
+all-tells : (text : List ℕ) → Tells (readSheet text)
 all-tells text =
     tells-given _ _ _ _ (omega arith) (λ p.
     tells-bind _ _ (head-tells (p .0)) (head-meets (p .0)) (λ h a.
@@ -89,9 +91,9 @@ all-tells text =
     (tells-bind _ _ (unread-tells (h .count - 1) 1 (r .1 .gates) (omega arith)) (meets-any _) (λ v w. went)))))
 
 pub refused-told : (text : List ℕ) (number place : ℕ) → readSheet text ≡ refused number place → RefusalTold number place
-refused-told text number place e = of (readAll text) (all-tells text) e
+refused-told text number place e = of (readSheet text) (all-tells text) e
   where
-    of : (m : Step DrawnSheet) → Tells m → reading m ≡ refused number place → RefusalTold number place
+    of : (m : Checked DrawnSheet) → Tells m → m ≡ refused number place → RefusalTold number place
     of m went e = let z : _≡_ {A = ℕ} 0 1 = cc in absurd (omega arith)
     of m (told {number = n} {place = p} t) e =
         let q : n ≡ number = cc in

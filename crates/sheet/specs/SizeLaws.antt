@@ -8,17 +8,17 @@ use lib.ListN.{length, take, drop, length-append, length-drop}
 use Rattle.lists.specs.Trusted.Lists.{Every, sum}
 use Rattle.lists.specs.ListLaws.{every-head, every-tail, permuted-length}
 use Rattle.tree.specs.Leaves.{leaves}
+use Rattle.lists.specs.Trusted.Checked.{passed}
+use Rattle.lists.specs.CheckedLaws.{Meets, on, meets-any, meets-of, meets-bind, meets-require, meets-given}
 use Rattle.decimal.specs.Trusted.Number.{Number, columns, fieldNumber}
 use Rattle.sheet.specs.Trusted.Limits.{mostFields}
 use Rattle.sheet.specs.declared.Source.{Source}
 use Rattle.sheet.specs.declared.Source.the-variants.{Net as net, Gate as gate}
 use Rattle.sheet.specs.declared.Edge.{Edge as Fanin}
 use Rattle.sheet.specs.Trusted.Line.{with, cells, fields}
-use Rattle.sheet.specs.Trusted.Sheet.{DrawnGate, DrawnSheet, sheet, netOf, gateOf, faninNets, faninGates, leafNets, gatesRead, from}
-use Rattle.sheet.specs.Trusted.Step.{Step}
-use Rattle.sheet.specs.StepLaws.{Meets, on, off, meets-any, meets-bind, meets-require, meets-given}
-use Rattle.sheet.specs.Trusted.Read.{two, Seen, nothing, readHead, readFanin, readFanins, gateHeadOf, readGate, readLeft, readUnread, readAll, reading, readSheet}
-use Rattle.sheet.specs.Trusted.Formed.{FaninCount, WellFormed}
+use Rattle.sheet.specs.Trusted.Sheet.{DrawnGate, DrawnSheet, netOf, gateOf, faninNets, faninGates, leafNets, gatesRead, from}
+use Rattle.sheet.specs.Trusted.Read.{two, Seen, nothing, headOf, readFanin, readFanins, gateHeadOf, readGate, readLeft, readUnread, readSheet}
+use Rattle.sheet.specs.Trusted.Formed.{FaninCount}
 use Rattle.sheet.specs.ReadLaws.{read-formed}
 use Rattle.sheet.specs.Trusted.Trees.{treeOf}
 use Rattle.sheet.specs.TreeLaws.{leaves-are}
@@ -59,7 +59,7 @@ two-length {A} (x ∷ y ∷ zs) r e = let h : _≡_ {A = A × A × List A} (x, y
 abbrev lineBytes : DrawnGate → ℕ
 lineBytes x = columns * (2 + length (x .fanins)) + 1
 
-head-bytes : (bytes : List ℕ) → Meets (λ h. length bytes ≤ 2 * columns) (readHead bytes)
+head-bytes : (bytes : List ℕ) → Meets (λ h. length bytes ≤ 2 * columns) (headOf (fields bytes))
 head-bytes bytes =
     meets-given _ _ _ _ (λ xs d. meets-given _ _ _ _ (λ x e.
     meets-require _ _ _ _ (λ t. meets-require _ _ _ _ (λ u. meets-require _ _ _ _ (λ v.
@@ -87,7 +87,7 @@ left-bytes out (suc n) g seen text =
     meets-bind _ _ (left-bytes out n (suc g) (x .1) (p .1)) (λ r f.
     on (omega (arith, simp length-append at (ap length (line-cut text p e .whole)))))))
 
-all-bytes : (text : List ℕ) → Meets (λ s. length text ≤ 2 * columns + 1 + sum lineBytes (s .gates)) (readAll text)
+all-bytes : (text : List ℕ) → Meets (λ s. length text ≤ 2 * columns + 1 + sum lineBytes (s .gates)) (readSheet text)
 all-bytes text =
     meets-given _ _ _ _ (λ p e.
     meets-bind _ _ (head-bytes (p .0)) (λ h b.
@@ -120,21 +120,16 @@ from-length g zero = refl
 from-length g (suc n) = ap suc (from-length (suc g) n)
 
 -- A SHEET THAT WAS READ IS SHORT: each gate but the root is read once, and each has two fanins, so that there are fewer gates than leaves
-pub read-short : (text : List ℕ) (s : DrawnSheet) → readSheet text ≡ sheet s → length text ≤ 13 + 25 * (length (leaves (treeOf s)) - 1)
-read-short text s e = of (readAll text) (all-bytes text) e (read-formed text s e)
-  where
-    of : (m : Step DrawnSheet) → Meets (λ s. length text ≤ 2 * columns + 1 + sum lineBytes (s .gates)) m → reading m ≡ sheet s → WellFormed s →
-        length text ≤ 13 + 25 * (length (leaves (treeOf s)) - 1)
-    of m (on {a = a} h) e w =
-        let q : a ≡ s = cc in
-        let b : length text ≤ 2 * columns + 1 + sum lineBytes (s .gates) = rw q at h in
-        omega (
-          arith,
-          lines-split (s .gates),
-          fanins-many (s .gates) (w .fanin-counts),
-          permuted-length (w .read-once),
-          from-length 1 (length (s .gates) - 1),
-          permuted-length (leaves-are s w),
-          w .gate-count,
-        )
-    of m off e w = let z : _≡_ {A = ℕ} 0 1 = cc in absurd (omega arith)
+pub read-short : (text : List ℕ) (s : DrawnSheet) → readSheet text ≡ passed s → length text ≤ 13 + 25 * (length (leaves (treeOf s)) - 1)
+read-short text s e =
+    let w = read-formed text s e in
+    omega (
+      arith,
+      meets-of (all-bytes text) e,
+      lines-split (s .gates),
+      fanins-many (s .gates) (w .fanin-counts),
+      permuted-length (w .read-once),
+      from-length 1 (length (s .gates) - 1),
+      permuted-length (leaves-are s w),
+      w .gate-count,
+    )

@@ -10,6 +10,7 @@ use lib.Dec.{T}
 use Rattle.lists.specs.Trusted.Lists.{Every, Inserted, here, there, Permuted, empty, more, gather}
 use Rattle.lists.specs.ListLaws.{every-none, every-cons, every-head, every-tail, every-append, gather-append, permuted-refl, permuted-insert, permuted-sym, permuted-trans, permuted-append, permuted-swap, permuted-to, permuted-length, gather-permuted, gather-same, interchange}
 use Rattle.tree.specs.Trusted.Limits.{codeBase}
+use Rattle.lists.specs.Trusted.Checked.{passed}
 use Rattle.tree.specs.declared.Kind.{Kind}
 use Rattle.tree.specs.Trusted.Tree.{Node, leaf, Edges, many, proper, propers}
 use Rattle.tree.specs.Leaves.{leaves, leaves*}
@@ -17,7 +18,7 @@ use Rattle.sheet.specs.Trusted.Limits.{mostLeaves}
 use Rattle.sheet.specs.declared.Source.{Source}
 use Rattle.sheet.specs.declared.Source.the-variants.{Net as net, Gate as gate}
 use Rattle.sheet.specs.declared.Edge.{Edge as Fanin}
-use Rattle.sheet.specs.Trusted.Sheet.{DrawnGate, DrawnSheet, sheet, netOf, gateOf, faninNets, faninGates, leafNets, gatesRead, from}
+use Rattle.sheet.specs.Trusted.Sheet.{DrawnGate, DrawnSheet, netOf, gateOf, faninNets, faninGates, leafNets, gatesRead, from}
 use Rattle.sheet.specs.Trusted.Read.{readSheet}
 use Rattle.sheet.specs.ReadLaws.{read-formed}
 use Rattle.sheet.specs.NumberLaws.{distinct-permuted}
@@ -265,7 +266,7 @@ pub record Drawn (s : DrawnSheet) : Type 0 where
   pub leaves-once : Permuted (leafNets (s .gates)) (leaves (treeOf s))
   pub gates-once : Permuted (treesOf [] (s .gates)) (gateTrees (treeOf s))
 
-pub read-drawn : (text : List ℕ) (s : DrawnSheet) → readSheet text ≡ sheet s → Drawn s
+pub read-drawn : (text : List ℕ) (s : DrawnSheet) → readSheet text ≡ passed s → Drawn s
 read-drawn text s e =
     let w = read-formed text s e in
     record { formed = w; is-proper = tree-proper s w; root = root-gate s w; legal = drawn-legal s w; few = leaves-count s w; leaves-once = leaves-are s w; gates-once = gates-are s w }

@@ -1,7 +1,6 @@
 pub mod Limits
 pub mod Line
 pub mod Sheet
-pub mod Step
 pub mod Read
 pub mod Trees
 pub mod Values

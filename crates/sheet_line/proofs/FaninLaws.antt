@@ -14,11 +14,11 @@ use Rattle.lists.specs.Cases.{by-eqb}
 use Rattle.lists.specs.ListLaws.{every-head}
 use Rattle.lists.specs.Trusted.Tests.{elem}
 use Rattle.tree.specs.Trusted.Limits.{codeBase}
+use Rattle.lists.specs.Trusted.Checked.{passed, refused, _>>=_, require, given}
 use Rattle.sheet.specs.declared.Source.{Source}
 use Rattle.sheet.specs.declared.Source.the-variants.{Net as net, Gate as gate}
 use Rattle.sheet.specs.Trusted.Limits.{mostGates, mostLeaves}
 use Rattle.sheet.specs.Trusted.Sheet.{netOf}
-use Rattle.sheet.specs.Trusted.Step.{good, bad, _>>=_, require, given}
 use Rattle.sheet.specs.Trusted.Read.{Seen, nothing, sourceOf, readFanin}
 use Rattle.sheet.specs.ReadLaws.{source-named}
 use Rattle.sheet_line.specs.Inside.{Flagged, flagCount, Marked, saw}
@@ -26,34 +26,34 @@ use Rattle.sheet_line.specs.Inside.{Flagged, flagCount, Marked, saw}
 -- ---- what comes of a fanin
 
 module _ (out g : ℕ) (seen : Seen) (n : ℕ) where
-  pub fanin-none : sourceOf g n ≡ none → readFanin out g seen n ≡ bad 8 (suc g)
+  pub fanin-none : sourceOf g n ≡ none → readFanin out g seen n ≡ refused 8 (suc g)
   unfolding _>>=_ given
   fanin-none e = rw e
 
   module _ (j : ℕ) (e : sourceOf g n ≡ some (gate j)) where
-    pub gate-twice : elem j (seen .gates) ≡ true → readFanin out g seen n ≡ bad 9 (suc g)
+    pub gate-twice : elem j (seen .gates) ≡ true → readFanin out g seen n ≡ refused 9 (suc g)
     unfolding _>>=_ given require
     gate-twice m = rw (e, m)
 
-    pub gate-once : elem j (seen .gates) ≡ false → readFanin out g seen n ≡ good (gate j, saw seen (gate j))
+    pub gate-once : elem j (seen .gates) ≡ false → readFanin out g seen n ≡ passed (gate j, saw seen (gate j))
     unfolding _>>=_ given require
     gate-once m = rw (e, m)
 
   module _ (m : ℕ) (e : sourceOf g n ≡ some (net m)) where
-    pub net-twice : elem m (seen .nets) ≡ true → readFanin out g seen n ≡ bad 10 (suc g)
+    pub net-twice : elem m (seen .nets) ≡ true → readFanin out g seen n ≡ refused 10 (suc g)
     unfolding _>>=_ given require
     net-twice a = rw (e, a)
 
-    pub net-out : elem m (seen .nets) ≡ false → eqb m out ≡ true → readFanin out g seen n ≡ bad 11 (suc g)
+    pub net-out : elem m (seen .nets) ≡ false → eqb m out ≡ true → readFanin out g seen n ≡ refused 11 (suc g)
     unfolding _>>=_ given require
     net-out a b = rw (e, a, b)
 
-    pub net-many : elem m (seen .nets) ≡ false → eqb m out ≡ false → ltb (length (seen .nets)) mostLeaves ≡ false → readFanin out g seen n ≡ bad 12 (suc g)
+    pub net-many : elem m (seen .nets) ≡ false → eqb m out ≡ false → ltb (length (seen .nets)) mostLeaves ≡ false → readFanin out g seen n ≡ refused 12 (suc g)
     unfolding _>>=_ given require
     net-many a b d = rw (e, a, b, d)
 
     pub net-once : elem m (seen .nets) ≡ false → eqb m out ≡ false → ltb (length (seen .nets)) mostLeaves ≡ true →
-        readFanin out g seen n ≡ good (net m, saw seen (net m))
+        readFanin out g seen n ≡ passed (net m, saw seen (net m))
     unfolding _>>=_ given require
     net-once a b d = rw (e, a, b, d)
 

@@ -8,42 +8,42 @@ use mathlib.Core.List.{List, [], _∷_, map}
 use lib.Dec.{eqb}
 use lib.ListN.{length, take, drop}
 use lib.Seq.{take-nil}
+use Rattle.lists.specs.Trusted.Checked.{passed, refused, _>>=_, require, given}
 use Rattle.tree.specs.declared.Kind.{Kind}
 use Rattle.tree.specs.Trusted.Limits.{fewestFanins, mostFanins}
 use Rattle.decimal.specs.Trusted.Number.{Number}
 use Rattle.sheet_line.specs.declared.FieldValue.{FieldValue}
 use Rattle.sheet_line.specs.declared.Fields.{Fields}
 use Rattle.sheet.specs.Trusted.Line.{line, fields}
-use Rattle.sheet.specs.Trusted.Step.{good, bad, _>>=_, require, given}
 use Rattle.sheet.specs.Trusted.Read.{counts, kindOf, gateHeadOf}
 use Rattle.sheet_line.specs.Inside.{valueOf, valuesOf, gateLine}
 
-pub gate-none : (g : ℕ) → gateHeadOf g none ≡ bad 1 (suc g)
+pub gate-none : (g : ℕ) → gateHeadOf g none ≡ refused 1 (suc g)
 unfolding _>>=_ given
 gate-none g = refl
 
-pub gate-few : (g : ℕ) (xs : List Number) → length xs < 2 → gateHeadOf g (some xs) ≡ bad 1 (suc g)
+pub gate-few : (g : ℕ) (xs : List Number) → length xs < 2 → gateHeadOf g (some xs) ≡ refused 1 (suc g)
 unfolding _>>=_ given
 gate-few g [] l = refl
 gate-few g (x ∷ []) l = refl
 gate-few g (x ∷ y ∷ xs) l = absurd (omega arith)
 
 module _ (g : ℕ) (x y : Number) (more : List Number) where
-  pub gate-kind : kindOf x ≡ none → gateHeadOf g (some (x ∷ y ∷ more)) ≡ bad 6 (suc g)
+  pub gate-kind : kindOf x ≡ none → gateHeadOf g (some (x ∷ y ∷ more)) ≡ refused 6 (suc g)
   unfolding _>>=_ given
   gate-kind e = rw e
 
-  pub gate-count : {k : Kind} → kindOf x ≡ some k → counts fewestFanins mostFanins y ≡ false → gateHeadOf g (some (x ∷ y ∷ more)) ≡ bad 7 (suc g)
+  pub gate-count : {k : Kind} → kindOf x ≡ some k → counts fewestFanins mostFanins y ≡ false → gateHeadOf g (some (x ∷ y ∷ more)) ≡ refused 7 (suc g)
   unfolding _>>=_ require given
   gate-count e f = rw (e, f)
 
   pub gate-fields : {k : Kind} → kindOf x ≡ some k → counts fewestFanins mostFanins y ≡ true → eqb (length more) (y .magnitude) ≡ false →
-      gateHeadOf g (some (x ∷ y ∷ more)) ≡ bad 1 (suc g)
+      gateHeadOf g (some (x ∷ y ∷ more)) ≡ refused 1 (suc g)
   unfolding _>>=_ require given
   gate-fields e f h = rw (e, f, h)
 
   pub gate-good : {k : Kind} → kindOf x ≡ some k → counts fewestFanins mostFanins y ≡ true → eqb (length more) (y .magnitude) ≡ true →
-      gateHeadOf g (some (x ∷ y ∷ more)) ≡ good (k, more)
+      gateHeadOf g (some (x ∷ y ∷ more)) ≡ passed (k, more)
   unfolding _>>=_ require given
   gate-good e f h = rw (e, f, h)
 
@@ -60,19 +60,19 @@ fanins-are f n e =
     ap (λ k. drop 2 (map valueOf (take k (f .numbers)))) (let q : f .count ≡ suc (suc n) = omega arith in q) ∙ fanins-drop (f .numbers) n
 
 module _ (g : ℕ) (text : List ℕ) where
-  pub line-missing : line text ≡ none → gateLine g text ≡ bad 1 (suc g)
+  pub line-missing : line text ≡ none → gateLine g text ≡ refused 1 (suc g)
   unfolding _>>=_ given
   line-missing e = rw e
 
   module _ {bytes rest : List ℕ} (e : line text ≡ some (bytes, rest)) where
-    line-there : gateLine g text ≡ (gateHeadOf g (fields bytes) >>= λ q. good (q .0, q .1, rest))
+    line-there : gateLine g text ≡ (gateHeadOf g (fields bytes) >>= λ q. passed (q .0, q .1, rest))
     unfolding _>>=_ given
     line-there = rw e
 
-    pub line-bad : {number place : ℕ} → gateHeadOf g (fields bytes) ≡ bad number place → gateLine g text ≡ bad number place
+    pub line-refused : {number place : ℕ} → gateHeadOf g (fields bytes) ≡ refused number place → gateLine g text ≡ refused number place
     unfolding _>>=_
-    line-bad h = line-there ∙ ap (λ m. m >>= λ q. good (q .0, q .1, rest)) h
+    line-refused h = line-there ∙ ap (λ m. m >>= λ q. passed (q .0, q .1, rest)) h
 
-    pub line-good : {kind : Kind} {xs : List Number} → gateHeadOf g (fields bytes) ≡ good (kind, xs) → gateLine g text ≡ good (kind, xs, rest)
+    pub line-passed : {kind : Kind} {xs : List Number} → gateHeadOf g (fields bytes) ≡ passed (kind, xs) → gateLine g text ≡ passed (kind, xs, rest)
     unfolding _>>=_
-    line-good h = line-there ∙ ap (λ m. m >>= λ q. good (q .0, q .1, rest)) h
+    line-passed h = line-there ∙ ap (λ m. m >>= λ q. passed (q .0, q .1, rest)) h

@@ -8,12 +8,12 @@ use mathlib.Core.List.{List, [], _∷_, map}
 use lib.ListN.{length, getD, take, drop, length-drop, length-map}
 use lib.Seq.{length-take-le}
 use Rattle.lists.specs.Trusted.Tests.{within}
+use Rattle.lists.specs.Trusted.Checked.{passed, refused, _>>=_, require, given}
 use Rattle.tree.specs.Trusted.Limits.{greatestNet}
 use Rattle.decimal.specs.Trusted.Number.{Number}
 use Rattle.sheet_line.specs.declared.FieldValue.{FieldValue}
 use Rattle.sheet_line.specs.declared.Fields.{Fields}
 use Rattle.sheet.specs.Trusted.Limits.{mostGates}
-use Rattle.sheet.specs.Trusted.Step.{good, bad, _>>=_, require, given}
 use Rattle.sheet.specs.Trusted.Read.{counts, headOf}
 use Rattle.sheet_line.specs.Inside.{valueOf, valuesOf, numbersOf, FieldsRoom}
 
@@ -63,11 +63,11 @@ values-pair f r e =
     values-two f r (omega arith)
     ∙ ap (λ l. fieldAt f 0 ∷ fieldAt f 1 ∷ l) (no-more (valuesOf f) (values-count f r ∙ e))
 
-pub head-none : headOf none ≡ bad 1 1
+pub head-none : headOf none ≡ refused 1 1
 unfolding _>>=_ given
 head-none = refl
 
-pub head-other : (xs : List Number) → (length xs ≡ 2 → ⊥) → headOf (some xs) ≡ bad 1 1
+pub head-other : (xs : List Number) → (length xs ≡ 2 → ⊥) → headOf (some xs) ≡ refused 1 1
 unfolding _>>=_ require given
 head-other [] d = refl
 head-other (x ∷ []) d = refl
@@ -75,15 +75,15 @@ head-other (x ∷ y ∷ []) d = absurd (d refl)
 head-other (x ∷ y ∷ z ∷ xs) d = refl
 
 module _ (x y : Number) where
-  pub head-net : within 1 greatestNet (x .magnitude) ≡ false → headOf (some (x ∷ y ∷ [])) ≡ bad 4 1
+  pub head-net : within 1 greatestNet (x .magnitude) ≡ false → headOf (some (x ∷ y ∷ [])) ≡ refused 4 1
   unfolding _>>=_ require given
   head-net e = rw e
 
-  pub head-count : within 1 greatestNet (x .magnitude) ≡ true → counts 1 mostGates y ≡ false → headOf (some (x ∷ y ∷ [])) ≡ bad 5 1
+  pub head-count : within 1 greatestNet (x .magnitude) ≡ true → counts 1 mostGates y ≡ false → headOf (some (x ∷ y ∷ [])) ≡ refused 5 1
   unfolding _>>=_ require given
   head-count e f = rw (e, f)
 
   pub head-good : within 1 greatestNet (x .magnitude) ≡ true → counts 1 mostGates y ≡ true →
-      headOf (some (x ∷ y ∷ [])) ≡ good (record { out = x .magnitude; inverted = x .negative; count = y .magnitude })
+      headOf (some (x ∷ y ∷ [])) ≡ passed (record { out = x .magnitude; inverted = x .negative; count = y .magnitude })
   unfolding _>>=_ require given
   head-good e f = rw (e, f)

@@ -7,6 +7,7 @@ use mathlib.Core.List.{List, [], _∷_, _++_, map}
 use lib.Dec.{eqb}
 use lib.ListN.{length, getD, take, drop}
 use Rattle.lists.specs.Trusted.Tests.{elem}
+use Rattle.lists.specs.Trusted.Checked.{Checked, passed, refused, _>>=_, given}
 use Rattle.tree.specs.declared.Kind.{Kind}
 use Rattle.tree.specs.Trusted.Limits.{mostFanins, codeBase}
 use Rattle.decimal.specs.Trusted.Number.{Number}
@@ -31,7 +32,6 @@ use Rattle.sheet_line.specs.declared.GateLine.{GateLine}
 use Rattle.sheet.specs.Trusted.Sheet.{netOf}
 use Rattle.sheet.specs.Trusted.Limits.{mostFields, mostGates, mostLeaves}
 use Rattle.sheet.specs.Trusted.Line.{line, fields}
-use Rattle.sheet.specs.Trusted.Step.{Step, good, bad, _>>=_, given}
 use Rattle.sheet.specs.Trusted.Read.{Head as LineOne, gateHeadOf, Seen, sourceOf, readFanin}
 use Rattle.sheet.specs.Trusted.Answers.{numberOf}
 
@@ -68,9 +68,9 @@ pub record FieldsRead (bytes : List ℕ) (f : Fields) : Type 0 where
 
 -- ---- line 1
 
-abbrev pub headStep : LineHead → Step LineOne
-headStep (Good out inverted count) = good (record { out = out; inverted = inverted; count = count })
-headStep (Bad why) = bad (numberOf why) 1
+abbrev pub headStep : LineHead → Checked LineOne
+headStep (Good out inverted count) = passed (record { out = out; inverted = inverted; count = count })
+headStep (Bad why) = refused (numberOf why) 1
 
 -- ---- the first two fields of a gate's line
 
@@ -78,9 +78,9 @@ abbrev pub kindStep : KindRead → Option Kind
 kindStep (Is kind) = some kind
 kindStep Neither = none
 
-abbrev pub gateHeadStep : ℕ → Fields → GateHead → Step (Kind × List Number)
-gateHeadStep g f (GoodGate kind count) = good (kind, drop 2 (valuesOf f))
-gateHeadStep g f (BadGate why) = bad (numberOf why) (suc g)
+abbrev pub gateHeadStep : ℕ → Fields → GateHead → Checked (Kind × List Number)
+gateHeadStep g f (GoodGate kind count) = passed (kind, drop 2 (valuesOf f))
+gateHeadStep g f (BadGate why) = refused (numberOf why) (suc g)
 
 -- of gate g, whichever it is
 pub record GateHeadRead (f : Fields) (r : GateHead) : Type 0 where
@@ -90,18 +90,18 @@ pub record GateHeadRead (f : Fields) (r : GateHead) : Type 0 where
 -- ---- a gate's line
 
 -- the line of gate g at the front of a text: its kind, the numbers of its fanins, and the rest of the text
-abbrev pub gateLine : (g : ℕ) → List ℕ → Step (Kind × List Number × List ℕ)
+abbrev pub gateLine : (g : ℕ) → List ℕ → Checked (Kind × List Number × List ℕ)
 gateLine g text = do
   (bytes, rest) ← given (line text) 1 (suc g)
   (kind, more) ← gateHeadOf g (fields bytes)
-  good (kind, more, rest)
+  passed (kind, more, rest)
 
 abbrev pub faninNumbers : GateLine → List Number
 faninNumbers l = map valueOf (take (l .count) (drop 2 (l .numbers)))
 
-abbrev pub faultStep : {A : Type 0} → ℕ → Fault → A → Step A
-faultStep g Nothing a = good a
-faultStep g (IsFault why) a = bad (numberOf why) (suc g)
+abbrev pub faultStep : {A : Type 0} → ℕ → Fault → A → Checked A
+faultStep g Nothing a = passed a
+faultStep g (IsFault why) a = refused (numberOf why) (suc g)
 
 pub record LineRefused (why : Refusal) (l : GateLine) : Type 0 where
   pub fault : l .fault ≡ IsFault why
@@ -142,9 +142,9 @@ abbrev pub sourceStep : Fanin → Option Source
 sourceStep (Reads source) = some source
 sourceStep (BadFanin why) = none
 
-abbrev pub faninStep : ℕ → Seen → Fanin → Step (Source × Seen)
-faninStep g seen (Reads source) = good (source, saw seen source)
-faninStep g seen (BadFanin why) = bad (numberOf why) (suc g)
+abbrev pub faninStep : ℕ → Seen → Fanin → Checked (Source × Seen)
+faninStep g seen (Reads source) = passed (source, saw seen source)
+faninStep g seen (BadFanin why) = refused (numberOf why) (suc g)
 
 -- a fanin of gate g that is written as n
 pub record FaninRead (flags : List Bool) (leaves out g n : ℕ) (r : Fanin) : Type 0 where

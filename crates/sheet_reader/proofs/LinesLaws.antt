@@ -10,6 +10,7 @@ use mathlib.Core.List.{List, [], _∷_, _++_, append-assoc, append-nil}
 use lib.ListN.{length, getD, take, drop, set, replicate, length-set, length-take, length-drop, length-map, List·getD-map, drop-of-length-le}
 use lib.Seq.{drop-cons, getD-drop, getD-take, length-take-le}
 use Rattle.lists.specs.ListLaws.{every-none}
+use Rattle.lists.specs.Trusted.Checked.{Checked, passed, refused, _>>=_, given}
 use Rattle.tree.specs.declared.Kind.{Kind}
 use Rattle.tree.specs.Trusted.Limits.{mostFanins}
 use Rattle.decimal.specs.Trusted.Number.{Number}
@@ -27,7 +28,6 @@ use Rattle.sheet_line.specs.declared.GateLine.{GateLine}
 use Rattle.sheet.specs.Trusted.Limits.{mostFields, mostGates, mostLeaves, faninRoom}
 use Rattle.sheet.specs.Trusted.Line.{line, fields}
 use Rattle.sheet.specs.Trusted.Sheet.{DrawnGate, netOf}
-use Rattle.sheet.specs.Trusted.Step.{Step, good, bad, _>>=_, given}
 use Rattle.sheet.specs.Trusted.Read.{Seen, nothing, readFanin, readFanins, gateHeadOf, readLeft}
 use Rattle.sheet.specs.Trusted.Answers.{numberOf, drawnGate, drawnGates}
 use Rattle.sheet_line.specs.Inside.{valueOf, gateLine, faninNumbers, faultStep, GateLineRead, flagCount, Marked, saw, faninStep, FaninRead}
@@ -41,22 +41,22 @@ Gates = List DrawnGate × Seen × List ℕ
 -- ---- what is left to read
 
 -- the gates `gs`, and one more, before those that are read after them
-abbrev ahead : List DrawnGate → Gates → Step Gates
-ahead gs r = good (gs ++ r .0, r .1, r .2)
+abbrev ahead : List DrawnGate → Gates → Checked Gates
+ahead gs r = passed (gs ++ r .0, r .1, r .2)
 
-abbrev gateAhead : List DrawnGate → DrawnGate → Gates → Step Gates
-gateAhead gs x r = good (gs ++ (x ∷ r .0), r .1, r .2)
+abbrev gateAhead : List DrawnGate → DrawnGate → Gates → Checked Gates
+gateAhead gs x r = passed (gs ++ (x ∷ r .0), r .1, r .2)
 
 -- the gates `gs` were read, and so many are left, from gate g on
-abbrev lines : (out left g : ℕ) → List DrawnGate → Seen → List ℕ → Step Gates
+abbrev lines : (out left g : ℕ) → List DrawnGate → Seen → List ℕ → Checked Gates
 lines out left g gs seen text = readLeft out left g seen text >>= ahead gs
 
 -- the lines after gate g, when its fanins are read
-abbrev linesAfter : (out left g : ℕ) → List DrawnGate → Kind → List Edge → List ℕ → List Edge × Seen → Step Gates
+abbrev linesAfter : (out left g : ℕ) → List DrawnGate → Kind → List Edge → List ℕ → List Edge × Seen → Checked Gates
 linesAfter out left g gs kind fs rest r = readLeft out left (suc g) (r .1) rest >>= gateAhead gs (record { kind = kind; fanins = fs ++ r .0 })
 
 -- of gate g the fanins `fs` were read too, and the numbers `xs` are left
-abbrev fanins : (out left g : ℕ) → List DrawnGate → Kind → List Edge → Seen → List Number → List ℕ → Step Gates
+abbrev fanins : (out left g : ℕ) → List DrawnGate → Kind → List Edge → Seen → List Number → List ℕ → Checked Gates
 fanins out left g gs kind fs seen xs rest = readFanins out g seen xs >>= linesAfter out left g gs kind fs rest
 
 module _ (out left g : ℕ) (gs : List DrawnGate) (seen : Seen) where
@@ -64,30 +64,30 @@ module _ (out left g : ℕ) (gs : List DrawnGate) (seen : Seen) where
   unfolding _>>=_
   lines-start text = of (readLeft out left g seen text)
     where
-      of : (m : Step Gates) → m ≡ (m >>= ahead [])
-      of (good r) = refl
-      of (bad number place) = refl
+      of : (m : Checked Gates) → m ≡ (m >>= ahead [])
+      of (passed r) = refl
+      of (refused number place) = refl
 
-  abbrev faninsOf : Kind × List Number × List ℕ → Step Gates
+  abbrev faninsOf : Kind × List Number × List ℕ → Checked Gates
   faninsOf l = fanins out left g gs (l .0) [] seen (l .1) (l .2)
 
   -- as the definition has it: the gate, and then the lines left
-  abbrev gateIs : Kind → List Edge × Seen → Step (DrawnGate × Seen)
-  gateIs kind r = good (record { kind = kind; fanins = r .0 }, r .1)
+  abbrev gateIs : Kind → List Edge × Seen → Checked (DrawnGate × Seen)
+  gateIs kind r = passed (record { kind = kind; fanins = r .0 }, r .1)
 
-  abbrev leftIs : List ℕ → DrawnGate × Seen → Step Gates
+  abbrev leftIs : List ℕ → DrawnGate × Seen → Checked Gates
   leftIs rest u = readLeft out left (suc g) (u .1) rest >>= gateAhead [] (u .0)
 
-  abbrev headIs : Kind × List Number → Step (DrawnGate × Seen)
+  abbrev headIs : Kind × List Number → Checked (DrawnGate × Seen)
   headIs q = readFanins out g seen (q .1) >>= gateIs (q .0)
 
-  abbrev lineIs : List ℕ × List ℕ → Step Gates
+  abbrev lineIs : List ℕ × List ℕ → Checked Gates
   lineIs p = (gateHeadOf g (fields (p .0)) >>= headIs) >>= leftIs (p .1)
 
-  abbrev withRest : List ℕ → Kind × List Number → Step (Kind × List Number × List ℕ)
-  withRest rest q = good (q .0, q .1, rest)
+  abbrev withRest : List ℕ → Kind × List Number → Checked (Kind × List Number × List ℕ)
+  withRest rest q = passed (q .0, q .1, rest)
 
-  abbrev gateLineIs : List ℕ × List ℕ → Step (Kind × List Number × List ℕ)
+  abbrev gateLineIs : List ℕ × List ℕ → Checked (Kind × List Number × List ℕ)
   gateLineIs p = gateHeadOf g (fields (p .0)) >>= withRest (p .1)
 
   -- a line, and then its fanins
@@ -95,67 +95,67 @@ module _ (out left g : ℕ) (gs : List DrawnGate) (seen : Seen) where
   unfolding _>>=_ given
   lines-line text = of-line (line text)
     where
-      of-left : (x : DrawnGate) (m : Step Gates) → ((m >>= gateAhead [] x) >>= ahead gs) ≡ (m >>= gateAhead gs x)
-      of-left x (good t) = refl
-      of-left x (bad number place) = refl
+      of-left : (x : DrawnGate) (m : Checked Gates) → ((m >>= gateAhead [] x) >>= ahead gs) ≡ (m >>= gateAhead gs x)
+      of-left x (passed t) = refl
+      of-left x (refused number place) = refl
 
-      of-fanins : (kind : Kind) (rest : List ℕ) (m : Step (List Edge × Seen)) →
+      of-fanins : (kind : Kind) (rest : List ℕ) (m : Checked (List Edge × Seen)) →
           (((m >>= gateIs kind) >>= leftIs rest) >>= ahead gs) ≡ (m >>= linesAfter out left g gs kind [] rest)
-      of-fanins kind rest (good r) = of-left (record { kind = kind; fanins = r .0 }) (readLeft out left (suc g) (r .1) rest)
-      of-fanins kind rest (bad number place) = refl
+      of-fanins kind rest (passed r) = of-left (record { kind = kind; fanins = r .0 }) (readLeft out left (suc g) (r .1) rest)
+      of-fanins kind rest (refused number place) = refl
 
-      of-head : (rest : List ℕ) (m : Step (Kind × List Number)) →
+      of-head : (rest : List ℕ) (m : Checked (Kind × List Number)) →
           (((m >>= headIs) >>= leftIs rest) >>= ahead gs) ≡ ((m >>= withRest rest) >>= faninsOf)
-      of-head rest (good q) = of-fanins (q .0) rest (readFanins out g seen (q .1))
-      of-head rest (bad number place) = refl
+      of-head rest (passed q) = of-fanins (q .0) rest (readFanins out g seen (q .1))
+      of-head rest (refused number place) = refl
 
       of-line : (o : Option (List ℕ × List ℕ)) → ((given o 1 (suc g) >>= lineIs) >>= ahead gs) ≡ ((given o 1 (suc g) >>= gateLineIs) >>= faninsOf)
       of-line none = refl
       of-line (some p) = of-head (p .1) (gateHeadOf g (fields (p .0)))
 
-  line-bad : (text : List ℕ) {number place : ℕ} → gateLine g text ≡ bad number place → lines out (suc left) g gs seen text ≡ bad number place
+  lines-refused : (text : List ℕ) {number place : ℕ} → gateLine g text ≡ refused number place → lines out (suc left) g gs seen text ≡ refused number place
   unfolding _>>=_
-  line-bad text e = lines-line text ∙ ap (λ m. m >>= faninsOf) e
+  lines-refused text e = lines-line text ∙ ap (λ m. m >>= faninsOf) e
 
-  line-good : (text : List ℕ) {kind : Kind} {xs : List Number} {rest : List ℕ} → gateLine g text ≡ good (kind, xs, rest) →
+  lines-passed : (text : List ℕ) {kind : Kind} {xs : List Number} {rest : List ℕ} → gateLine g text ≡ passed (kind, xs, rest) →
       lines out (suc left) g gs seen text ≡ fanins out left g gs kind [] seen xs rest
   unfolding _>>=_
-  line-good text e = lines-line text ∙ ap (λ m. m >>= faninsOf) e
+  lines-passed text e = lines-line text ∙ ap (λ m. m >>= faninsOf) e
 
   module _ (kind : Kind) (fs : List Edge) (rest : List ℕ) where
-    pub fanin-bad : (x : Number) (xs : List Number) {number place : ℕ} → readFanin out g seen (x .magnitude) ≡ bad number place →
-        fanins out left g gs kind fs seen (x ∷ xs) rest ≡ bad number place
+    pub fanin-bad : (x : Number) (xs : List Number) {number place : ℕ} → readFanin out g seen (x .magnitude) ≡ refused number place →
+        fanins out left g gs kind fs seen (x ∷ xs) rest ≡ refused number place
     unfolding _>>=_
     fanin-bad x xs e = rw e
 
-    abbrev faninAhead : Edge → List Edge × Seen → Step (List Edge × Seen)
-    faninAhead f r = good (f ∷ r .0, r .1)
+    abbrev faninAhead : Edge → List Edge × Seen → Checked (List Edge × Seen)
+    faninAhead f r = passed (f ∷ r .0, r .1)
 
-    pub fanin-good : (x : Number) (xs : List Number) {s : Source} {seen₁ : Seen} → readFanin out g seen (x .magnitude) ≡ good (s, seen₁) →
+    pub fanin-good : (x : Number) (xs : List Number) {s : Source} {seen₁ : Seen} → readFanin out g seen (x .magnitude) ≡ passed (s, seen₁) →
         fanins out left g gs kind fs seen (x ∷ xs) rest ≡ fanins out left g gs kind (fs ++ (record { inverted = x .negative; source = s } ∷ [])) seen₁ xs rest
     unfolding _>>=_
     fanin-good x xs {s} {seen₁} e = rw e (of (record { inverted = x .negative; source = s }) (readFanins out g seen₁ xs))
       where
-        of : (f : Edge) (m : Step (List Edge × Seen)) →
+        of : (f : Edge) (m : Checked (List Edge × Seen)) →
             ((m >>= faninAhead f) >>= linesAfter out left g gs kind fs rest) ≡ (m >>= linesAfter out left g gs kind (fs ++ (f ∷ [])) rest)
-        of f (good r) =
+        of f (passed r) =
             ap (λ l. readLeft out left (suc g) (r .1) rest >>= gateAhead gs (record { kind = kind; fanins = l })) (sym (append-assoc fs (f ∷ []) (r .0)))
-        of f (bad number place) = refl
+        of f (refused number place) = refl
 
     pub fanins-done : fanins out left g gs kind fs seen [] rest ≡ lines out left (suc g) (gs ++ (record { kind = kind; fanins = fs } ∷ [])) seen rest
     unfolding _>>=_
     fanins-done = of (readLeft out left (suc g) seen rest)
       where
-        of : (m : Step Gates) →
+        of : (m : Checked Gates) →
             (m >>= gateAhead gs (record { kind = kind; fanins = fs ++ [] })) ≡ (m >>= ahead (gs ++ (record { kind = kind; fanins = fs } ∷ [])))
-        of (good t) =
+        of (passed t) =
             ap (λ l. gateAhead gs (record { kind = kind; fanins = l }) t) (append-nil fs)
-            ∙ ap (λ l. good (l, t .1, t .2)) (sym (append-assoc gs (record { kind = kind; fanins = fs } ∷ []) (t .0)))
-        of (bad number place) = refl
+            ∙ ap (λ l. passed (l, t .1, t .2)) (sym (append-assoc gs (record { kind = kind; fanins = fs } ∷ []) (t .0)))
+        of (refused number place) = refl
 
-pub lines-done : (out g : ℕ) (gs : List DrawnGate) (seen : Seen) (text : List ℕ) → lines out zero g gs seen text ≡ good (gs, seen, text)
+pub lines-done : (out g : ℕ) (gs : List DrawnGate) (seen : Seen) (text : List ℕ) → lines out zero g gs seen text ≡ passed (gs, seen, text)
 unfolding _>>=_
-lines-done out g gs seen text = ap (λ l. good (l, seen, text)) (append-nil gs)
+lines-done out g gs seen text = ap (λ l. passed (l, seen, text)) (append-nil gs)
 
 -- ---- the numbers of a gate's fanins
 
@@ -177,7 +177,7 @@ fanins-over l i h = drop-of-length-le (faninNumbers l) {i = i} (simp (length-map
 -- ---- what holds while the lines are read
 
 module _ (text : List ℕ) (start out count : ℕ) where
-  abbrev all : Step Gates
+  abbrev all : Checked Gates
   all = readLeft out count 1 nothing (drop start text)
 
   -- at a gate's line
@@ -232,12 +232,12 @@ module _ (text : List ℕ) (start out count : ℕ) where
     one-left : g < count → all ≡ lines out (suc (count - (g + 1))) (g + 1) (drawnGates fs g gates) (h .seen) (drop at text)
     one-left l = h .same ∙ ap (λ n. lines out n (g + 1) (drawnGates fs g gates) (h .seen) (drop at text)) (let q : count - g ≡ suc (count - (g + 1)) = omega arith in q)
 
-    pub line-refused : g < count → (l : GateLine) → GateLineRead text at l → (why : Refusal) → l .fault ≡ Is why → all ≡ bad (numberOf why) (g + 1 + 1)
+    pub line-refused : g < count → (l : GateLine) → GateLineRead text at l → (why : Refusal) → l .fault ≡ Is why → all ≡ refused (numberOf why) (g + 1 + 1)
     line-refused k l r why e =
         one-left k
-        ∙ (line-bad out (count - (g + 1)) (g + 1) (drawnGates fs g gates) (h .seen) (drop at text)
+        ∙ (lines-refused out (count - (g + 1)) (g + 1) (drawnGates fs g gates) (h .seen) (drop at text)
         (r .step (g + 1) ∙ ap (λ w. faultStep (g + 1) w (l .kind, faninNumbers l, drop (l .end) text)) e)
-        ∙ ap (bad (numberOf why)) (sym (add-one (g + 1))))
+        ∙ ap (refused (numberOf why)) (sym (add-one (g + 1))))
 
     pub line-taken : g < count → (l : GateLine) → GateLineRead text at l → l .fault ≡ Nothing → AtFanin gates fs used flags leaves answer g l 0
     line-taken k l r e = record {
@@ -254,15 +254,15 @@ module _ (text : List ℕ) (start out count : ℕ) where
       seen = h .seen;
       marked = h .marked;
       few = h .few;
-      same = one-left k ∙ line-good out (count - (g + 1)) (g + 1) (drawnGates fs g gates) (h .seen) (drop at text)
+      same = one-left k ∙ lines-passed out (count - (g + 1)) (g + 1) (drawnGates fs g gates) (h .seen) (drop at text)
           (r .step (g + 1) ∙ ap (λ w. faultStep (g + 1) w (l .kind, faninNumbers l, drop (l .end) text)) e);
     }
 
-    pub lines-over : count ≤ g → all ≡ good (drawnGates fs count gates, h .seen, drop at text)
+    pub lines-over : count ≤ g → all ≡ passed (drawnGates fs count gates, h .seen, drop at text)
     lines-over l =
         h .same
         ∙ (ap (λ n. lines out n (g + 1) (drawnGates fs g gates) (h .seen) (drop at text)) (let q : count - g ≡ 0 = omega arith in q)
-        ∙ (lines-done out (g + 1) (drawnGates fs g gates) (h .seen) (drop at text) ∙ ap (λ n. good (drawnGates fs n gates, h .seen, drop at text)) (let q : g ≡ count = omega arith in q)))
+        ∙ (lines-done out (g + 1) (drawnGates fs g gates) (h .seen) (drop at text) ∙ ap (λ n. passed (drawnGates fs n gates, h .seen, drop at text)) (let q : g ≡ count = omega arith in q)))
 
   module _ {gates : List Gate} {fs : List Edge} {used : ℕ} {flags : List Bool} {leaves : ℕ} {answer : ReadAnswer} {g : ℕ} {l : GateLine} {i : ℕ}
       (h : AtFanin gates fs used flags leaves answer g l i) where
@@ -276,12 +276,12 @@ module _ (text : List ℕ) (start out count : ℕ) where
         ∙ ap (λ xs. fanins out (count - (g + 1)) (g + 1) (drawnGates fs g gates) (l .kind) (take i (drop used fs)) (h .seen) xs (drop (l .end) text)) (fanin-at l i (h .whole) (h .within) k)
 
     pub fanin-refused : i < l .count → (r : Fanin) → FaninRead flags leaves out (g + 1) (number .magnitude) r → (why : Refusal) → r ≡ Bad why →
-        all ≡ bad (numberOf why) (g + 1 + 1)
+        all ≡ refused (numberOf why) (g + 1 + 1)
     fanin-refused k r f why e =
         one-number k
         ∙ (fanin-bad out (count - (g + 1)) (g + 1) (drawnGates fs g gates) (h .seen) (l .kind) (take i (drop used fs)) (drop (l .end) text) (valueOf number) (drop (i + 1) (faninNumbers l))
         (f .step (h .seen) (h .marked) ∙ ap (faninStep (g + 1) (h .seen)) e)
-        ∙ ap (bad (numberOf why)) (sym (add-one (g + 1))))
+        ∙ ap (refused (numberOf why)) (sym (add-one (g + 1))))
 
     module _ (b : g + 1 ≤ mostGates) (r : Fanin) (d : FaninRead flags leaves out (g + 1) (number .magnitude) r) (s : Source) (e : r ≡ Reads s) where
       read-next : used + (i + 1) ≡ readCount (set flags (number .magnitude) true) (leaves + length (netOf s))

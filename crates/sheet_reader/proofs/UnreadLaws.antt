@@ -9,8 +9,8 @@ use lib.ListN.{getD}
 use Rattle.lists.specs.Trusted.Tests.{elem}
 use Rattle.tree.specs.Trusted.Limits.{codeBase}
 use Rattle.sheet.specs.Trusted.Limits.{mostGates}
+use Rattle.lists.specs.Trusted.Checked.{passed, refused, _>>=_, require}
 use Rattle.sheet.specs.Trusted.Sheet.{from}
-use Rattle.sheet.specs.Trusted.Step.{good, bad, _>>=_, require}
 use Rattle.sheet.specs.Trusted.Read.{readUnread}
 use Rattle.sheet_line.specs.Inside.{Flagged}
 
@@ -23,7 +23,7 @@ pub passed-none : (flags : List Bool) (count : ℕ) → Passed flags count 1
 passed-none flags count = record { least = omega arith; same = λ read h. refl }
 
 module _ (g : ℕ) (gs read : List ℕ) where
-  unread-first : elem g read ≡ false → readUnread (g ∷ gs) read ≡ bad 13 (suc g)
+  unread-first : elem g read ≡ false → readUnread (g ∷ gs) read ≡ refused 13 (suc g)
   unfolding _>>=_ require
   unread-first e = rw e
 
@@ -45,11 +45,11 @@ module _ {flags : List Bool} {count g : ℕ} (p : Passed flags count g) where
     }
 
     pub passed-first : getD flags (codeBase + g) false ≡ false → (read : List ℕ) → Flagged codeBase (mostGates + 1) flags read →
-        readUnread (from 1 (count - 1)) read ≡ bad 13 (g + 1)
+        readUnread (from 1 (count - 1)) read ≡ refused 13 (g + 1)
     passed-first e read h =
         p .same read h
         ∙ (ap (λ gs. readUnread gs read) one-more
-        ∙ (unread-first g (from (g + 1) (count - (g + 1))) read (sym (h g (omega arith)) ∙ e) ∙ ap (bad 13) (sym (add-one g))))
+        ∙ (unread-first g (from (g + 1) (count - (g + 1))) read (sym (h g (omega arith)) ∙ e) ∙ ap (refused 13) (sym (add-one g))))
 
-  pub passed-all : count ≤ g → (read : List ℕ) → Flagged codeBase (mostGates + 1) flags read → readUnread (from 1 (count - 1)) read ≡ good tt
+  pub passed-all : count ≤ g → (read : List ℕ) → Flagged codeBase (mostGates + 1) flags read → readUnread (from 1 (count - 1)) read ≡ passed tt
   passed-all l read h = p .same read h ∙ ap (λ n. readUnread (from g n) read) (let q : count - g ≡ 0 = omega arith in q)

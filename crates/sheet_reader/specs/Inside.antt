@@ -6,6 +6,7 @@ use mathlib.Core.List.{List}
 use lib.Dec.{ltb}
 use lib.ListN.{length, drop}
 use Rattle.tree.specs.Trusted.Limits.{codeBase}
+use Rattle.lists.specs.Trusted.Checked.{Checked, passed, refused, _>>=_, require, given}
 use Rattle.sheet.specs.declared.ReadAnswer.{ReadAnswer}
 use Rattle.sheet.specs.declared.ReadAnswer.the-variants.{Accepted, Refused}
 use Rattle.sheet_reader.specs.declared.Lines.{Lines}
@@ -15,18 +16,17 @@ use Rattle.sheet_reader.specs.declared.Unread.the-variants.{First, Nowhe
 use Rattle.sheet_line.specs.Inside.{Flagged}
 use Rattle.sheet.specs.Trusted.Sheet.{DrawnGate, DrawnSheet, from}
 use Rattle.sheet.specs.Trusted.Limits.{mostGates}
-use Rattle.sheet.specs.Trusted.Line.{line}
-use Rattle.sheet.specs.Trusted.Step.{Step, good, bad, _>>=_, require, given}
-use Rattle.sheet.specs.Trusted.Read.{isEmpty, Head as LineOne, readHead, Seen, nothing, readLeft, readUnread}
+use Rattle.sheet.specs.Trusted.Line.{line, fields}
+use Rattle.sheet.specs.Trusted.Read.{isEmpty, Head as LineOne, Seen, nothing, readLeft, readUnread, headOf}
 use Rattle.sheet.specs.Trusted.Answers.{numberOf, drawnGates}
 use Rattle.sheet.specs.Promise.{NextRead}
 
 -- ---- the lines of the gates
 
 -- the answer is the step's: it went on to something of which `P` holds, or was refused
-abbrev pub Comes : {A : Type 0} → ReadAnswer → (A → Type 0) → Step A → Type 0
-Comes {A} Accepted P m = (a : A) × (P a × (m ≡ good a))
-Comes (Refused why line) P m = m ≡ bad (numberOf why) line
+abbrev pub Comes : {A : Type 0} → ReadAnswer → (A → Type 0) → Checked A → Type 0
+Comes {A} Accepted P m = (a : A) × (P a × (m ≡ passed a))
+Comes (Refused why line) P m = m ≡ refused (numberOf why) line
 
 -- what was read: the gates, the nets and gates seen, and the rest of the text
 pub record GatesHeld (text : List ℕ) (count : ℕ) (l : Lines) (a : List DrawnGate × Seen × List ℕ) : Type 0 where
@@ -40,9 +40,9 @@ GatesRead text start out count l = Comes (l .answer) (GatesHeld text count l) (r
 
 -- ---- the first gate that is never read
 
-abbrev pub unreadStep : Unread → Step (Unit {0})
-unreadStep Nowhere = good tt
-unreadStep (First line) = bad 13 line
+abbrev pub unreadStep : Unread → Checked (Unit {0})
+unreadStep Nowhere = passed tt
+unreadStep (First line) = refused 13 line
 
 abbrev pub UnreadFound : List Bool → ℕ → Unread → Type 0
 UnreadFound flags count r = (read : List ℕ) → Flagged codeBase (mostGates + 1) flags read → readUnread (from 1 (count - 1)) read ≡ unreadStep r
@@ -54,21 +54,21 @@ abbrev pub more : (last : Bool) (end size : ℕ) → Bool
 more last end size = last && ltb end size
 
 -- what comes after the gates
-abbrev pub readEnd : (last : Bool) → LineOne → List DrawnGate × Seen × List ℕ → Step (DrawnSheet × List ℕ)
+abbrev pub readEnd : (last : Bool) → LineOne → List DrawnGate × Seen × List ℕ → Checked (DrawnSheet × List ℕ)
 readEnd last head (gates, seen, rest) = do
   _ ← require (not last || isEmpty rest) 1 (head .count + 2)
   _ ← readUnread (from 1 (head .count - 1)) (seen .gates)
-  good (record { out = head .out; inverted = head .inverted; gates = gates }, rest)
+  passed (record { out = head .out; inverted = head .inverted; gates = gates }, rest)
 
 -- a sheet off the front of a text, after which bytes may follow unless it is the last
-abbrev pub readFront : (last : Bool) → List ℕ → Step (DrawnSheet × List ℕ)
+abbrev pub readFront : (last : Bool) → List ℕ → Checked (DrawnSheet × List ℕ)
 readFront last text = do
   (bytes, rest) ← given (line text) 1 1
-  head ← readHead bytes
+  head ← headOf (fields bytes)
   gates ← readLeft (head .out) (head .count) 1 nothing rest
   readEnd last head gates
 
 -- of the lines of the gates
 abbrev pub EndRead : List ℕ → Lines → LineOne → Bool → Next → Type 0
 EndRead text l head last r =
-    (m : Step (List DrawnGate × Seen × List ℕ)) → Comes (l .answer) (GatesHeld text (head .count) l) m → NextRead text (m >>= readEnd last head) r
+    (m : Checked (List DrawnGate × Seen × List ℕ)) → Comes (l .answer) (GatesHeld text (head .count) l) m → NextRead text (m >>= readEnd last head) r

@@ -7,18 +7,18 @@ use mathlib.Core.Bool.{cond}
 use mathlib.Core.List.{List, [], _∷_}
 use borrow.Author.Tests.{eq-eqb, ne-eqb}
 use lib.ListN.{length, drop, length-drop}
+use Rattle.lists.specs.Trusted.Checked.{Checked, passed, refused as unread, _>>=_}
 use Rattle.cover.specs.Trusted.Cover.{Cover, Rooted, rooted, tables, Least}
 use Rattle.sheet.specs.declared.Refusal.{Refusal}
 use Rattle.sheet.specs.declared.Refusal.the-variants.{Layout, OutputNet, GateCount, GateKind, FaninCount, NoSource, GateTwice, NetTwice, OutputLeaf, LeafCount, GateUnread}
-use Rattle.sheet.specs.Trusted.Sheet.{DrawnSheet, sheet as drew}
-use Rattle.sheet.specs.Trusted.Step.{Step, good, bad, _>>=_}
-use Rattle.sheet.specs.Trusted.Read.{readAll, reading, readSheet}
+use Rattle.sheet.specs.Trusted.Sheet.{DrawnSheet}
+use Rattle.sheet.specs.Trusted.Read.{readSheet}
 use Rattle.sheet.specs.Trusted.Cut.{sheetText, readNext}
 use Rattle.sheet.specs.CutLaws.{leaving, next-is, text-less}
 use Rattle.sheet.specs.Trusted.Formed.{WellFormed}
 use Rattle.sheet.specs.ReadLaws.{read-formed}
-use Rattle.sheet.specs.Trusted.Answers.{numberOf, drawnSheet}
-use Rattle.sheet.specs.Promise.{answerStep, NextRead}
+use Rattle.sheet.specs.Trusted.Answers.{numberOf, drawnSheet, answered}
+use Rattle.sheet.specs.Promise.{NextRead}
 use Rattle.sheet.specs.declared.ReadAnswer.{ReadAnswer as CodeAnswer}
 use Rattle.sheet.specs.declared.ReadAnswer.the-variants.{Accepted as Read, Refused as Misread}
 use Rattle.sheet.specs.declared.Next.{Next}
@@ -84,31 +84,31 @@ grown p text q a h e = of (add-case p text q a h)
 
 -- ---- the sheet at a place
 
-good-of : {A : Type 0} (rest d : List ℕ) (a : A) (m : Step A) → leaving rest m ≡ good (a, d) → (m ≡ good a) × (rest ≡ d)
+leaving-passed : {A : Type 0} (rest d : List ℕ) (a : A) (m : Checked A) → leaving rest m ≡ passed (a, d) → (m ≡ passed a) × (rest ≡ d)
 unfolding _>>=_
-good-of {A} rest d a (good b) e =
+leaving-passed {A} rest d a (passed b) e =
     let h : _≡_ {A = A × List ℕ} (b, rest) (a, d) = cc in
-    (ap (λ (p : A × List ℕ). good (p .0)) h, ap (λ (p : A × List ℕ). p .1) h)
-good-of rest d a (bad number place) e = let z : _≡_ {A = ℕ} 0 1 = cc in absurd (omega arith)
+    (ap (λ (p : A × List ℕ). passed (p .0)) h, ap (λ (p : A × List ℕ). p .1) h)
+leaving-passed rest d a (unread number place) e = let z : _≡_ {A = ℕ} 0 1 = cc in absurd (omega arith)
 
-bad-of : {A : Type 0} (rest : List ℕ) (number place : ℕ) (m : Step A) → leaving rest m ≡ bad number place → m ≡ bad number place
+leaving-refused : {A : Type 0} (rest : List ℕ) (number place : ℕ) (m : Checked A) → leaving rest m ≡ unread number place → m ≡ unread number place
 unfolding _>>=_
-bad-of rest number place (good b) e = let z : _≡_ {A = ℕ} 0 1 = cc in absurd (omega arith)
-bad-of rest number place (bad n l) e = cc
+leaving-refused rest number place (passed b) e = let z : _≡_ {A = ℕ} 0 1 = cc in absurd (omega arith)
+leaving-refused rest number place (unread n l) e = cc
 
 -- the sheet that was read off the front is the one that its text is, and the rest is the text after it
 record Front (input : List ℕ) (at end : ℕ) (s : DrawnSheet) : Type 0 where
-  read : readSheet (sheetText (drop at input) .0) ≡ drew s
+  read : readSheet (sheetText (drop at input) .0) ≡ passed s
   rest : sheetText (drop at input) .1 ≡ drop end input
   after : at < end
 
-front : (input : List ℕ) (at end : ℕ) (s : DrawnSheet) → at < length input → end ≤ length input → readNext (drop at input) ≡ good (s, drop end input) →
+front : (input : List ℕ) (at end : ℕ) (s : DrawnSheet) → at < length input → end ≤ length input → readNext (drop at input) ≡ passed (s, drop end input) →
     Front input at end s
 front input at end s h w e =
     let t = drop at input in
-    let (r, d) = good-of _ _ s _ (sym (next-is t) ∙ e) in
+    let (r, d) = leaving-passed _ _ s _ (sym (next-is t) ∙ e) in
     record {
-      read = ap reading r;
+      read = r;
       rest = d;
       after = omega (arith, text-less t (omega (arith, length-drop at input)), length-drop at input, ap length d, length-drop end input);
     }
@@ -125,8 +125,8 @@ pub record Stepped (input : List ℕ) (p : Part) (at : ℕ) (q : Part) (t : Told
 -- refused as it is read, or offered to the part
 module _ (input : List ℕ) (p : Part) (at : ℕ) (sound : Sound p) (shape : Shaped p) (inside : at < length input) (r : Next)
     (h : NextRead input (readNext (drop at input)) r) where
-  next-is-step : {a : CodeAnswer} → r .answer ≡ a → readNext (drop at input) ≡ answerStep a (drawnSheet (r .sheet), drop (r .end) input)
-  next-is-step i = h .same ∙ ap (λ (a : CodeAnswer). answerStep a (drawnSheet (r .sheet), drop (r .end) input)) i
+  next-is-step : {a : CodeAnswer} → r .answer ≡ a → readNext (drop at input) ≡ answered a (drawnSheet (r .sheet), drop (r .end) input)
+  next-is-step i = h .same ∙ ap (λ (a : CodeAnswer). answered a (drawnSheet (r .sheet), drop (r .end) input)) i
 
   read-front : r .answer ≡ Read → Front input at (r .end) (drawnSheet (r .sheet))
   read-front i = front input at (r .end) (drawnSheet (r .sheet)) inside (h .within) (next-is-step i)
@@ -139,9 +139,9 @@ module _ (input : List ℕ) (p : Part) (at : ℕ) (sound : Sound p) (shape : Sha
   stepped-refused why line n i e =
       let t = told-misread n line why e in
       let text = sheetText (drop at input) .0 in
-      let m : readAll text ≡ bad (numberOf why) line = bad-of _ (numberOf why) line _ (sym (next-is (drop at input)) ∙ next-is-step i) in
+      let m : readSheet text ≡ unread (numberOf why) line = leaving-refused _ (numberOf why) line _ (sym (next-is (drop at input)) ∙ next-is-step i) in
       record {
-        add = subst (Add p text p) (sym t) (add-misread p text sound (numberOf why) line (ap reading m));
+        add = subst (Add p text p) (sym t) (add-misread p text sound (numberOf why) line m);
         rest = λ z. absurd (not-refused t z);
         shaped = shape;
         sound = sound;

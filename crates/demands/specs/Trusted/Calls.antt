@@ -2,8 +2,9 @@
 -- 01, "Counting over a list of adds". Definitions only.
 use Prim.Native.Nat.{ℕ}
 use mathlib.Core.List.{List, [], _∷_, _++_}
+use Rattle.lists.specs.Trusted.Checked.{Checked, passed, refused as unread}
 use Rattle.cover.specs.Trusted.CoverTables.{Circuit}
-use Rattle.part.specs.Trusted.Reading.{CircuitReading, sheet, refused as unread, readOf}
+use Rattle.part.specs.Trusted.Reading.{readOf}
 use Rattle.part.specs.Trusted.Answers.{Answer, accepted, refused, Result}
 use Rattle.part.specs.Trusted.Add.{Add}
 use Rattle.part.specs.declared.Part.{Part}
@@ -18,8 +19,8 @@ final p [] = p
 final p (r ∷ rs) = final (r .part) rs
 
 -- the sheet that is read, if one is
-abbrev pub sheetsRead : CircuitReading → List Circuit
-sheetsRead (sheet s) = s ∷ []
+abbrev pub sheetsRead : Checked Circuit → List Circuit
+sheetsRead (passed s) = s ∷ []
 sheetsRead (unread number place) = []
 
 -- of a call's sheets, all are accepted or none

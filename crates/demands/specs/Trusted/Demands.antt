@@ -9,10 +9,11 @@ use mathlib.Core.List.{List, [], _∷_, _++_, map}
 use lib.ListN.{length}
 use Rattle.lists.specs.Trusted.Lists.{Every}
 use Rattle.tree.specs.Trusted.Limits.{codeBase}
+use Rattle.lists.specs.Trusted.Checked.{passed, refused as unread, refused as unwritten}
 use Rattle.cover.specs.Trusted.Cover.{Least}
 use Rattle.cover.specs.Trusted.Tables.{LookupTable, settled}
 use Rattle.cover.specs.Trusted.CoverTables.{Circuit, CoverTables, Fresh}
-use Rattle.sheet.specs.Trusted.Sheet.{DrawnSheet, sheet as drew}
+use Rattle.sheet.specs.Trusted.Sheet.{DrawnSheet}
 use Rattle.sheet.specs.Trusted.Read.{readSheet}
 use Rattle.sheet.specs.Trusted.Values.{sheetValue}
 use Rattle.table.specs.Trusted.Limits.{KRange, CapacityRange}
@@ -20,13 +21,12 @@ use Rattle.table.specs.Trusted.Records.{recordOf}
 use Rattle.table.specs.Trusted.Rules.{IsNet}
 use Rattle.part.specs.Trusted.Parts.{inUse, tablesOf, Shaped}
 use Rattle.part.specs.Trusted.Sound.{Sound}
-use Rattle.part.specs.Trusted.Reading.{sheet, refused as unread, readOf}
+use Rattle.part.specs.Trusted.Reading.{readOf}
 use Rattle.part.specs.Trusted.Answers.{Answer, accepted, refused, Result, empty}
 use Rattle.part.specs.Trusted.Add.{opened, Add}
 use Rattle.listing.specs.Trusted.Listing.{lineOf, listOf}
 use Rattle.part.specs.declared.Part.{Part}
-use Rattle.list_line.specs.Trusted.Writes as Writes
-use Rattle.list_line.specs.Trusted.Writes.{wrote, pasted}
+use Rattle.list_line.specs.Trusted.Writes.{WriteOutcome, pasted}
 use Rattle.listing.specs.Lines.{lineWritten, listWritten}
 use Rattle.demands.specs.Trusted.Nets.{Driven, Read}
 use Rattle.demands.specs.Trusted.Calls.{Call, add, final, acceptedIn, Link}
@@ -50,15 +50,15 @@ pub record OpeningTold (k capacity : ℕ) (r : Result) : Type 0 where
 -- no condition that an add tests before 23 holds, and the sheet is s
 pub record Passes (o : Part) (text : List ℕ) (s : Circuit) : Type 0 where
   pub sound : Sound o
-  pub read : readOf text ≡ sheet s
+  pub read : readOf text ≡ passed s
   pub fresh : Fresh s (tablesOf o)
 
 -- adding: 20, then those of the sheet, which `readOf` states in 01's order, then 21, 22 and 23
 pub data AddCondition (p : Part) (text : List ℕ) : (number place : ℕ) → Type 0 where
   not-sound : ¬ (Sound p) → AddCondition p text 20 0
   not-read : (number place : ℕ) → Sound p → readOf text ≡ unread number place → AddCondition p text number place
-  out-driven : (s : Circuit) → Sound p → readOf text ≡ sheet s → Driven (s .out) (tablesOf p) → AddCondition p text 21 0
-  out-read : (s : Circuit) → Sound p → readOf text ≡ sheet s → ¬ (Driven (s .out) (tablesOf p)) → Read (s .out) (tablesOf p) → AddCondition p text 22 0
+  out-driven : (s : Circuit) → Sound p → readOf text ≡ passed s → Driven (s .out) (tablesOf p) → AddCondition p text 21 0
+  out-read : (s : Circuit) → Sound p → readOf text ≡ passed s → ¬ (Driven (s .out) (tablesOf p)) → Read (s .out) (tablesOf p) → AddCondition p text 22 0
   no-room : (s : Circuit) (n : ℕ) → Passes p text s → Least (p .k) (s .tree) n → p .capacity - p .used < n → AddCondition p text 23 0
 
 -- accepted is what passes, with a least number that is not above the number left
@@ -74,11 +74,11 @@ pub data WriteCondition (p : Part) (There : Type 0) (old : List ℕ) (at : ℕ) 
   not-there : Sound p → ¬ There → WriteCondition p There old at new 15 0
   too-short : Sound p → There → length old < at + length new → WriteCondition p There old at new 14 0
 
-pub record WriteTold (p : Part) (There : Type 0) (old : List ℕ) (at : ℕ) (new : List ℕ) (o : Writes.WriteOutcome) : Type 0 where
-  pub refuses : (number place : ℕ) → (o .result ≡ Writes.refused number place) ↔ WriteCondition p There old at new number place
-  pub writes : (count : ℕ) → (o .result ≡ wrote count) ↔ (Sound p × There × (at + length new ≤ length old) × (count ≡ length new))
-  pub stays : (number place : ℕ) → o .result ≡ Writes.refused number place → o .bytes ≡ old
-  pub bytes : (count : ℕ) → o .result ≡ wrote count → o .bytes ≡ pasted old at new
+pub record WriteTold (p : Part) (There : Type 0) (old : List ℕ) (at : ℕ) (new : List ℕ) (o : WriteOutcome) : Type 0 where
+  pub refuses : (number place : ℕ) → (o .result ≡ unwritten number place) ↔ WriteCondition p There old at new number place
+  pub writes : (count : ℕ) → (o .result ≡ passed count) ↔ (Sound p × There × (at + length new ≤ length old) × (count ≡ length new))
+  pub stays : (number place : ℕ) → o .result ≡ unwritten number place → o .bytes ≡ old
+  pub bytes : (count : ℕ) → o .result ≡ passed count → o .bytes ≡ pasted old at new
 
 -- DEMAND 1, of every entry point that can turn something down, whatever it is handed; the list is always there
 pub record Demand1 : Type 0 where
@@ -97,7 +97,7 @@ valuesIn p = settled codeBase (tablesOf p)
 -- An add on the part o, with the result r, in calls that end with the part `last`: the text reads as the sheet d, and its tables `new` stand
 -- unchanged in the last part; and there its output net has the value that its gates give, one after the other, at the values of the nets.
 pub record Served (last o : Part) (text : List ℕ) (r : Result) (d : DrawnSheet) (new : List LookupTable) : Type 0 where
-  pub read : readSheet text ≡ drew d
+  pub read : readSheet text ≡ passed d
   pub tables : tablesOf (r .part) ≡ tablesOf o ++ new
   pub stay : (later : List LookupTable) × (tablesOf last ≡ tablesOf (r .part) ++ later)
   pub value : (σ : ℕ → Bool) → valuesIn last σ (d .out) ≡ sheetValue d (valuesIn last σ)
@@ -143,7 +143,7 @@ left p n = p .capacity - p .used - n
 -- the tables `new` were taken for the sheet s: the records put after the old ones are theirs, they "are those of one of its covers, and
 -- their number is its least number" and the used count handed back less the one handed in
 pub record Taken (k : ℕ) (o : Part) (text : List ℕ) (q : Part) (s : Circuit) (new : List LookupTable) : Type 0 where
-  pub read : readOf text ≡ sheet s
+  pub read : readOf text ≡ passed s
   pub records : inUse q ≡ inUse o ++ map recordOf new
   pub tables : tablesOf q ≡ tablesOf o ++ new
   pub cover : CoverTables codeBase k (tablesOf o) new s

@@ -2,14 +2,11 @@
 use Prim.Native.Nat.{ℕ, _+_}
 use mathlib.Core.List.{List, _++_}
 use lib.ListN.{length, take, drop}
+use Rattle.lists.specs.Trusted.Checked.{Checked}
 
--- so many bytes are written; or refused, with 01's number and place
-pub data WriteResult : Type 0 where
-  wrote : ℕ → WriteResult
-  refused : (number place : ℕ) → WriteResult
-
+-- the result is how many bytes are written, or 01's number and place of a refusal
 pub record WriteOutcome : Type 0 where
-  pub result : WriteResult
+  pub result : Checked ℕ
   pub bytes : List ℕ
 
 -- the new bytes stand from the place on, and all others are as they were

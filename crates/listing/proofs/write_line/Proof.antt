@@ -5,6 +5,7 @@ use borrow.Author.Tests.{not-true, not-false, le-leb, lt-leb, leb-true}
 use denote.Ref.{now}
 use lib.Dec.{leb}
 use lib.ListN.{length, getD}
+use Rattle.lists.specs.Trusted.Checked.{passed}
 use Rattle.table.specs.LoopLaws.{getD-any}
 use Rattle.table.specs.Trusted.Records.{blank}
 use mathlib.Core.Bool.{true}
@@ -12,7 +13,7 @@ use Rattle.part.specs.Trusted.SoundTest.{sound}
 use Rattle.list_line.specs.Trusted.TableLine.{tableLine}
 use Rattle.listing.specs.Trusted.Listing.{lineOf}
 use Rattle.part.proofs.Shape.{shaped, past}
-use Rattle.list_line.specs.Trusted.Writes.{wrote, pasted}
+use Rattle.list_line.specs.Trusted.Writes.{pasted}
 use Rattle.list_line.specs.Line.{tableWidth}
 use Rattle.list_line.specs.FieldLaws.{table-length}
 use Rattle.listing.specs.LineLaws.{fitted-out, fitted-in, line-unsound, line-absent, line-there, line-table, used-room}
@@ -58,7 +59,7 @@ returns-4 : tie.Need-returns-4
 returns-4 c =
     let a = c .before .before .before .before .before .before .before .before .before .before .before .args in
     let s = sym (c .before .before .before .before .before .before .before .before .before .sound .ensures) ∙ not-false _ (c .before .before .before .before .before .before .before .before .if1 .left) in
-    ap (λ b. record { result = wrote 19; bytes = b }) (c .before .before .put-top .ensures)
+    ap (λ b. record { result = passed 19; bytes = b }) (c .before .before .put-top .ensures)
     ∙ sym (line-there (a .t1) (a .line) (now (a .buf)) (a .at) s (le-leb _ _ (c .before .before .before .before .before .before .before .if2 .left))
     ∙ fitted-in (now (a .buf)) (a .at) (ap (lineOf (a .t1)) (c .before .before .before .before .before .before .if3 .taken)) (sym (c .before .before .before .before .before .has-room .ensures) ∙ not-false _ (c .before .before .before .before .if4 .left)))
 
@@ -127,7 +128,7 @@ returns-6 c =
     let g = record-at k (c .before .before .before .before .before .before .before .before .before .if2 .left) (c .before .before .before .before .before .before .before .before .if3 .left) s in
     let w : length (tableLine (a .line) r) ≡ c .before .before .before .before .before .before .table-width .result =
     table-length (a .line) r ∙ ap tableWidth (sym g) ∙ sym (c .before .before .before .before .before .before .table-width .ensures .0) in
-    ap₂ (λ n b. record { result = wrote n; bytes = b }) (sym w) (c .before .before .put-table .ensures ∙ ap (λ q. pasted old (a .at) (tableLine (a .line) q)) g)
+    ap₂ (λ n b. record { result = passed n; bytes = b }) (sym w) (c .before .before .put-table .ensures ∙ ap (λ q. pasted old (a .at) (tableLine (a .line) q)) g)
     ∙ sym (line-there p (a .line) old (a .at) s (le-leb _ _ (c .before .before .before .before .before .before .before .before .before .if2 .left))
     ∙ fitted-in old (a .at) (line-table p (a .line) (omega (arith, c .before .before .before .before .before .before .before .before .if3 .left)))
     (ap (λ n. leb (a .at + n) (length old)) w ∙ sym (c .before .before .before .before .before .has-room2 .ensures) ∙ not-false _ (c .before .before .before .before .if5 .left)))

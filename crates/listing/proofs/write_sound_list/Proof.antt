@@ -6,7 +6,7 @@ use borrow.Author.Tests.{not-true, not-false, leb-true}
 use denote.Ref.{now}
 use lib.Dec.{leb}
 use lib.ListN.{length, length-append}
-use Rattle.list_line.specs.Trusted.Writes.{wrote}
+use Rattle.lists.specs.Trusted.Checked.{passed}
 use Rattle.list_line.specs.Line.{topLine}
 use Rattle.listing.specs.Lines.{tableLines}
 use Rattle.list_line.specs.PasteLaws.{paste-next}
@@ -67,7 +67,7 @@ returns-2 c =
     let w : length (top ++ rest) ≡ 19 + c .before .before .before .before .before .before .before .before .before .before .tables-width .result = omega (arith, length-append top rest, c .before .before .before .before .before .before .before .before .before .before .tables-width .ensures .0) in
     let f = sym (c .before .before .before .before .before .before .before .before .before .has-room .ensures) ∙ not-false _ (c .before .before .before .before .before .before .before .before .if1 .left) in
     let l : a .at + length top + length rest ≤ length old = omega (arith, leb-true (a .at + (19 + c .before .before .before .before .before .before .before .before .before .before .tables-width .result)) (length old) f, w, length-append top rest) in
-    ap₂ (λ n b. record { result = wrote n; bytes = b }) (sym w)
+    ap₂ (λ n b. record { result = passed n; bytes = b }) (sym w)
     (paste-next old (c .before .before .before .before .before .before .put-top .last .0) (c .before .before .put-tables .last .0) (a .at) (a .at + 19) top rest (c .before .before .before .before .before .before .put-top .ensures) refl l (c .before .before .put-tables .ensures))
     ∙ sym (list-there p old (a .at) (s .pre)
     ∙ fitted-in old (a .at) (list-is p) (ap (λ n. leb (a .at + n) (length old)) w ∙ f))

@@ -8,6 +8,7 @@ use lib.Dec.{leb, eqb}
 use lib.ListN.{length, drop}
 use Rattle.lists.specs.Trusted.Tests.{any, elem, within, either}
 use Rattle.tree.specs.Trusted.Limits.{codeBase}
+use Rattle.lists.specs.Trusted.Checked.{Checked, passed, refused as unread}
 use Rattle.cover.specs.Trusted.Cover.{Least}
 use Rattle.cover.specs.Trusted.Tables.{LookupTable}
 use Rattle.cover.specs.Trusted.CoverTables.{Circuit, LeastCoverTables}
@@ -15,7 +16,7 @@ use Rattle.table.specs.Trusted.Limits.{inputRoom, tableRoom}
 use Rattle.table.specs.Trusted.Records.{recordOf}
 use Rattle.part.specs.Trusted.Parts.{inUse, tablesOf}
 use Rattle.part.specs.Trusted.SoundTest.{sound}
-use Rattle.part.specs.Trusted.Reading.{CircuitReading, sheet, refused as unread, readOf}
+use Rattle.part.specs.Trusted.Reading.{readOf}
 use Rattle.part.specs.Trusted.Answers.{Answer, accepted, refused, Result, empty}
 use Rattle.part.specs.declared.Part.{Part}
 
@@ -71,8 +72,8 @@ Offer p s q a =
     ((n : ℕ) × Least (p .k) (s .tree) n × Fill p s n q a))
 
 -- the sheet's own refusals
-abbrev pub Take : Part → CircuitReading → Part → Answer → Type 0
-Take p (sheet s) q a = Offer p s q a
+abbrev pub Take : Part → Checked Circuit → Part → Answer → Type 0
+Take p (passed s) q a = Offer p s q a
 Take p (unread number place) q a = Refused p number place q a
 
 -- THE PROMISE OF AN ADD to the part p, of the sheet that is read from the text: q is handed back, with the answer a

@@ -3,6 +3,7 @@ use Prim.Native.Nat.{ℕ}
 use mathlib.Core.Bool.{false}
 use mathlib.Core.List.{List, map}
 use lib.ListN.{take, drop, replicate}
+use Rattle.lists.specs.Trusted.Checked.{Checked, passed, refused}
 use Rattle.tree.specs.declared.Kind.the-variants.{And as and}
 use Rattle.sheet.specs.declared.Source.the-variants.{Net as net}
 use Rattle.sheet.specs.declared.Edge.{Edge}
@@ -14,7 +15,7 @@ use Rattle.sheet.specs.declared.ReadAnswer.{ReadAnswer}
 use Rattle.sheet.specs.declared.ReadAnswer.the-variants.{Accepted, Refused}
 use Rattle.sheet.specs.declared.ReadResult.{ReadResult}
 use Rattle.sheet.specs.Trusted.Limits.{mostGates, faninRoom}
-use Rattle.sheet.specs.Trusted.Sheet.{DrawnGate, DrawnSheet, SheetReading, sheet, refused}
+use Rattle.sheet.specs.Trusted.Sheet.{DrawnGate, DrawnSheet}
 
 -- 01, "Turned down because of the input"
 abbrev pub numberOf : Refusal → ℕ
@@ -40,11 +41,11 @@ drawnGates fs n gs = map (drawnGate fs) (take n gs)
 abbrev pub drawnSheet : Sheet → DrawnSheet
 drawnSheet s = record { out = s .out; inverted = s .inverted; gates = drawnGates (s .fanins) (s .count) (s .gates) }
 
-abbrev pub answered : ReadAnswer → DrawnSheet → SheetReading
-answered Accepted s = sheet s
-answered (Refused why line) s = refused (numberOf why) line
+abbrev pub answered : {A : Type 0} → ReadAnswer → A → Checked A
+answered Accepted a = passed a
+answered (Refused why line) a = refused (numberOf why) line
 
-abbrev pub outcome : ReadResult → SheetReading
+abbrev pub outcome : ReadResult → Checked DrawnSheet
 outcome r = answered (r .answer) (drawnSheet (r .sheet))
 
 -- all zero: what stands past the counts, and for the sheet of a text that is refused

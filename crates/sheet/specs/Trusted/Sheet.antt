@@ -20,11 +20,6 @@ pub record DrawnSheet : Type 0 where
   pub inverted : Bool
   pub gates : List DrawnGate
 
--- what comes of a text: a sheet, or the number of the condition that turns it down, and the line (from 1) at which it does
-pub data SheetReading : Type 0 where
-  sheet : DrawnSheet → SheetReading
-  refused : (number place : ℕ) → SheetReading
-
 -- the net, or the gate, that is read
 abbrev pub netOf : Source → List ℕ
 netOf (net n) = n ∷ []

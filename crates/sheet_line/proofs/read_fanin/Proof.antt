@@ -5,13 +5,13 @@ use mathlib.Core.Path.{_≡_, sym, ap, _∙_}
 use mathlib.Core.Option.{some}
 use lib.ListN.{length}
 use borrow.Author.Tests.{eq-eqb, ne-eqb, lt-ltb, le-ltb}
+use Rattle.lists.specs.Trusted.Checked.{passed}
 use Rattle.sheet.specs.declared.Source.{Source}
 use Rattle.sheet.specs.declared.Source.the-variants.{Net as net, Gate as gate}
 use Rattle.sheet.specs.declared.Refusal.{Refusal}
 use Rattle.sheet_line.specs.declared.Fanin.the-variants.{Reads, Bad}
 use Rattle.sheet.specs.Trusted.Limits.{mostLeaves}
 use Rattle.sheet.specs.Trusted.Sheet.{netOf}
-use Rattle.sheet.specs.Trusted.Step.{good}
 use Rattle.sheet.specs.Trusted.Read.{sourceOf}
 use Rattle.sheet_line.specs.Inside.{saw, sourceStep}
 use Rattle.sheet_line.proofs.FaninLaws.{fanin-none, gate-twice, gate-once, net-twice, net-out, net-many, net-once, code-below, net-flag, gate-flag}
@@ -127,7 +127,7 @@ returns-6 c =
       first = λ s q. c .if1 .left;
       step = λ seen h.
           gate-once (a .out) (a .gate) seen (a .code) _ e (sym (gate-flag (a .gate) (a .code) (s .pre) h _ e) ∙ c .if1 .left)
-          ∙ ap (λ s. good (s, saw seen s)) (sym (c .before .enum-told2 .given .1));
+          ∙ ap (λ s. passed (s, saw seen s)) (sym (c .before .enum-told2 .given .1));
     }
 
 returns-7 : tie.Need-returns-7

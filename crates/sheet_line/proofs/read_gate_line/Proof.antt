@@ -5,14 +5,14 @@ use mathlib.Core.Path.{_≡_, sym, ap, _∙_}
 use mathlib.Core.Option.{some}
 use mathlib.Core.List.{List}
 use lib.ListN.{length, take, drop}
+use Rattle.lists.specs.Trusted.Checked.{passed, refused}
 use Rattle.sheet.specs.declared.Refusal.{Refusal}
 use Rattle.sheet_line.specs.declared.GateLine.{GateLine}
 use Rattle.sheet.specs.Trusted.Answers.{numberOf}
 use Rattle.sheet.specs.Trusted.Line.{line, fields}
-use Rattle.sheet.specs.Trusted.Step.{good, bad}
 use Rattle.sheet.specs.Trusted.Read.{gateHeadOf}
 use Rattle.sheet_line.specs.Inside.{cutAt, gateHeadStep, gateLine, faninNumbers, faultStep, LineRefused, GateLineRead}
-use Rattle.sheet_line.proofs.GateLaws.{fanins-are, line-missing, line-bad, line-good}
+use Rattle.sheet_line.proofs.GateLaws.{fanins-are, line-missing, line-refused, line-passed}
 use borrow.Author.Needs.{needs}
 use Rattle.sheet_line.proofs.read_gate_line.Statement.{statement}
 use Rattle.sheet_line.proofs.read_gate_line.Tie as tie
@@ -31,9 +31,9 @@ head-is : (c : tie.After-read-gate-head) (g : ℕ) → let a = c .before .before
     gateHeadOf g (fields (take (end - a .start) (drop (a .start) (a .text .now)))) ≡ gateHeadStep g (c .before .before .read-fields .result) (c .read-gate-head .result)
 head-is c g = ap (gateHeadOf g) (c .before .before .read-fields .ensures .same) ∙ c .read-gate-head .ensures .step g
 
-refused : (text : List ℕ) (start : ℕ) (l : GateLine) {why : Refusal} → LineRefused why l → ((g : ℕ) → gateLine g (drop start text) ≡ bad (numberOf why) (suc g)) →
-    GateLineRead text start l
-refused text start l b h = record {
+gate-refused : (text : List ℕ) (start : ℕ) (l : GateLine) {why : Refusal} → LineRefused why l →
+    ((g : ℕ) → gateLine g (drop start text) ≡ refused (numberOf why) (suc g)) → GateLineRead text start l
+gate-refused text start l b h = record {
   step = λ g. h g ∙ sym (ap (λ w. faultStep g w (l .kind, faninNumbers l, drop (l .end) text)) (b .fault));
   whole = b .whole;
   within = omega (arith, b .count);
@@ -55,7 +55,7 @@ bad-line-requires c κs = search needs
 returns : tie.Need-returns
 returns c =
     let a = c .before .before .before .before .before .args in
-    refused (a .text .now) (a .start) (c .bad-line .result) (c .bad-line .ensures)
+    gate-refused (a .text .now) (a .start) (c .bad-line .result) (c .bad-line .ensures)
     (λ g. line-missing g (drop (a .start) (a .text .now)) (c .before .before .before .line-end .ensures .cut ∙ ap (cutAt (a .text .now) (a .start)) (c .before .enum-told .given .1)))
 
 sub-read-fields : tie.Need-sub-read-fields
@@ -90,8 +90,8 @@ returns-2 c =
     let h = c .before .before .before .before in
     let e = h .before .before .before .before .before in
     let a = e .before .before .before .before .args in
-    refused (a .text .now) (a .start) (c .bad-line2 .result) (c .bad-line2 .ensures)
-    (λ g. line-bad g (drop (a .start) (a .text .now)) (line-is e)
+    gate-refused (a .text .now) (a .start) (c .bad-line2 .result) (c .bad-line2 .ensures)
+    (λ g. line-refused g (drop (a .start) (a .text .now)) (line-is e)
     (head-is h g ∙ ap (gateHeadStep g (h .before .before .read-fields .result)) (c .before .before .why .given .1)))
 
 returns-3 : tie.Need-returns-3
@@ -103,8 +103,8 @@ returns-3 c =
     let k = c .before .kind .given in
     let n = h .read-gate-head .ensures .fanins (k .0 .0) (k .0 .1 .0) (k .1) in
     record {
-      step = λ g. line-good g (drop (a .start) (a .text .now)) (line-is e)
-          (head-is h g ∙ (ap (gateHeadStep g f) (k .1) ∙ ap (λ xs. good (k .0 .0, xs)) (fanins-are f (k .0 .1 .0) (n .0))));
+      step = λ g. line-passed g (drop (a .start) (a .text .now)) (line-is e)
+          (head-is h g ∙ (ap (gateHeadStep g f) (k .1) ∙ ap (λ xs. passed (k .0 .0, xs)) (fanins-are f (k .0 .1 .0) (n .0))));
       whole = h .before .before .read-fields .ensures .room .whole;
       within = n .1;
       ends = omega (arith, within e);

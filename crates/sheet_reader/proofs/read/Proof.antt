@@ -1,10 +1,9 @@
 -- `sheet::read` meets its contract. Assumes nothing.
 use mathlib.Core.Path.{sym, ap, _∙_}
 use lib.ListN.{drop}
-use Rattle.sheet.specs.Trusted.Step.{_>>=_}
-use Rattle.sheet.specs.Trusted.Read.{reading}
+use Rattle.lists.specs.Trusted.Checked.{_>>=_}
 use Rattle.sheet.specs.Trusted.Answers.{drawnSheet}
-use Rattle.sheet_reader.proofs.SheetLaws.{alone, front-all, reading-alone}
+use Rattle.sheet_reader.proofs.SheetLaws.{alone, front-all, answered-alone}
 use borrow.Author.Needs.{needs}
 use Rattle.sheet_reader.proofs.read.Statement.{statement}
 use Rattle.sheet_reader.proofs.read.Tie as tie
@@ -17,7 +16,9 @@ returns c =
     let text = c .before .before .before .args .text .now in
     let n = c .before .read-front in
     record {
-      same = sym (ap reading (front-all text ∙ ap (λ m. m >>= alone) (n .ensures .same)) ∙ reading-alone (n .result .answer) (drawnSheet (n .result .sheet)) (drop (n .result .end) text));
+      same = sym (front-all text
+          ∙ (ap (λ m. m >>= alone) (n .ensures .same)
+          ∙ answered-alone (n .result .answer) (drawnSheet (n .result .sheet)) (drop (n .result .end) text)));
       none = λ why line e. n .ensures .none why line e .0;
     }
 

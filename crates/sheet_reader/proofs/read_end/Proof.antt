@@ -2,11 +2,11 @@
 use Prim.Native.Nat.{ℕ, _+_}
 use native.Mathlib.Omega.{arith}
 use mathlib.Core.Path.{_≡_, sym, ap, ap₂, _∙_}
+use Rattle.lists.specs.Trusted.Checked.{passed}
 use Rattle.sheet.specs.declared.Refusal.the-variants.{Layout, GateUnread}
-use Rattle.sheet.specs.Trusted.Step.{good}
 use Rattle.sheet.specs.Trusted.Read.{Head}
 use Rattle.sheet_reader.specs.Inside.{unreadStep}
-use Rattle.sheet_reader.proofs.SheetLaws.{next-refused, end-refused, went, end-more, end-unread, end-good}
+use Rattle.sheet_reader.proofs.SheetLaws.{next-refused, end-refused, went, end-more, end-unread, end-passed}
 use borrow.Author.Needs.{needs}
 use Rattle.sheet_reader.proofs.read_end.Statement.{statement}
 use Rattle.sheet_reader.proofs.read_end.Tie as tie
@@ -83,9 +83,9 @@ returns-4 c =
     λ m h. let g = went (a .text .now) (a .l) (head-of s) (a .last) m h (e .enum-told .given .1) in
     record {
       same =
-          end-good (a .text .now) (a .l) (head-of s) (a .last) m h (e .enum-told .given .1) (sym (i .before .more .ensures) ∙ i .if1 .left)
+          end-passed (a .text .now) (a .l) (head-of s) (a .last) m h (e .enum-told .given .1) (sym (i .before .more .ensures) ∙ i .if1 .left)
           (u .first-unread .ensures (g .0 .1 .gates) (g .1 .0 .marked) ∙ ap unreadStep (c .before .before .enum-told2 .given .1))
-          ∙ ap₂ (λ gs rest. good (record { out = a .out; inverted = a .inverted; gates = gs }, rest)) (g .1 .0 .gates) (g .1 .0 .rest);
+          ∙ ap₂ (λ gs rest. passed (record { out = a .out; inverted = a .inverted; gates = gs }, rest)) (g .1 .0 .gates) (g .1 .0 .rest);
       none = λ why line q. let z : _≡_ {A = ℕ} 0 1 = cc in absurd (omega arith);
       within = g .1 .0 .within;
     }

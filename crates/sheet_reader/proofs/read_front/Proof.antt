@@ -5,11 +5,11 @@ use mathlib.Core.Path.{_≡_, sym, ap, _∙_, subst}
 use mathlib.Core.Option.{some}
 use lib.ListN.{length, take, drop}
 use Rattle.sheet.specs.declared.Refusal.the-variants.{Layout}
-use Rattle.sheet.specs.Trusted.Line.{line}
-use Rattle.sheet.specs.Trusted.Read.{headOf, readHead}
+use Rattle.sheet.specs.Trusted.Line.{line, fields}
+use Rattle.sheet.specs.Trusted.Read.{headOf}
 use Rattle.sheet.specs.Promise.{NextRead}
 use Rattle.sheet_line.specs.Inside.{cutAt, headStep}
-use Rattle.sheet_reader.proofs.SheetLaws.{next-refused, front-none, front-bad, front-good}
+use Rattle.sheet_reader.proofs.SheetLaws.{next-refused, front-none, front-refused, front-passed}
 use borrow.Author.Needs.{needs}
 use Rattle.sheet_reader.proofs.read_front.Statement.{statement}
 use Rattle.sheet_reader.proofs.read_front.Tie as tie
@@ -24,7 +24,7 @@ within c = c .before .before .line-end .ensures .within (c .end .given .0 .0) (c
 
 -- what it says
 head-is : (c : tie.After-read-head) → let e = c .before .before .before .before in let a = e .before .before .before .before .args in
-    readHead (take (e .end .given .0 .0 - a .start) (drop (a .start) (a .text .now))) ≡ headStep (c .read-head .result)
+    headOf (fields (take (e .end .given .0 .0 - a .start) (drop (a .start) (a .text .now)))) ≡ headStep (c .read-head .result)
 head-is c = ap headOf (c .before .read-fields .ensures .same) ∙ c .read-head .ensures
 
 line-end-requires : tie.Need-line-end-requires
@@ -85,7 +85,7 @@ returns-2 c =
     let e = h .before .before .before .before in
     let a = e .before .before .before .before .args in
     next-refused (a .text .now) _ (c .refused2 .result) (c .before .before .why .given .0 .0) 1 (c .refused2 .ensures)
-    (front-bad (a .last) (drop (a .start) (a .text .now)) (line-is e) (head-is h ∙ ap headStep (c .before .before .why .given .1)))
+    (front-refused (a .last) (drop (a .start) (a .text .now)) (line-is e) (head-is h ∙ ap headStep (c .before .before .why .given .1)))
 
 returns-3 : tie.Need-returns-3
 returns-3 c =
@@ -95,7 +95,7 @@ returns-3 c =
     let e = h .before .before .before .before in
     let a = e .before .before .before .before .args in
     subst (λ m. NextRead (a .text .now) m (c .read-end .result))
-    (sym (front-good (a .last) (drop (a .start) (a .text .now)) (line-is e) (head-is h ∙ ap headStep (o .out .given .1))))
+    (sym (front-passed (a .last) (drop (a .start) (a .text .now)) (line-is e) (head-is h ∙ ap headStep (o .out .given .1))))
     (c .read-end .ensures _ (l .gate-lines .ensures))
 
 pub read-front-spec : {M : Type 1} → statement M

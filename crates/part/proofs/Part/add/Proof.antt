@@ -1,7 +1,7 @@
 use mathlib.Core.Path.{_≡_, sym, _∙_}
 use borrow.Author.Needs.{needs}
 use borrow.Author.Tests.{not-true, not-false}
-use Rattle.sheet.specs.Trusted.Sheet.{sheet as read}
+use Rattle.lists.specs.Trusted.Checked.{passed}
 use Rattle.sheet.specs.Trusted.Read.{readSheet}
 use Rattle.sheet.specs.Trusted.Answers.{numberOf, drawnSheet}
 use Rattle.sheet.specs.ReadLaws.{read-formed}
@@ -19,7 +19,7 @@ self-sound : (c : tie.Else1) → Sound (c .before .before .before .args .self)
 self-sound c = says-true (sound-reflects (c .before .before .before .args .self)) (sym (c .before .sound .ensures) ∙ not-false _ (c .if1 .left))
 
 sheet-read : (c : tie.After-enum-told) → let r = c .before .before in
-    readSheet (r .before .before .before .before .args .text .now) ≡ read (drawnSheet (r .read .result .sheet))
+    readSheet (r .before .before .before .before .args .text .now) ≡ passed (drawnSheet (r .read .result .sheet))
 sheet-read c =
     let r = c .before .before in
     reading-is (r .before .before .before .before .args .text .now) (r .read .result) (r .read .ensures) (c .enum-told .given .1)
