@@ -7,6 +7,7 @@ use mathlib.Core.Logic.{⊎-elim}
 use mathlib.Core.List.{List, [], _∷_, _++_, append-assoc, map, Memᴰ·map, Memᴰ·of-map}
 use lib.ListN.{length, drop, getD, length-take, length-drop, take-append-drop}
 use lib.Seq.{getD-take, ext-getD, length-take-le}
+use Rattle.lists.specs.NumberLaws.{from-one}
 use Rattle.lists.specs.Trusted.Lists.{_∈_, first, later, Every, gather, upto}
 use Rattle.lists.specs.ListLaws.{every-none, every-at, every-cons, every-head, every-tail}
 use Rattle.tree.specs.Trusted.Limits.{greatestNet}
@@ -200,7 +201,8 @@ module _ (p q : Part) (fp : Shaped p) (fq : Shaped q) (hp : Sound p) (hq : Sound
   -- TWO SOUND PARTS WITH THE SAME LIST are the same part
   pub list-says-all : listOf p ≡ listOf q → p ≡ q
   list-says-all e =
-      let a = top-only (gather (lineOf p) (map suc (upto (p .used)))) (gather (lineOf q) (map suc (upto (q .used)))) e in
+      let f : (r : Part) → listOf r ≡ lineOf r 0 ++ gather (lineOf r) (map suc (upto (r .used))) = λ r. ap (λ ts. lineOf r 0 ++ gather (lineOf r) ts) (from-one (r .used)) in
+      let a = top-only (gather (lineOf p) (map suc (upto (p .used)))) (gather (lineOf q) (map suc (upto (q .used)))) (sym (f p) ∙ e ∙ f q) in
       let b : gather (lineOf p) (map suc (upto (p .used))) ≡ gather (lineOf q) (map suc (upto (p .used))) =
       a .3 ∙ ap (λ n. gather (lineOf q) (map suc (upto n))) (sym (a .2)) in
       same-part (a .0) (a .1) (a .2)

@@ -8,7 +8,7 @@ use mathlib.Core.List.{List, [], _∷_, _++_, map, append-assoc, append-nil}
 use lib.Dec.{T}
 use lib.ListN.{length, length-append, length-map}
 use borrow.Author.Tests.{le-leb, lt-leb, lt-ltb}
-use Rattle.lists.specs.Trusted.Lists.{_∈_, first, later, Every, Distinct, gather}
+use Rattle.lists.specs.Trusted.Lists.{_∈_, first, later, Every, Distinct, gather, from}
 use Rattle.lists.specs.ListLaws.{every-none, every-cons, every-head, every-tail, every-left, every-right, permuted-to}
 use Rattle.lists.specs.Trusted.Tests.{elem}
 use Rattle.lists.specs.TestLaws.{reflects-lt, reflects-eq, reflects-not, reflects-elem, reflects-within, reflects-true}
@@ -22,7 +22,7 @@ use Rattle.sheet.specs.declared.Source.the-variants.{Net as net, Gate as gate}
 use Rattle.sheet.specs.declared.Edge.{Edge as Fanin}
 use Rattle.sheet.specs.Trusted.Limits.{mostGates, mostLeaves}
 use Rattle.sheet.specs.Trusted.Line.{fields}
-use Rattle.sheet.specs.Trusted.Sheet.{DrawnGate, DrawnSheet, netOf, gateOf, codeOf, faninNets, faninGates, leafNets, gatesRead, from}
+use Rattle.sheet.specs.Trusted.Sheet.{DrawnGate, DrawnSheet, netOf, gateOf, codeOf, faninNets, faninGates, leafNets, gatesRead}
 use Rattle.sheet.specs.Trusted.Read.{Seen, nothing, headOf, sourceOf, readSource, readFanins, kindOf, gateHeadOf, readGate, readLeft, readUnread, readSheet}
 use Rattle.sheet.specs.Trusted.Formed.{Net, LeafNet, FaninCount, Before, Earlier, WellFormed}
 use Rattle.sheet.specs.ReadLaws.{gates-distinct}

@@ -10,6 +10,7 @@ use lib.ListN.{length, getD, length-append, length-take, List·getD-eq-default}
 use lib.Seq.{getD-take}
 use Rattle.lists.specs.ListLaws.{every-at, gather-append, gather-map}
 use Rattle.lists.specs.Trusted.Lists.{gather, upto}
+use Rattle.lists.specs.NumberLaws.{from-one}
 use Rattle.lists.specs.Cases.{by-leb}
 use Rattle.lists.specs.Trusted.Checked.{passed}
 use Rattle.table.specs.Trusted.Records.{blank}
@@ -54,7 +55,8 @@ lines-more p t (suc u) h =
 
 -- line 0 and then the tables' lines
 pub list-is : (p : Part) → listOf p ≡ topLine (p .k) (p .capacity) (p .used) ++ tableLines p (p .used)
-list-is p = ap (λ l. topLine (p .k) (p .capacity) (p .used) ++ l) (gather-map (lineOf p) suc (upto (p .used)))
+list-is p =
+    ap (λ l. topLine (p .k) (p .capacity) (p .used) ++ l) (ap (gather (lineOf p)) (from-one (p .used)) ∙ gather-map (lineOf p) suc (upto (p .used)))
 
 -- ---- the list of a sound part
 

@@ -9,7 +9,7 @@ use mathlib.Core.List.{List, [], _∷_, _++_, map, Memᴰ·cast}
 use lib.Dec.{eqb}
 use lib.ListN.{length, length-map, getD}
 use Rattle.lists.specs.Cases.{by-eqb, if-leb}
-use Rattle.lists.specs.Trusted.Lists.{_∈_, first, later, Every, Sorted, Rising, Distinct, Inserted, here, there, Permuted, empty, more, Mix, neither, left, right, insert, sorted, upto, sum}
+use Rattle.lists.specs.Trusted.Lists.{_∈_, first, later, Every, Sorted, Rising, Distinct, Inserted, here, there, Permuted, empty, more, Mix, neither, left, right, insert, sorted, from, upto, sum}
 use Rattle.lists.specs.ListLaws.{every-none, every-cons, every-head, every-tail, inserted-to, inserted-from}
 
 -- ---- sums
@@ -59,6 +59,16 @@ pub upto-at : (n i z : ℕ) → i < n → getD (upto n) i z ≡ i
 upto-at zero i z h = absurd (omega arith)
 upto-at (suc n) zero z h = refl
 upto-at (suc n) (suc i) z h = up-at (upto n) i z (omega (arith, upto-length n)) ∙ ap suc (upto-at n i z (omega arith))
+
+-- ---- the numbers from 1 on
+
+from-up : (g n : ℕ) → from (suc g) n ≡ map suc (from g n)
+from-up g zero = refl
+from-up g (suc n) = ap (_∷_ (suc g)) (from-up (suc g) n)
+
+pub from-one : (n : ℕ) → from 1 n ≡ map suc (upto n)
+from-one zero = refl
+from-one (suc n) = ap (_∷_ 1) (from-up 1 n ∙ ap (map suc) (from-one n))
 
 -- ---- numbers put in order
 

@@ -5,7 +5,7 @@ use mathlib.Core.Path.{_≡_, refl, sym, ap, ap₂, _∙_, subst}
 use mathlib.Core.List.{List, [], _∷_, _++_, append-assoc}
 use lib.ListN.{length, getD, length-append}
 use lib.Seq.{getD-append-add}
-use Rattle.lists.specs.Trusted.Lists.{_∈_, Every, Distinct, Paired, no-pair, pair, gather, sum}
+use Rattle.lists.specs.Trusted.Lists.{_∈_, Every, Distinct, Paired, no-pair, pair, gather, sum, from}
 use Rattle.lists.specs.ListLaws.{every-none, every-cons, every-head, every-tail, not-first, inserted-to, inserted-from, permuted-length}
 use Rattle.lists.specs.NumberLaws.{sum-inserted, sum-le}
 use Rattle.cover.specs.Nets.{tables-most*}
@@ -13,7 +13,7 @@ use Rattle.cover.specs.Size.{records-length*}
 use Rattle.cover.specs.Trusted.Tables.{LookupTable, numbered}
 use Rattle.cover.specs.Eval.{numbered-length}
 use Rattle.tree.specs.Trusted.Tree.{Node}
-use Rattle.sheet.specs.Trusted.Sheet.{DrawnGate, from, leafNets, gatesRead}
+use Rattle.sheet.specs.Trusted.Sheet.{DrawnGate, leafNets, gatesRead}
 use Rattle.sheet.specs.NumberLaws.{drawn-out, in-from}
 use Rattle.mapper_laws.specs.Mapping.{GatesMapped, unmapped, mappedAt, leafCount, Stood, innerOf, Progress}
 

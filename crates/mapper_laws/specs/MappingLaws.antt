@@ -6,7 +6,7 @@ use mathlib.Core.Bool.{Bool, false}
 use mathlib.Core.List.{List, [], _∷_, _++_, append-assoc, append-nil}
 use lib.ListN.{length, getD, length-append, length-map, List·getD-append}
 use lib.Seq.{getD-append-add}
-use Rattle.lists.specs.Trusted.Lists.{Every, Distinct, Permuted, Paired, no-pair, pair, gather, upto, sum}
+use Rattle.lists.specs.Trusted.Lists.{Every, Distinct, Permuted, Paired, no-pair, pair, gather, upto, sum, from}
 use Rattle.lists.specs.ListLaws.{every-none, every-cons, every-head, every-at, every-append, every-left, every-right, permuted-refl, permuted-sym, permuted-trans, permuted-append, permuted-swap, permuted-length, gather-append, gather-permuted, gather-same, interchange}
 use Rattle.lists.specs.MixLaws.{paired-append}
 use Rattle.lists.specs.NumberLaws.{sum-append, sum-same, sum-none}
@@ -30,7 +30,7 @@ use Rattle.plan.specs.Placings.{inner}
 use Rattle.sheet.specs.declared.Source.{Source}
 use Rattle.sheet.specs.declared.Source.the-variants.{Net, Gate}
 use Rattle.sheet.specs.declared.Edge.{Edge}
-use Rattle.sheet.specs.Trusted.Sheet.{DrawnGate, DrawnSheet, from, netOf, gateOf, faninNets, faninGates, leafNets, gatesRead}
+use Rattle.sheet.specs.Trusted.Sheet.{DrawnGate, DrawnSheet, netOf, gateOf, faninNets, faninGates, leafNets, gatesRead}
 use Rattle.sheet.specs.Trusted.Trees.{nodeOf, edgesOf, treesOf, treeOf, drawn as drawnSheet}
 use Rattle.sheet.specs.Trusted.Formed.{WellFormed}
 use Rattle.sheet.specs.TreeLaws.{without, from-end}

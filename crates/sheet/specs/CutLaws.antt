@@ -8,9 +8,10 @@ use mathlib.Core.Option.{Option, none, some}
 use mathlib.Core.List.{List, [], _∷_, _++_, append-assoc, append-nil}
 use lib.Dec.{T}
 use lib.ListN.{length, length-append}
+use Rattle.lists.specs.Trusted.Lists.{from}
 use Rattle.lists.specs.Cases.{by-eqb}
 use Rattle.sheet.specs.Trusted.Line.{after, line, fields}
-use Rattle.sheet.specs.Trusted.Sheet.{DrawnGate, DrawnSheet, from}
+use Rattle.sheet.specs.Trusted.Sheet.{DrawnGate, DrawnSheet}
 use Rattle.sheet.specs.Trusted.Read.{isEmpty, Head, Seen, nothing, readGate, readLeft, readUnread, readSheet, headOf}
 use Rattle.lists.specs.Trusted.Checked.{Checked, passed, refused, _>>=_, require, given}
 use Rattle.lists.specs.CheckedLaws.{Meets, on, off, meets-any, meets-self, meets-of, meets-bind, meets-require, meets-given}

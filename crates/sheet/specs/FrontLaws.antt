@@ -6,13 +6,14 @@ use mathlib.Core.Path.{_≡_, refl, sym, ap, _∙_, subst}
 use mathlib.Core.Option.{Option, none, some}
 use mathlib.Core.List.{List, [], _∷_, _++_, append-assoc}
 use lib.ListN.{length, length-append}
+use Rattle.lists.specs.Trusted.Lists.{from}
 use Rattle.lists.specs.Cases.{by-leb}
 use Rattle.lists.specs.Trusted.Checked.{Checked, passed, refused, _>>=_, given}
 use Rattle.lists.specs.CheckedLaws.{Meets, on, off, meets-map}
 use Rattle.decimal.specs.Trusted.Number.{Number, columns}
 use Rattle.sheet.specs.Trusted.Limits.{mostFields, mostGates}
 use Rattle.sheet.specs.Trusted.Line.{after, line, fields}
-use Rattle.sheet.specs.Trusted.Sheet.{DrawnGate, DrawnSheet, from}
+use Rattle.sheet.specs.Trusted.Sheet.{DrawnGate, DrawnSheet}
 use Rattle.sheet.specs.Trusted.Read.{Head, Seen, nothing, headOf, readGate, readLeft, readUnread, readSheet}
 use Rattle.sheet.specs.ReadLaws.{head-meets}
 use Rattle.sheet.specs.Trusted.Cut.{sheetText, readNext}

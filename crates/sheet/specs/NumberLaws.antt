@@ -6,13 +6,12 @@ use mathlib.Core.Logic.{_≢_}
 use mathlib.Core.Bool.{Bool, true, false, not, _||_}
 use mathlib.Core.List.{List, [], _∷_, _++_, List·Memᴰ·not-nil}
 use lib.Dec.{T, eqb}
-use Rattle.lists.specs.Trusted.Lists.{_∈_, first, later, Every, Distinct, Inserted, here, there, Permuted, empty, more}
+use Rattle.lists.specs.Trusted.Lists.{_∈_, first, later, Every, Distinct, Inserted, here, there, Permuted, empty, more, from}
 use Rattle.lists.specs.ListLaws.{not-first, every-none, every-cons, every-head, every-tail, every-append, inserted-to, inserted-from, permuted-to}
 use Rattle.lists.specs.Cases.{by-eqb, and-split}
 use Rattle.lists.specs.Trusted.Tests.{within, elem}
 use Rattle.lists.specs.TestLaws.{reflects-within}
 use Rattle.decimal.specs.Trusted.Number.{Number}
-use Rattle.sheet.specs.Trusted.Sheet.{from}
 use Rattle.sheet.specs.Trusted.Read.{counts}
 
 -- ---- tests

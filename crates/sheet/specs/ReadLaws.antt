@@ -7,7 +7,7 @@ use mathlib.Core.Option.{Option, none, some}
 use mathlib.Core.List.{List, [], _∷_, _++_, append-assoc, append-nil}
 use lib.Dec.{ltb, ltb→lt, eqb→eq}
 use lib.ListN.{length, length-append}
-use Rattle.lists.specs.Trusted.Lists.{_∈_, Every, Distinct, Permuted}
+use Rattle.lists.specs.Trusted.Lists.{_∈_, Every, Distinct, Permuted, from}
 use Rattle.lists.specs.ListLaws.{every-none, every-cons, every-head, every-append, permuted-sym}
 use Rattle.lists.specs.Cases.{and-split}
 use Rattle.lists.specs.Trusted.Tests.{within}
@@ -21,7 +21,7 @@ use Rattle.sheet.specs.Trusted.Line.{fields}
 use Rattle.sheet.specs.declared.Source.{Source}
 use Rattle.sheet.specs.declared.Source.the-variants.{Net as net, Gate as gate}
 use Rattle.sheet.specs.declared.Edge.{Edge as Fanin}
-use Rattle.sheet.specs.Trusted.Sheet.{DrawnGate, DrawnSheet, netOf, gateOf, codeOf, faninNets, faninGates, leafNets, gatesRead, from}
+use Rattle.sheet.specs.Trusted.Sheet.{DrawnGate, DrawnSheet, netOf, gateOf, codeOf, faninNets, faninGates, leafNets, gatesRead}
 use Rattle.sheet.specs.Trusted.Read.{Seen, nothing, headOf, sourceOf, readSource, readFanin, readFanins, gateHeadOf, readGate, readLeft, readUnread, readSheet}
 use Rattle.sheet.specs.Trusted.Formed.{Net, LeafNet, FaninCount, Before, Earlier, WellFormed}
 use Rattle.sheet.specs.NumberLaws.{by-test, counts-holds, not-eqb, not-elem, distinct-end, distinct-permuted, same-numbers, from-once, in-from}

@@ -6,6 +6,7 @@ use mathlib.Core.Logic.{_≢_}
 use mathlib.Core.Bool.{Bool, true, false}
 use mathlib.Core.Option.{Option, none, some}
 use mathlib.Core.List.{List, [], _∷_}
+use Rattle.lists.specs.Trusted.Lists.{from}
 use Rattle.lists.specs.Trusted.Checked.{Checked, passed, refused, _>>=_, require, given}
 use Rattle.lists.specs.CheckedLaws.{Meets, on, off, meets-any}
 use Rattle.decimal.specs.Trusted.Number.{Number}
@@ -13,7 +14,7 @@ use Rattle.sheet.specs.Trusted.Limits.{mostGates}
 use Rattle.sheet.specs.Trusted.Line.{fields}
 use Rattle.sheet.specs.declared.Source.{Source}
 use Rattle.sheet.specs.declared.Source.the-variants.{Net as net, Gate as gate}
-use Rattle.sheet.specs.Trusted.Sheet.{DrawnSheet, from}
+use Rattle.sheet.specs.Trusted.Sheet.{DrawnSheet}
 use Rattle.sheet.specs.Trusted.Read.{Seen, nothing, headOf, readSource, readFanin, readFanins, gateHeadOf, readGate, readLeft, readUnread, readSheet}
 use Rattle.sheet.specs.ReadLaws.{head-meets}
 

@@ -5,7 +5,7 @@ use mathlib.Core.Path.{_≡_, refl, ap}
 use mathlib.Core.Option.{Option, none, some}
 use mathlib.Core.List.{List, [], _∷_}
 use lib.ListN.{length, take, drop, length-append, length-drop}
-use Rattle.lists.specs.Trusted.Lists.{Every, sum}
+use Rattle.lists.specs.Trusted.Lists.{Every, sum, from}
 use Rattle.lists.specs.ListLaws.{every-head, every-tail, permuted-length}
 use Rattle.tree.specs.Leaves.{leaves}
 use Rattle.lists.specs.Trusted.Checked.{passed}
@@ -16,7 +16,7 @@ use Rattle.sheet.specs.declared.Source.{Source}
 use Rattle.sheet.specs.declared.Source.the-variants.{Net as net, Gate as gate}
 use Rattle.sheet.specs.declared.Edge.{Edge as Fanin}
 use Rattle.sheet.specs.Trusted.Line.{with, cells, fields}
-use Rattle.sheet.specs.Trusted.Sheet.{DrawnGate, DrawnSheet, netOf, gateOf, faninNets, faninGates, leafNets, gatesRead, from}
+use Rattle.sheet.specs.Trusted.Sheet.{DrawnGate, DrawnSheet, netOf, gateOf, faninNets, faninGates, leafNets, gatesRead}
 use Rattle.sheet.specs.Trusted.Read.{two, Seen, nothing, headOf, readFanin, readFanins, gateHeadOf, readGate, readLeft, readUnread, readSheet}
 use Rattle.sheet.specs.Trusted.Formed.{FaninCount}
 use Rattle.sheet.specs.ReadLaws.{read-formed}

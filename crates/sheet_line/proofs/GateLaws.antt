@@ -69,9 +69,9 @@ module _ (g : ℕ) (text : List ℕ) where
     unfolding _>>=_ given
     line-there = rw e
 
-    pub line-refused : {number place : ℕ} → gateHeadOf g (fields bytes) ≡ refused number place → gateLine g text ≡ refused number place
+    pub gate-line-refused : {number place : ℕ} → gateHeadOf g (fields bytes) ≡ refused number place → gateLine g text ≡ refused number place
     unfolding _>>=_
-    line-refused h = line-there ∙ ap (λ m. m >>= λ q. passed (q .0, q .1, rest)) h
+    gate-line-refused h = line-there ∙ ap (λ m. m >>= λ q. passed (q .0, q .1, rest)) h
 
     pub line-passed : {kind : Kind} {xs : List Number} → gateHeadOf g (fields bytes) ≡ passed (kind, xs) → gateLine g text ≡ passed (kind, xs, rest)
     unfolding _>>=_

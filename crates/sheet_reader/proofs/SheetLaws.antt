@@ -9,6 +9,7 @@ use lib.Dec.{ltb}
 use lib.ListN.{length, drop, drop-of-length-le}
 use lib.Seq.{drop-cons}
 use borrow.Author.Tests.{ltb-true, ltb-false}
+use Rattle.lists.specs.Trusted.Lists.{from}
 use Rattle.lists.specs.Trusted.Checked.{Checked, passed, refused, _>>=_, require, given}
 use Rattle.sheet.specs.declared.Refusal.{Refusal}
 use Rattle.sheet.specs.declared.ReadAnswer.{ReadAnswer}
@@ -16,7 +17,7 @@ use Rattle.sheet.specs.declared.ReadAnswer.the-variants.{Accepted, Refused}
 use Rattle.sheet_reader.specs.declared.Lines.{Lines}
 use Rattle.sheet.specs.declared.Next.{Next}
 use Rattle.sheet.specs.Trusted.Line.{line, fields}
-use Rattle.sheet.specs.Trusted.Sheet.{DrawnGate, DrawnSheet, from}
+use Rattle.sheet.specs.Trusted.Sheet.{DrawnGate, DrawnSheet}
 use Rattle.sheet.specs.Trusted.Read.{isEmpty, Head, Seen, nothing, readLeft, readUnread, headOf, readSheet}
 use Rattle.sheet.specs.Trusted.Cut.{readNext}
 use Rattle.sheet.specs.Trusted.Answers.{numberOf, answered, noSheet}

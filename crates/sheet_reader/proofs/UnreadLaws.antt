@@ -6,11 +6,11 @@ use mathlib.Core.Path.{_≡_, refl, sym, ap, _∙_}
 use mathlib.Core.Bool.{Bool, true, false}
 use mathlib.Core.List.{List, _∷_}
 use lib.ListN.{getD}
+use Rattle.lists.specs.Trusted.Lists.{from}
 use Rattle.lists.specs.Trusted.Tests.{elem}
 use Rattle.tree.specs.Trusted.Limits.{codeBase}
 use Rattle.sheet.specs.Trusted.Limits.{mostGates}
 use Rattle.lists.specs.Trusted.Checked.{passed, refused, _>>=_, require}
-use Rattle.sheet.specs.Trusted.Sheet.{from}
 use Rattle.sheet.specs.Trusted.Read.{readUnread}
 use Rattle.sheet_line.specs.Inside.{Flagged}
 

@@ -5,6 +5,7 @@ use mathlib.Core.Bool.{Bool, not, _&&_, _||_}
 use mathlib.Core.List.{List}
 use lib.Dec.{ltb}
 use lib.ListN.{length, drop}
+use Rattle.lists.specs.Trusted.Lists.{from}
 use Rattle.tree.specs.Trusted.Limits.{codeBase}
 use Rattle.lists.specs.Trusted.Checked.{Checked, passed, refused, _>>=_, require, given}
 use Rattle.sheet.specs.declared.ReadAnswer.{ReadAnswer}
@@ -14,7 +15,7 @@ use Rattle.sheet_reader.specs.declared.Unread.{Unread}
 use Rattle.sheet.specs.declared.Next.{Next}
 use Rattle.sheet_reader.specs.declared.Unread.the-variants.{First, Nowhere}
 use Rattle.sheet_line.specs.Inside.{Flagged}
-use Rattle.sheet.specs.Trusted.Sheet.{DrawnGate, DrawnSheet, from}
+use Rattle.sheet.specs.Trusted.Sheet.{DrawnGate, DrawnSheet}
 use Rattle.sheet.specs.Trusted.Limits.{mostGates}
 use Rattle.sheet.specs.Trusted.Line.{line, fields}
 use Rattle.sheet.specs.Trusted.Read.{isEmpty, Head as LineOne, Seen, nothing, readLeft, readUnread, headOf}

@@ -2,9 +2,10 @@
 use Prim.Native.Nat.{ℕ, zero, suc, _-_}
 use mathlib.Core.Option.{Option, none, some}
 use mathlib.Core.List.{List, [], _∷_, _++_}
+use Rattle.lists.specs.Trusted.Lists.{from}
 use Rattle.lists.specs.Trusted.Checked.{Checked, passed, refused, _>>=_, given}
 use Rattle.sheet.specs.Trusted.Line.{line, fields}
-use Rattle.sheet.specs.Trusted.Sheet.{DrawnSheet, from}
+use Rattle.sheet.specs.Trusted.Sheet.{DrawnSheet}
 use Rattle.sheet.specs.Trusted.Read.{Head, headOf, nothing, readLeft, readUnread}
 
 -- the first n lines of a text and what follows them; all of it where there are fewer

@@ -3,10 +3,10 @@ use Prim.Native.Nat.{ℕ, suc, _-_, _≤_, _<_}
 use mathlib.Core.Logic.{_≢_}
 use mathlib.Core.List.{List, [], _∷_}
 use lib.ListN.{length}
-use Rattle.lists.specs.Trusted.Lists.{Every, Distinct, Permuted}
+use Rattle.lists.specs.Trusted.Lists.{Every, Distinct, Permuted, from}
 use Rattle.tree.specs.Trusted.Limits.{greatestNet, fewestFanins, mostFanins}
 use Rattle.sheet.specs.Trusted.Limits.{mostGates, mostLeaves}
-use Rattle.sheet.specs.Trusted.Sheet.{DrawnGate, DrawnSheet, faninGates, leafNets, gatesRead, from}
+use Rattle.sheet.specs.Trusted.Sheet.{DrawnGate, DrawnSheet, faninGates, leafNets, gatesRead}
 
 abbrev pub Net : ℕ → Type 0
 Net n = (1 ≤ n) × (n ≤ greatestNet)

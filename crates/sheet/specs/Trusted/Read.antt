@@ -6,6 +6,7 @@ use mathlib.Core.Option.{Option, none, some}
 use mathlib.Core.List.{List, [], _∷_, _++_}
 use lib.Dec.{ltb, eqb}
 use lib.ListN.{length}
+use Rattle.lists.specs.Trusted.Lists.{from}
 use Rattle.lists.specs.Trusted.Tests.{within, elem}
 use Rattle.lists.specs.Trusted.Checked.{Checked, passed, _>>=_, require, given}
 use Rattle.tree.specs.declared.Kind.{Kind}
@@ -17,7 +18,7 @@ use Rattle.sheet.specs.Trusted.Line.{line, fields}
 use Rattle.sheet.specs.declared.Source.{Source}
 use Rattle.sheet.specs.declared.Source.the-variants.{Net as net, Gate as gate}
 use Rattle.sheet.specs.declared.Edge.{Edge as Fanin}
-use Rattle.sheet.specs.Trusted.Sheet.{DrawnGate, DrawnSheet, from}
+use Rattle.sheet.specs.Trusted.Sheet.{DrawnGate, DrawnSheet}
 
 -- ---- tests
 

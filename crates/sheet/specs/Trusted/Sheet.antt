@@ -1,5 +1,5 @@
 -- A sheet as it is drawn: its gates in order, numbered from 1, the last of which is the root. Definitions only.
-use Prim.Native.Nat.{ℕ, zero, suc, _+_}
+use Prim.Native.Nat.{ℕ, _+_}
 use mathlib.Core.Bool.{Bool}
 use mathlib.Core.List.{List, [], _∷_}
 use Rattle.lists.specs.Trusted.Lists.{gather}
@@ -47,8 +47,3 @@ leafNets = gather (λ g. faninNets (g .fanins))
 
 abbrev pub gatesRead : List DrawnGate → List ℕ
 gatesRead = gather (λ g. faninGates (g .fanins))
-
--- so many numbers, from g on
-abbrev pub from : (g count : ℕ) → List ℕ
-from g zero = []
-from g (suc n) = g ∷ from (suc g) n

@@ -12,7 +12,7 @@ use Rattle.sheet.specs.Trusted.Answers.{numberOf}
 use Rattle.sheet.specs.Trusted.Line.{line, fields}
 use Rattle.sheet.specs.Trusted.Read.{gateHeadOf}
 use Rattle.sheet_line.specs.Inside.{cutAt, gateHeadStep, gateLine, faninNumbers, faultStep, LineRefused, GateLineRead}
-use Rattle.sheet_line.proofs.GateLaws.{fanins-are, line-missing, line-refused, line-passed}
+use Rattle.sheet_line.proofs.GateLaws.{fanins-are, line-missing, gate-line-refused, line-passed}
 use borrow.Author.Needs.{needs}
 use Rattle.sheet_line.proofs.read_gate_line.Statement.{statement}
 use Rattle.sheet_line.proofs.read_gate_line.Tie as tie
@@ -91,7 +91,7 @@ returns-2 c =
     let e = h .before .before .before .before .before in
     let a = e .before .before .before .before .args in
     gate-refused (a .text .now) (a .start) (c .bad-line2 .result) (c .bad-line2 .ensures)
-    (λ g. line-refused g (drop (a .start) (a .text .now)) (line-is e)
+    (λ g. gate-line-refused g (drop (a .start) (a .text .now)) (line-is e)
     (head-is h g ∙ ap (gateHeadStep g (h .before .before .read-fields .result)) (c .before .before .why .given .1)))
 
 returns-3 : tie.Need-returns-3
