@@ -26,7 +26,3 @@ each-shaped (r ∷ rs) (u ∷ us) h =
 
 pub shaped : (p : Part) (us : List Val) → length (map (the-field .into) (p .tables)) ≡ tableRoom → Owned (p .tables) us → Shaped p
 shaped p us l h = record { records = sym (length-map (p .tables) (the-field .into)) ∙ l; inputs = each-shaped (p .tables) us h }
-
--- what a function that reads a record of a part takes to stand past the last one
-abbrev pub past : Table
-past = record { net = 0; count = 0; inputs = []; truth = 0 }

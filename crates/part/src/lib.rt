@@ -2,27 +2,18 @@
 mod add;
 
 ghost use mathlib.Core.Path.{_≡_};
-ghost use mathlib.Core.List.{[]};
-ghost use Prim.Native.Nat.{_≤_};
-ghost use lib.ListN.{drop};
-ghost use Rattle.lists.specs.Trusted.Tests.{all};
-ghost use Rattle.table.specs.Trusted.Limits.{tableRoom};
-ghost use Rattle.table.specs.Trusted.RecordTest.{isBlank, isNone, walk};
 ghost use Rattle.part.specs.Trusted.Answers.{empty as emptyPart};
 ghost use Rattle.part.specs.Trusted.Add.{opened};
 ghost use Rattle.part.specs.Trusted.OpenAnswers.{openingAnswer};
-ghost use Rattle.part.specs.Trusted.Parts.{inUse};
 ghost use Rattle.part.specs.Trusted.SoundTest.{sound as isSound};
-use record_rules::is_blank;
+use lists::within;
+use part_records::rest_blank;
+use part_records::rules_kept;
 use sheet::Refusal;
 use table::INPUT_ROOM;
 use table::TABLE_ROOM;
 use table::Table;
 use table::blank;
-use table::within;
-use table_prefix::after;
-use table_prefix::empty_prefix;
-use table_rules::keeps;
 
 // A part of the row module: the most inputs of a table, how many tables it can hold, how many it holds, and the tables.
 pub struct Part {
@@ -73,42 +64,6 @@ fn empty(k: u8, capacity: u16) -> Part
     }
 }
 
-// The records in use keep the rules.
-fn rules_kept(p: Part) -> bool
-    requires { ⌜ (p .used ≤ p .capacity) × (p .used ≤ tableRoom) ⌝ }
-    ensures { λ r. ⌜ r ≡ isNone (walk (p .k) (p .capacity) [] (inUse p)) ⌝ }
-{
-    let k = p.k;
-    let used = p.used as usize;
-    let mut prefix = empty_prefix();
-    let mut i = 0;
-    while i < used {
-        let r = p.tables[i];
-        if !keeps(prefix, k, r) {
-            return false;
-        }
-        prefix = after(prefix, r);
-        i += 1;
-    }
-    true
-}
-
-// The records past those in use are zero.
-fn rest_blank(p: Part) -> bool
-    requires { ⌜ p .used ≤ tableRoom ⌝ }
-    ensures { λ r. ⌜ r ≡ all isBlank (drop (p .used) (p .tables)) ⌝ }
-{
-    let mut i = p.used as usize;
-    while i < 800 {
-        let r = p.tables[i];
-        if !is_blank(r) {
-            return false;
-        }
-        i += 1;
-    }
-    true
-}
-
 impl Part {
     // A part of no tables. K is tested before the capacity.
     pub fn open(k: u32, capacity: u32) -> Opened
@@ -147,8 +102,9 @@ impl Part {
         if self.used > self.capacity {
             return false;
         }
-        if rules_kept(self) {
-            rest_blank(self)
+        let tables = self.tables;
+        if rules_kept(self.k, self.capacity, self.used, tables) {
+            rest_blank(self.used, tables)
         } else {
             false
         }

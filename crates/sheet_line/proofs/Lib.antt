@@ -2,4 +2,3 @@ pub mod LineLaws
 pub mod HeadLaws
 pub mod GateLaws
 pub mod FieldLaws
-pub mod FaninLaws

@@ -1,17 +1,15 @@
 -- What the functions inside answer. Internal definitions.
 use Prim.Native.Nat.{ℕ, suc, _+_, _-_, _≤_, _<_}
 use mathlib.Core.Path.{_≡_}
-use mathlib.Core.Bool.{Bool, false, not, cond}
+use mathlib.Core.Bool.{not, cond}
 use mathlib.Core.Option.{Option, none, some}
-use mathlib.Core.List.{List, [], _∷_, _++_, map}
+use mathlib.Core.List.{List, map}
 use lib.Dec.{eqb}
-use lib.ListN.{length, getD, take, drop}
-use Rattle.lists.specs.Trusted.Tests.{elem}
+use lib.ListN.{length, take, drop}
 use Rattle.lists.specs.Trusted.Checked.{Checked, passed, refused, _>>=_, given}
 use Rattle.tree.specs.declared.Kind.{Kind}
-use Rattle.tree.specs.Trusted.Limits.{mostFanins, codeBase}
+use Rattle.tree.specs.Trusted.Limits.{mostFanins}
 use Rattle.decimal.specs.Trusted.Number.{Number}
-use Rattle.sheet.specs.declared.Source.{Source}
 use Rattle.sheet_line.specs.declared.Ending.{Ending}
 use Rattle.sheet_line.specs.declared.Ending.the-variants.{At, Missing}
 use Rattle.sheet_line.specs.declared.FieldValue.{FieldValue}
@@ -22,17 +20,13 @@ use Rattle.sheet_line.specs.declared.KindRead.{KindRead}
 use Rattle.sheet_line.specs.declared.KindRead.the-variants.{Is, Neither}
 use Rattle.sheet_line.specs.declared.GateHead.{GateHead}
 use Rattle.sheet_line.specs.declared.GateHead.the-variants.{Good as GoodGate, Bad as BadGate}
-use Rattle.sheet.specs.declared.Source.the-variants.{Net as net, Gate as gate}
-use Rattle.sheet_line.specs.declared.Fanin.{Fanin}
-use Rattle.sheet_line.specs.declared.Fanin.the-variants.{Reads, Bad as BadFanin}
 use Rattle.sheet.specs.declared.Refusal.{Refusal}
 use Rattle.sheet_line.specs.declared.Fault.{Fault}
 use Rattle.sheet_line.specs.declared.Fault.the-variants.{Nothing, Is as IsFault}
 use Rattle.sheet_line.specs.declared.GateLine.{GateLine}
-use Rattle.sheet.specs.Trusted.Sheet.{netOf}
-use Rattle.sheet.specs.Trusted.Limits.{mostFields, mostGates, mostLeaves}
+use Rattle.sheet.specs.Trusted.Limits.{mostFields}
 use Rattle.sheet.specs.Trusted.Line.{line, fields}
-use Rattle.sheet.specs.Trusted.Read.{Head as LineOne, gateHeadOf, Seen, sourceOf, readFanin}
+use Rattle.sheet.specs.Trusted.Read.{Head as LineOne, gateHeadOf}
 use Rattle.sheet.specs.Trusted.Answers.{numberOf}
 
 -- ---- where a line ends
@@ -115,40 +109,3 @@ pub record GateLineRead (text : List ℕ) (start : ℕ) (l : GateLine) : Type 0 
   pub whole : length (l .numbers) ≡ mostFields
   pub within : l .count ≤ mostFanins
   pub ends : l .end ≤ length text
-
--- ---- fanins
-
--- the flags from `base` on say which numbers below `size` are in the list
-abbrev pub Flagged : (base size : ℕ) → List Bool → List ℕ → Type 0
-Flagged base size flags xs = (n : ℕ) → n < size → getD flags (base + n) false ≡ elem n xs
-
--- how many numbers have a flag: all that a fanin may be written as, and those below
-abbrev pub flagCount : ℕ
-flagCount = codeBase + mostGates + 1
-
--- the flags and the number of leaves stand for what was read so far: a net has its flag at its number, gate g at the base and g
-pub record Marked (flags : List Bool) (leaves : ℕ) (seen : Seen) : Type 0 where
-  pub whole : length flags ≡ flagCount
-  pub nets : Flagged 0 codeBase flags (seen .nets)
-  pub gates : Flagged codeBase (mostGates + 1) flags (seen .gates)
-  pub count : length (seen .nets) ≡ leaves
-
--- one net or gate more
-abbrev pub saw : Seen → Source → Seen
-saw seen (net n) = record { nets = seen .nets ++ (n ∷ []); gates = seen .gates }
-saw seen (gate g) = record { nets = seen .nets; gates = seen .gates ++ (g ∷ []) }
-
-abbrev pub sourceStep : Fanin → Option Source
-sourceStep (Reads source) = some source
-sourceStep (BadFanin why) = none
-
-abbrev pub faninStep : ℕ → Seen → Fanin → Checked (Source × Seen)
-faninStep g seen (Reads source) = passed (source, saw seen source)
-faninStep g seen (BadFanin why) = refused (numberOf why) (suc g)
-
--- a fanin of gate g that is written as n
-pub record FaninRead (flags : List Bool) (leaves out g n : ℕ) (r : Fanin) : Type 0 where
-  pub source : (s : Source) → r ≡ Reads s → sourceOf g n ≡ some s
-  pub few : (s : Source) → r ≡ Reads s → leaves ≤ mostLeaves → leaves + length (netOf s) ≤ mostLeaves
-  pub step : (seen : Seen) → Marked flags leaves seen → readFanin out g seen n ≡ faninStep g seen r
-  pub first : (s : Source) → r ≡ Reads s → getD flags n false ≡ false

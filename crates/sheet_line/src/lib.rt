@@ -1,25 +1,15 @@
-// One line of a sheet: where it ends, its fields, what line 1 and a gate's line say, and what a fanin reads.
+// One line of a sheet: where it ends, its fields, and what line 1 and a gate's line say.
 ghost use mathlib.Core.Path.{_≡_};
 ghost use mathlib.Core.Bool.{false, not};
 ghost use lib.Dec.{eqb};
-ghost use Prim.Native.Nat.{_+_, _≤_};
-ghost use lib.ListN.{length};
-ghost use Rattle.lists.specs.Trusted.Tests.{within};
-ghost use Rattle.sheet.specs.Trusted.Read.{counts, headOf, kindOf, sourceOf};
-ghost use Rattle.sheet.specs.Trusted.Limits.{mostGates, mostLeaves};
-ghost use Rattle.sheet.specs.Trusted.Sheet.{netOf};
-ghost use Rattle.sheet_line.specs.Inside.{LineEnds, valueOf, numbersOf, FieldsRoom, FieldsRead, headStep, kindStep, GateHeadRead, LineRefused, GateLineRead, sourceStep, FaninRead};
-use sheet::Gate;
+ghost use Rattle.sheet.specs.Trusted.Read.{counts, headOf, kindOf};
+ghost use Rattle.sheet_line.specs.Inside.{LineEnds, valueOf, numbersOf, FieldsRoom, FieldsRead, headStep, kindStep, GateHeadRead, LineRefused, GateLineRead};
+use lists::within;
 use sheet::MOST_GATES;
-use sheet::MOST_LEAVES;
 use sheet::Refusal;
-use sheet::Source;
 use tree::FEWEST_FANINS;
 use tree::Kind;
 use tree::MOST_FANINS;
-
-// How many numbers have a flag: all that a fanin may be written as, and those below.
-pub const CODES: usize = tree::CODE_BASE as usize + MOST_GATES + 1;
 
 // The most fields of a line.
 const MOST_FIELDS: usize = 12;
@@ -118,15 +108,6 @@ pub fn read_fields(line: &[u8]) -> Fields
         count,
         numbers,
     }
-}
-
-fn within(low: u32, high: u32, n: u32) -> bool
-    ensures { λ r. ⌜ r ≡ within low high n ⌝ }
-{
-    if n < low {
-        return false;
-    }
-    n <= high
 }
 
 // A count has no sign.
@@ -270,70 +251,5 @@ pub fn read_gate_line(text: &[u8], start: usize) -> GateLine
             end: end + 1,
             numbers,
         },
-    }
-}
-
-// A fanin: what it reads, or why it is refused.
-pub enum Fanin {
-    Reads(Source),
-    Bad(Refusal),
-}
-
-// What a fanin of a gate is written as: a net, or an earlier gate.
-fn source_of(gate: u16, code: u32) -> Fanin
-    requires { ⌜ gate ≤ mostGates ⌝ }
-    ensures { λ r. ⌜ sourceOf gate code ≡ sourceStep r ⌝ }
-{
-    if within(1, tree::GREATEST_NET as u32, code) {
-        return Fanin::Reads(Source::Net(code as u16));
-    }
-    let base = tree::CODE_BASE as u32;
-    if code <= base {
-        return Fanin::Bad(Refusal::NoSource);
-    }
-    if base + gate as u32 <= code {
-        return Fanin::Bad(Refusal::NoSource);
-    }
-    Fanin::Reads(Source::Gate((code - base) as u16))
-}
-
-// A fanin of a gate, where `seen` has a flag at each number that was a fanin before.
-pub fn read_fanin(seen: &[bool; CODES], leaves: u16, out: u16, gate: u16, code: u32) -> Fanin
-    requires { ⌜ gate ≤ mostGates ⌝ }
-    ensures { λ r. ⌜ FaninRead (now (seen .entry)) leaves out gate code r ⌝ }
-{
-    let Fanin::Reads(source) = source_of(gate, code) else {
-        return Fanin::Bad(Refusal::NoSource);
-    };
-    let twice = seen[code as usize];
-    match source {
-        Source::Gate(_) => {
-            if twice {
-                return Fanin::Bad(Refusal::GateTwice);
-            }
-        }
-        Source::Net(n) => {
-            if twice {
-                return Fanin::Bad(Refusal::NetTwice);
-            }
-            if n == out {
-                return Fanin::Bad(Refusal::OutputLeaf);
-            }
-            if MOST_LEAVES <= leaves {
-                return Fanin::Bad(Refusal::LeafCount);
-            }
-        }
-    }
-    Fanin::Reads(source)
-}
-
-// The number of leaves with what one more fanin reads.
-pub fn with_leaf(leaves: u16, source: Source) -> u16
-    requires { ⌜ leaves ≤ mostLeaves ⌝ }
-    ensures { λ r. ⌜ r ≡ leaves + length (netOf source) ⌝ }
-{
-    match source {
-        Source::Net(_) => leaves + 1,
-        Source::Gate(_) => leaves,
     }
 }

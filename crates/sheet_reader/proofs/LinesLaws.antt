@@ -21,8 +21,8 @@ use Rattle.sheet.specs.declared.ReadAnswer.{ReadAnswer}
 use Rattle.sheet.specs.declared.ReadAnswer.the-variants.{Accepted}
 use Rattle.sheet.specs.declared.Refusal.{Refusal}
 use Rattle.sheet_line.specs.declared.Fault.the-variants.{Nothing, Is}
-use Rattle.sheet_line.specs.declared.Fanin.{Fanin}
-use Rattle.sheet_line.specs.declared.Fanin.the-variants.{Reads, Bad}
+use Rattle.sheet_fanin.specs.declared.Fanin.{Fanin}
+use Rattle.sheet_fanin.specs.declared.Fanin.the-variants.{Reads, Bad}
 use Rattle.sheet_line.specs.declared.FieldValue.{FieldValue}
 use Rattle.sheet_line.specs.declared.GateLine.{GateLine}
 use Rattle.sheet.specs.Trusted.Limits.{mostFields, mostGates, mostLeaves, faninRoom}
@@ -30,9 +30,10 @@ use Rattle.sheet.specs.Trusted.Line.{line, fields}
 use Rattle.sheet.specs.Trusted.Sheet.{DrawnGate, netOf}
 use Rattle.sheet.specs.Trusted.Read.{Seen, nothing, readFanin, readFanins, gateHeadOf, readLeft}
 use Rattle.sheet.specs.Trusted.Answers.{numberOf, drawnGate, drawnGates}
-use Rattle.sheet_line.specs.Inside.{valueOf, gateLine, faninNumbers, faultStep, GateLineRead, flagCount, Marked, saw, faninStep, FaninRead}
+use Rattle.sheet_line.specs.Inside.{valueOf, gateLine, faninNumbers, faultStep, GateLineRead}
+use Rattle.sheet_fanin.specs.Fanins.{flagCount, Marked, saw, faninStep, FaninRead}
 use Rattle.sheet_line.proofs.HeadLaws.{zeroValue}
-use Rattle.sheet_line.proofs.FaninLaws.{marked-start, marked-more}
+use Rattle.sheet_fanin.proofs.FaninLaws.{marked-start, marked-more}
 use Rattle.sheet_reader.proofs.StoreLaws.{readCount, read-most, read-more, Below, drawn-same, taken-more, drawn-more, below-more}
 
 abbrev Gates : Type 0

@@ -20,7 +20,7 @@ use Rattle.sheet.specs.Trusted.Sheet.{netOf}
 use Rattle.sheet.specs.Trusted.Read.{sourceOf}
 use Rattle.sheet.specs.ReadLaws.{source-named}
 use Rattle.sheet.specs.Trusted.Answers.{drawnGate, drawnGates}
-use Rattle.sheet_line.specs.Inside.{flagCount}
+use Rattle.sheet_fanin.specs.Fanins.{flagCount}
 
 -- ---- flags
 

@@ -12,7 +12,7 @@ use Rattle.tree.specs.Trusted.Limits.{codeBase}
 use Rattle.sheet.specs.Trusted.Limits.{mostGates}
 use Rattle.lists.specs.Trusted.Checked.{passed, refused, _>>=_, require}
 use Rattle.sheet.specs.Trusted.Read.{readUnread}
-use Rattle.sheet_line.specs.Inside.{Flagged}
+use Rattle.sheet_fanin.specs.Fanins.{Flagged}
 
 -- what is left to look at is the gates from g on
 pub record Passed (flags : List Bool) (count g : ℕ) : Type 0 where

@@ -14,7 +14,7 @@ use Rattle.sheet_reader.specs.declared.Lines.{Lines}
 use Rattle.sheet_reader.specs.declared.Unread.{Unread}
 use Rattle.sheet.specs.declared.Next.{Next}
 use Rattle.sheet_reader.specs.declared.Unread.the-variants.{First, Nowhere}
-use Rattle.sheet_line.specs.Inside.{Flagged}
+use Rattle.sheet_fanin.specs.Fanins.{Flagged}
 use Rattle.sheet.specs.Trusted.Sheet.{DrawnGate, DrawnSheet}
 use Rattle.sheet.specs.Trusted.Limits.{mostGates}
 use Rattle.sheet.specs.Trusted.Line.{line, fields}

@@ -16,18 +16,18 @@ use sheet::ReadResult;
 use sheet::Refusal;
 use sheet::Sheet;
 use sheet::Source;
-use sheet_line::CODES;
+use sheet_fanin::CODES;
+use sheet_fanin::Fanin;
+use sheet_fanin::read_fanin;
+use sheet_fanin::with_leaf;
 use sheet_line::Ending;
-use sheet_line::Fanin;
 use sheet_line::Fault;
 use sheet_line::GateLine;
 use sheet_line::LineHead;
 use sheet_line::line_end;
-use sheet_line::read_fanin;
 use sheet_line::read_fields;
 use sheet_line::read_gate_line;
 use sheet_line::read_head;
-use sheet_line::with_leaf;
 use tree::Kind;
 
 // The lines of gates that were read: where they are accepted the gates, their fanins, the place after them, and a flag at each number

@@ -3,7 +3,7 @@
 use Prim.Native.Nat.{ℕ, min}
 use native.Mathlib.Omega.{arith}
 use mathlib.Core.Path.{_≡_, sym, ap, _∙_}
-use mathlib.Core.List.{List, map}
+use mathlib.Core.List.{List, [], map}
 use lib.ListN.{length, take, drop, length-take, length-map, drop-of-length-le}
 use lib.Seq.{take-all}
 use Rattle.lists.specs.Cases.{by-leb}
@@ -31,3 +31,7 @@ module _ (xs : List ℕ) (n : ℕ) (l : length xs ≡ inputRoom) where
       (λ h. let e : min n 6 ≡ n = omega arith in rw e)
       (λ h. let e : min n 6 ≡ 6 = omega arith in
       rw e (drop-of-length-le xs {i = 6} (omega (arith, l)) ∙ sym (drop-of-length-le xs {i = n} (omega (arith, l)))))
+
+-- what a function that reads a record of an array takes to stand past the last one
+abbrev pub past : Table
+past = record { net = 0; count = 0; inputs = []; truth = 0 }

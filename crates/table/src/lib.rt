@@ -1,7 +1,6 @@
 // Lookup tables as records of a part.
 ghost use mathlib.Core.Path.{_≡_};
 ghost use Prim.Native.Nat.{min};
-ghost use Rattle.lists.specs.Trusted.Tests.{within as inRange};
 ghost use Rattle.table.specs.Trusted.Records.{blank as blankRecord};
 
 // The inputs that a record has room for, and the records that a part has room for.
@@ -42,11 +41,4 @@ pub fn in_use(count: u8) -> usize
     ensures { λ r. ⌜ r ≡ min count 6 ⌝ }
 {
     if count < 6 { count as usize } else { 6 }
-}
-
-// The number is neither below the least nor above the greatest.
-pub fn within(least: u32, greatest: u32, n: u32) -> bool
-    ensures { λ r. ⌜ r ≡ inRange least greatest n ⌝ }
-{
-    if least <= n { n <= greatest } else { false }
 }

@@ -5,7 +5,7 @@ ghost use lib.Dec.{ltb};
 ghost use lib.ListN.{take, drop};
 ghost use Rattle.lists.specs.Trusted.Tests.{all, elem, pairwise};
 ghost use Rattle.table.specs.Trusted.RecordTest.{allZero, isCode};
-use table::within;
+use lists::within;
 use tree::CODE_BASE;
 use tree::GREATEST_NET;
 

@@ -6,7 +6,8 @@ use denote.Ref.{now}
 use lib.ListN.{length, getD}
 use Rattle.table.specs.LoopLaws.{getD-any}
 use Rattle.table.specs.Trusted.Records.{blank}
-use Rattle.part.proofs.Shape.{shaped, past}
+use Rattle.table.proofs.Shape.{past}
+use Rattle.part.proofs.Shape.{shaped}
 use Rattle.list_line.specs.Trusted.TableLine.{tableLine}
 use Rattle.list_line.specs.Trusted.Writes.{pasted}
 use Rattle.list_line.specs.Line.{tableWidth}

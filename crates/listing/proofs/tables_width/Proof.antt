@@ -5,7 +5,8 @@ use borrow.Author.Needs.{needs}
 use lib.ListN.{length, getD}
 use Rattle.table.specs.LoopLaws.{getD-any}
 use Rattle.table.specs.Trusted.Records.{blank}
-use Rattle.part.proofs.Shape.{shaped, past}
+use Rattle.table.proofs.Shape.{past}
+use Rattle.part.proofs.Shape.{shaped}
 use Rattle.list_line.specs.Line.{tableWidth}
 use Rattle.listing.specs.Lines.{tableLines}
 use Rattle.listing.specs.LineLaws.{lines-next-length}

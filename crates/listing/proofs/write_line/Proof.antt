@@ -12,7 +12,8 @@ use mathlib.Core.Bool.{true}
 use Rattle.part.specs.Trusted.SoundTest.{sound}
 use Rattle.list_line.specs.Trusted.TableLine.{tableLine}
 use Rattle.listing.specs.Trusted.Listing.{lineOf}
-use Rattle.part.proofs.Shape.{shaped, past}
+use Rattle.table.proofs.Shape.{past}
+use Rattle.part.proofs.Shape.{shaped}
 use Rattle.list_line.specs.Trusted.Writes.{pasted}
 use Rattle.list_line.specs.Line.{tableWidth}
 use Rattle.list_line.specs.FieldLaws.{table-length}

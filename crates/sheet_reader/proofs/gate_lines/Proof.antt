@@ -10,10 +10,10 @@ use Rattle.sheet_reader.specs.declared.Lines.{Lines}
 use Rattle.sheet.specs.Trusted.Limits.{mostGates, faninRoom}
 use Rattle.sheet.specs.Trusted.Read.{nothing, readLeft}
 use Rattle.sheet.specs.Trusted.Answers.{drawnGates, noFanins}
-use Rattle.sheet_line.specs.Inside.{flagCount}
+use Rattle.sheet_fanin.specs.Fanins.{flagCount}
 use Rattle.sheet_reader.specs.Inside.{Comes, GatesHeld}
 use Rattle.sheet_line.proofs.HeadLaws.{zeroValue}
-use Rattle.sheet_line.proofs.FaninLaws.{code-below}
+use Rattle.sheet_fanin.proofs.FaninLaws.{code-below}
 use Rattle.sheet_reader.proofs.LinesLaws.{AtLine, AtFanin, at-start, line-refused, line-taken, lines-over, fanin-refused, fanin-room, fanin-taken, after-room, gate-taken}
 use Rattle.sheet_reader.proofs.gate_lines.Statement.{statement}
 use Rattle.sheet_reader.proofs.gate_lines.Tie as tie

@@ -17,7 +17,8 @@ use Rattle.part.specs.Storing.{circuitOf}
 use Rattle.part.specs.StoringLaws.{used-padded, Looked, looked-none, looked-more, looked-all, offer-driven, offer-read, offer-full, offer-stored, offer-same}
 use Rattle.part.specs.declared.Part.{Part}
 use Rattle.part.specs.declared.Adding.the-variants.{OutputDriven, OutputRead, Full}
-use Rattle.part.proofs.Shape.{shaped, past}
+use Rattle.table.proofs.Shape.{past}
+use Rattle.part.proofs.Shape.{shaped}
 use Rattle.part.proofs.Part.offer.Statement.{statement}
 use Rattle.part.proofs.Part.offer.Tie as tie
 

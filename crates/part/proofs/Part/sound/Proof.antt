@@ -43,19 +43,19 @@ returns-3 c =
 
 rules-kept-requires : tie.Need-rules-kept-requires
 rules-kept-requires c κs =
-    omega (arith, says-true (reflects-within 1 800 (c .before .before .before .before .before .before .before .before .args .self .capacity)) (sym (c .before .before .before .within2 .ensures) ∙ not-false _ (c .before .before .if2 .left)))
+    omega (arith, says-true (reflects-within 1 800 (c .before .before .before .before .before .before .before .before .before .args .self .capacity)) (sym (c .before .before .before .before .within2 .ensures) ∙ not-false _ (c .before .before .before .if2 .left)))
 
 rest-blank-requires : tie.Need-rest-blank-requires
 rest-blank-requires c κs =
-    omega (arith, says-true (reflects-within 1 800 (c .before .before .before .before .before .before .before .before .before .before .args .self .capacity)) (sym (c .before .before .before .before .before .within2 .ensures) ∙ not-false _ (c .before .before .before .before .if2 .left)))
+    omega (arith, says-true (reflects-within 1 800 (c .before .before .before .before .before .before .before .before .before .before .before .args .self .capacity)) (sym (c .before .before .before .before .before .before .within2 .ensures) ∙ not-false _ (c .before .before .before .before .before .if2 .left)))
 
 returns-4 : tie.Need-returns-4
 unfolding sound
 returns-4 c =
     rw (
-      sym (c .before .before .before .before .before .before .before .before .before .within .ensures) ∙ not-false _ (c .before .before .before .before .before .before .before .before .if1 .left),
-      sym (c .before .before .before .before .before .before .within2 .ensures) ∙ not-false _ (c .before .before .before .before .before .if2 .left),
-      le-leb _ _ (c .before .before .before .if3 .left),
+      sym (c .before .before .before .before .before .before .before .before .before .before .within .ensures) ∙ not-false _ (c .before .before .before .before .before .before .before .before .before .if1 .left),
+      sym (c .before .before .before .before .before .before .before .within2 .ensures) ∙ not-false _ (c .before .before .before .before .before .before .if2 .left),
+      le-leb _ _ (c .before .before .before .before .if3 .left),
       sym (c .before .before .rules-kept .ensures) ∙ c .before .if4 .taken,
     ) (c .rest-blank .ensures)
 
@@ -63,8 +63,8 @@ returns-5 : tie.Need-returns-5
 unfolding sound
 returns-5 c =
     rw (
-      sym (c .before .before .before .before .before .before .before .before .within .ensures) ∙ not-false _ (c .before .before .before .before .before .before .before .if1 .left),
-      sym (c .before .before .before .before .before .within2 .ensures) ∙ not-false _ (c .before .before .before .before .if2 .left),
+      sym (c .before .before .before .before .before .before .before .before .before .within .ensures) ∙ not-false _ (c .before .before .before .before .before .before .before .before .if1 .left),
+      sym (c .before .before .before .before .before .before .within2 .ensures) ∙ not-false _ (c .before .before .before .before .before .if2 .left),
       sym (c .before .rules-kept .ensures) ∙ c .if4 .left,
     )
 

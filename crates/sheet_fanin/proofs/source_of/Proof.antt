@@ -1,4 +1,4 @@
--- `sheet::source_of` meets its contract. Assumes nothing.
+-- `sheet_fanin::source_of` meets its contract. Assumes nothing.
 use native.Mathlib.Omega.{arith}
 use mathlib.Core.Path.{_≡_, sym, _∙_, subst}
 use mathlib.Core.Bool.{Bool}
@@ -8,8 +8,8 @@ use Rattle.lists.specs.Trusted.Tests.{within}
 use Rattle.lists.specs.TestLaws.{reflects-within}
 use Rattle.tree.specs.Trusted.Limits.{greatestNet}
 use borrow.Author.Needs.{needs}
-use Rattle.sheet_line.proofs.source_of.Statement.{statement}
-use Rattle.sheet_line.proofs.source_of.Tie as tie
+use Rattle.sheet_fanin.proofs.source_of.Statement.{statement}
+use Rattle.sheet_fanin.proofs.source_of.Tie as tie
 
 -- whether it is a net
 is-net : (c : tie.After-within) {b : Bool} → c .within .result ≡ b → within 1 greatestNet (c .before .args .code) ≡ b

@@ -1,6 +1,6 @@
 use borrow.Author.Tests.{le-leb, lt-leb}
-use Rattle.table.proofs.within.Statement.{statement}
-use Rattle.table.proofs.within.Tie as tie
+use Rattle.lists.proofs.within.Statement.{statement}
+use Rattle.lists.proofs.within.Tie as tie
 
 returns : tie.Need-returns
 returns c = rw (le-leb _ _ (c .if1 .taken))

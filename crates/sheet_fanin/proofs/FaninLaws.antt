@@ -21,7 +21,7 @@ use Rattle.sheet.specs.Trusted.Limits.{mostGates, mostLeaves}
 use Rattle.sheet.specs.Trusted.Sheet.{netOf}
 use Rattle.sheet.specs.Trusted.Read.{Seen, nothing, sourceOf, readFanin}
 use Rattle.sheet.specs.ReadLaws.{source-named}
-use Rattle.sheet_line.specs.Inside.{Flagged, flagCount, Marked, saw}
+use Rattle.sheet_fanin.specs.Fanins.{Flagged, flagCount, Marked, saw}
 
 -- ---- what comes of a fanin
 

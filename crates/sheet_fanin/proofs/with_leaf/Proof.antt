@@ -1,12 +1,12 @@
--- `sheet::with_leaf` meets its contract. Assumes nothing.
+-- `sheet_fanin::with_leaf` meets its contract. Assumes nothing.
 use Prim.Native.Nat.{_+_}
 use native.Mathlib.Omega.{arith}
 use mathlib.Core.Path.{sym, ap}
 use lib.ListN.{length}
 use Rattle.sheet.specs.Trusted.Sheet.{netOf}
 use borrow.Author.Needs.{needs}
-use Rattle.sheet_line.proofs.with_leaf.Statement.{statement}
-use Rattle.sheet_line.proofs.with_leaf.Tie as tie
+use Rattle.sheet_fanin.proofs.with_leaf.Statement.{statement}
+use Rattle.sheet_fanin.proofs.with_leaf.Tie as tie
 
 enum-told : tie.Need-enum-told
 enum-told c = search needs

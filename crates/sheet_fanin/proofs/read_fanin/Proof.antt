@@ -1,4 +1,4 @@
--- `sheet::read_fanin` meets its contract. The flag at the fanin's number says whether what it reads was read before. Assumes nothing.
+-- `sheet_fanin::read_fanin` meets its contract. The flag at the fanin's number says whether what it reads was read before. Assumes nothing.
 use Prim.Native.Nat.{ℕ}
 use native.Mathlib.Omega.{arith}
 use mathlib.Core.Path.{_≡_, sym, ap, _∙_}
@@ -9,15 +9,15 @@ use Rattle.lists.specs.Trusted.Checked.{passed}
 use Rattle.sheet.specs.declared.Source.{Source}
 use Rattle.sheet.specs.declared.Source.the-variants.{Net as net, Gate as gate}
 use Rattle.sheet.specs.declared.Refusal.{Refusal}
-use Rattle.sheet_line.specs.declared.Fanin.the-variants.{Reads, Bad}
+use Rattle.sheet_fanin.specs.declared.Fanin.the-variants.{Reads, Bad}
 use Rattle.sheet.specs.Trusted.Limits.{mostLeaves}
 use Rattle.sheet.specs.Trusted.Sheet.{netOf}
 use Rattle.sheet.specs.Trusted.Read.{sourceOf}
-use Rattle.sheet_line.specs.Inside.{saw, sourceStep}
-use Rattle.sheet_line.proofs.FaninLaws.{fanin-none, gate-twice, gate-once, net-twice, net-out, net-many, net-once, code-below, net-flag, gate-flag}
+use Rattle.sheet_fanin.specs.Fanins.{saw, sourceStep}
+use Rattle.sheet_fanin.proofs.FaninLaws.{fanin-none, gate-twice, gate-once, net-twice, net-out, net-many, net-once, code-below, net-flag, gate-flag}
 use borrow.Author.Needs.{needs}
-use Rattle.sheet_line.proofs.read_fanin.Statement.{statement}
-use Rattle.sheet_line.proofs.read_fanin.Tie as tie
+use Rattle.sheet_fanin.proofs.read_fanin.Statement.{statement}
+use Rattle.sheet_fanin.proofs.read_fanin.Tie as tie
 
 source-is : (c : tie.After-source) → sourceOf (c .before .before .before .args .gate) (c .before .before .before .args .code) ≡ some (c .source .given .0 .0)
 source-is c = c .before .before .source-of .ensures ∙ ap sourceStep (c .source .given .1)

@@ -8,38 +8,33 @@ use Rattle.lists.specs.Trusted.Tests.{all}
 use Rattle.table.specs.Trusted.Limits.{tableRoom}
 use Rattle.table.specs.LoopLaws.{all-stops, all-goes, all-ends}
 use Rattle.table.specs.Trusted.RecordTest.{isBlank}
-use Rattle.part.proofs.Shape.{shaped, past}
-use Rattle.part.proofs.rest_blank.Statement.{statement}
-use Rattle.part.proofs.rest_blank.Tie as tie
+use Rattle.table.proofs.Shape.{past}
+use Rattle.part_records.proofs.rest_blank.Statement.{statement}
+use Rattle.part_records.proofs.rest_blank.Tie as tie
 
 abbrev Inv-loop : tie.InvT-loop
-Inv-loop p i₀ i = (length (p .tables) ≡ tableRoom) × (all isBlank (drop (p .used) (p .tables)) ≡ all isBlank (drop i (p .tables)))
+Inv-loop used tables i₀ i = (length tables ≡ tableRoom) × (all isBlank (drop used tables) ≡ all isBlank (drop i tables))
 
 abbrev μ-loop : tie.MeasureT-loop
-μ-loop p i₀ i = tableRoom - i
-
-cast-i : tie.Need-cast-i Inv-loop μ-loop
-cast-i c = search needs
+μ-loop used tables i₀ i = tableRoom - i
 
 loop-holds : tie.Need-loop-holds Inv-loop μ-loop
-loop-holds c =
-    let t = c .good .0 .1 .1 .1 .1 .1 .0 in
-    (shaped (c .args .t1) (t .0) (t .1 .0 .1) (t .1 .1) .records, refl)
+loop-holds c = (search needs, refl)
 
 mul-r : tie.Need-mul-r Inv-loop μ-loop
 mul-r c = omega arith
 
-element-copy-out-r : tie.Need-element-copy-out-r Inv-loop μ-loop
-element-copy-out-r c = omega arith
+array-copy-out-r : tie.Need-array-copy-out-r Inv-loop μ-loop
+array-copy-out-r c = omega arith
 
 is-blank-requires : tie.Need-is-blank-requires Inv-loop μ-loop
 is-blank-requires c κs = search needs
 
 returns : tie.Need-returns Inv-loop μ-loop
 returns c =
-    let p = c .before .before .before .before .before .args .t1 in
+    let a = c .before .before .before .before .before .args in
     let l = c .before .before .before .before .loop in
-    sym (l .inv .1 ∙ all-stops isBlank (p .tables) (l .i) past (omega arith) (sym (c .before .is-blank .ensures) ∙ not-true _ (c .if1 .taken)))
+    sym (l .inv .1 ∙ all-stops isBlank (a .t2) (l .i) past (omega arith) (sym (c .before .is-blank .ensures) ∙ not-true _ (c .if1 .taken)))
 
 add-i : tie.Need-add-i Inv-loop μ-loop
 add-i c = omega arith
@@ -49,15 +44,15 @@ loop-less c = omega arith
 
 loop-again : tie.Need-loop-again Inv-loop μ-loop
 loop-again c =
-    let p = c .before .before .before .before .before .args .t1 in
+    let a = c .before .before .before .before .before .args in
     let l = c .before .before .before .before .loop in
-    (l .inv .0, l .inv .1 ∙ all-goes isBlank (p .tables) (l .i) past (omega arith) (sym (c .before .is-blank .ensures) ∙ not-false _ (c .if1 .left)))
+    (l .inv .0, l .inv .1 ∙ all-goes isBlank (a .t2) (l .i) past (omega arith) (sym (c .before .is-blank .ensures) ∙ not-false _ (c .if1 .left)))
 
 returns-2 : tie.Need-returns-2 Inv-loop μ-loop
 returns-2 c =
-    let p = c .before .before .args .t1 in
+    let a = c .before .before .args in
     let l = c .before .loop in
-    sym (l .inv .1 ∙ all-ends isBlank (p .tables) (l .i) past (omega arith))
+    sym (l .inv .1 ∙ all-ends isBlank (a .t2) (l .i) past (omega arith))
 
 pub rest-blank-spec : {M : Type 1} → statement M
 rest-blank-spec =
@@ -65,10 +60,9 @@ rest-blank-spec =
     (tie.spec
     Inv-loop
     μ-loop
-    cast-i
     loop-holds
     mul-r
-    element-copy-out-r
+    array-copy-out-r
     is-blank-requires
     returns
     add-i
