@@ -8,7 +8,7 @@ use mathlib.Core.List.{List}
 use lib.ListN.{length}
 use Rattle.lists.specs.Trusted.Lists.{_∈_, Every, Rising}
 use Rattle.lists.specs.ListLaws.{permuted-to, permuted-from}
-use Rattle.tree.specs.Leaves.{leaves}
+use Rattle.tree.specs.Measures.{leaves}
 use Rattle.cover.specs.Trusted.Tables.{LookupTable, numbered}
 use Rattle.cover.specs.Eval.{numbered-is, numbered-one}
 use Rattle.cover.specs.Trusted.Placed.{rootNumber}

@@ -10,8 +10,9 @@ use lib.ListN.{length}
 use Rattle.lists.specs.Trusted.Lists.{Every}
 use Rattle.lists.specs.ListLaws.{every-cons, every-head, every-append, every-left, every-right, permuted-to}
 use Rattle.tree.specs.declared.Kind.{Kind}
-use Rattle.tree.specs.Trusted.Tree.{Node, leaf, gate, Edges, none, edge, turned, meet, value, values}
-use Rattle.tree.specs.Leaves.{leaves, leaves*}
+use Rattle.tree.specs.Trusted.Tree.{Node, leaf, gate, Edges, none, edge, turned, meet}
+use Rattle.tree.specs.Measures.{value, values}
+use Rattle.tree.specs.Measures.{leaves, leaves*}
 use Rattle.cover.specs.Trusted.Tables.{LookupTable, Placed, numbered, writes, run, settled}
 use Rattle.cover.specs.Eval.{Agree, driven-in, numbered-is, settled-append, ValuesHold, uses, Untouched, holds-on, run-holds}
 use Rattle.cover.specs.Trusted.Placed.{rootNumber}

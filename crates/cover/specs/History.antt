@@ -3,7 +3,8 @@ use Prim.Native.Nat.{ℕ}
 use mathlib.Core.Path.{_≡_}
 use mathlib.Core.Bool.{Bool}
 use mathlib.Core.List.{List, [], _∷_, _++_}
-use Rattle.tree.specs.Trusted.Tree.{turned, value}
+use Rattle.tree.specs.Trusted.Tree.{turned}
+use Rattle.tree.specs.Measures.{value}
 use Rattle.cover.specs.Trusted.Tables.{LookupTable}
 use Rattle.cover.specs.Trusted.CoverTables.{Circuit, CoverTables, Fresh}
 use Rattle.cover.specs.Legal.{Legal}

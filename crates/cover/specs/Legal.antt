@@ -2,7 +2,7 @@
 use Prim.Native.Nat.{ℕ, _<_}
 use mathlib.Core.Logic.{_≢_}
 use Rattle.lists.specs.Trusted.Lists.{Every, Distinct}
-use Rattle.tree.specs.Leaves.{leaves}
+use Rattle.tree.specs.Measures.{leaves}
 use Rattle.cover.specs.Trusted.CoverTables.{Circuit}
 
 -- its nets lie from 1 to below the base, no net stands at two leaves, and it does not read the net that it drives

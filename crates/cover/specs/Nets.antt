@@ -9,7 +9,7 @@ use lib.ListN.{length, length-append}
 use Rattle.lists.specs.Trusted.Lists.{Permuted, empty, gather}
 use Rattle.lists.specs.ListLaws.{permuted-refl, permuted-trans, permuted-append, permuted-length, gather-append, gather-inserted}
 use Rattle.tree.specs.Trusted.Tree.{Node, Edges}
-use Rattle.tree.specs.Leaves.{leaves, leaves*}
+use Rattle.tree.specs.Measures.{leaves, leaves*}
 use Rattle.cover.specs.Trusted.Cover.{
   Cover,
   net,

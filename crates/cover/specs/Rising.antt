@@ -8,12 +8,13 @@ use mathlib.Core.Logic.{by-cases}
 use mathlib.Core.Bool.{Bool, false}
 use mathlib.Core.List.{List, [], _∷_, _++_, append-nil}
 use Rattle.lists.specs.Cases.{by-eqb}
-use Rattle.lists.specs.Trusted.Lists.{Every, Sorted, Rising, Distinct, Permuted, sum}
+use Rattle.lists.specs.Trusted.Lists.{Every, Rising, Distinct, Permuted}
+use Rattle.lists.specs.Sequences.{Sorted, sum}
 use Rattle.lists.specs.ListLaws.{every-none, every-cons, every-append}
 use Rattle.lists.specs.NumberLaws.{sum-append, sum-permuted, one-if, is, times, sorted-permuted, sorted-sorted, no-times, distinct-times, sorted-rising}
 use Rattle.tree.specs.declared.Kind.{Kind}
 use Rattle.tree.specs.Trusted.Tree.{Node}
-use Rattle.tree.specs.Leaves.{leaves}
+use Rattle.tree.specs.Measures.{leaves}
 use Rattle.cover.specs.Trusted.Cover.{Cover, net, top, Fanins, end, old, new, SplitOf}
 use Rattle.cover.specs.Trusted.Tables.{LookupTable, Placed, numbered}
 use Rattle.cover.specs.Trusted.Placed.{code, codes, codes*, gateTable, placed, records, records*}

@@ -9,7 +9,8 @@ use Rattle.lists.specs.ListLaws.{every-none, every-cons, every-head, every-tail
 use Rattle.lists.specs.NumberLaws.{sorted-permuted}
 use Rattle.tree.specs.declared.Kind.{Kind}
 use Rattle.tree.specs.declared.Kind.the-variants.{And as and, Or as or}
-use Rattle.tree.specs.Trusted.Tree.{Node, Edges, turned, meet, unit, value, values}
+use Rattle.tree.specs.Trusted.Tree.{Node, Edges, turned, meet, unit}
+use Rattle.tree.specs.Measures.{value, values}
 use Rattle.cover.specs.Trusted.Cover.{Cover, net, top, Fanins, end, old, new, pick, frontier, SplitOf, same, split, Matched, done, match, Rooted, rooted}
 use Rattle.cover.specs.Trusted.Tables.{output}
 use Rattle.cover.specs.Eval.{Agree, tabled-output, in-driven, ValuesHold}

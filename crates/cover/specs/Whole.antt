@@ -10,8 +10,9 @@ use Rattle.lists.specs.Trusted.Lists.{Every, sorted}
 use Rattle.lists.specs.ListLaws.{every-none, permuted-trans}
 use Rattle.lists.specs.NumberLaws.{sorted-permuted, sorted-sorted, sorted-only}
 use Rattle.tree.specs.declared.Kind.{Kind}
-use Rattle.tree.specs.Trusted.Tree.{Node, gate, Edges, turned, value}
-use Rattle.tree.specs.Leaves.{leaves, leaves*}
+use Rattle.tree.specs.Trusted.Tree.{Node, gate, Edges, turned}
+use Rattle.tree.specs.Measures.{value}
+use Rattle.tree.specs.Measures.{leaves, leaves*}
 use Rattle.cover.specs.Trusted.Cover.{Cover, net, top, Fanins, end, old, new, pick, frontier, tables, tables*, SplitOf, split, Matched, Rooted, rooted, CoverOf}
 use Rattle.cover.specs.Trusted.Tables.{LookupTable, Placed, tabled}
 use Rattle.cover.specs.Trusted.Placed.{rootNumber, code, codes, codes*, gateTable, records, records*}

@@ -8,7 +8,7 @@ use lib.IntN.{pos, negsuc}
 use lib.ListN.{replicate}
 use Rattle.decimal.specs.Trusted.Number.{Number, fieldNumber}
 use Rattle.decimal.specs.Trusted.Columns.{fieldOf, signedRoom, signedFieldOf}
-use Rattle.decimal.specs.Reading.{numberOfInt}
+use Rattle.decimal.specs.Trusted.Reading.{numberOfInt}
 
 plus : ℕ → Option Number
 plus n = some (record { negative = false; magnitude = n })

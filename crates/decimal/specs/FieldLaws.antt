@@ -10,7 +10,8 @@ use lib.ListN.{length}
 use borrow.Author.Tests.{ne-eqb, le-leb}
 use Rattle.lists.specs.Cases.{by-leb}
 use Rattle.lists.specs.TestLaws.{reflects-true, by-reflects}
-use Rattle.decimal.specs.Trusted.Number.{Number, digits, natural, unsigned, negated, number, columns, fieldNumber, Within}
+use Rattle.decimal.specs.Trusted.Number.{Number, digits, natural, unsigned, negated, number, columns, fieldNumber}
+use Rattle.decimal.specs.Inside.{Within}
 use Rattle.decimal.specs.NumberLaws.{negated-more}
 use Rattle.decimal.specs.Trusted.Columns.{room, column, fieldOf, signedColumn, signedFieldOf}
 use Rattle.decimal.specs.ColumnLaws.{reflects-room, ten-pos, div-more}

@@ -1,9 +1,8 @@
 pub mod Trusted
+pub mod Inside
 pub mod NumberLaws
-pub mod Reading
 pub mod ReadingLaws
 pub mod ColumnLaws
 pub mod FieldLaws
-pub mod Writing
 pub mod WritingLaws
 pub mod Examples

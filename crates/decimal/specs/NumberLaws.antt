@@ -10,7 +10,8 @@ use lib.ListN.{length}
 use borrow.Author.Tests.{ne-eqb}
 use Rattle.lists.specs.Cases.{by-eqb}
 use Rattle.lists.specs.TestLaws.{reflects-within, by-reflects}
-use Rattle.decimal.specs.Trusted.Number.{Number, digits, natural, unsigned, negated, signed, number, columns, fieldNumber, Within}
+use Rattle.decimal.specs.Trusted.Number.{Number, digits, natural, unsigned, negated, signed, number, columns, fieldNumber}
+use Rattle.decimal.specs.Inside.{Within}
 
 -- what holds of the value, where there is one
 abbrev pub Given : {A : Type 0} → (A → Type 0) → Option A → Type 0

@@ -9,11 +9,12 @@ use mir.Syntax.{w32}
 use mir.Val.{SFits, toZ, ofZ}
 use mir.Facts.{toZ-ofZ}
 use lib.IntN.{ℤ, pos, negsuc, negℤ}
-use Rattle.decimal.specs.Trusted.Number.{Number, columns, fieldNumber, Within}
+use Rattle.decimal.specs.Trusted.Number.{Number, columns, fieldNumber}
+use Rattle.decimal.specs.Inside.{Within}
 use Rattle.decimal.specs.NumberLaws.{Given, field-given, field-within}
 use Rattle.decimal.specs.Trusted.Columns.{fieldOf, signedFieldOf}
 use Rattle.decimal.specs.FieldLaws.{field-read, signed-read}
-use Rattle.decimal.specs.Reading.{intOf, numberOfInt, fieldAnswer, fieldRead}
+use Rattle.decimal.specs.Trusted.Reading.{intOf, numberOfInt, fieldAnswer, fieldRead}
 use Rattle.decimal.specs.declared.Field.the-variants.{Value, NoNumber}
 
 back : (b : Bool) (m : ℕ) → (b ≡ true → 0 < m) → numberOfInt (cond b (negℤ (pos m)) (pos m)) ≡ record { negative = b; magnitude = m }

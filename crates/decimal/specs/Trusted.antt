@@ -1,2 +1,4 @@
 pub mod Number
 pub mod Columns
+pub mod Reading
+pub mod Writing

@@ -7,10 +7,11 @@ use mathlib.Core.List.{List}
 use lib.ListN.{length}
 use borrow.Author.Tests.{le-leb}
 use Rattle.lists.specs.TestLaws.{reflects-true}
-use Rattle.decimal.specs.Trusted.Number.{Number, Within}
+use Rattle.decimal.specs.Trusted.Number.{Number}
+use Rattle.decimal.specs.Inside.{Within}
 use Rattle.decimal.specs.Trusted.Columns.{room, signedRoom, signedFieldOf}
 use Rattle.decimal.specs.ColumnLaws.{reflects-room}
-use Rattle.decimal.specs.Writing.{writeIf, signedWrittenAt}
+use Rattle.decimal.specs.Trusted.Writing.{writeIf, signedWrittenAt}
 use Rattle.decimal.specs.Trusted.Columns.{withField}
 use Rattle.decimal.specs.declared.Written.the-variants.{Done}
 

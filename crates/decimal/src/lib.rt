@@ -1,7 +1,7 @@
 // Decimal numbers in the columns of a field: what a field holds, and a value taken apart into its sign and its absolute value.
 // The formats are those of 01, "Sheet" and "List". The reader is the crate `decimal_reader`, the writer `decimal_writer`.
 ghost use mathlib.Core.Path.{_≡_};
-ghost use Rattle.decimal.specs.Reading.{numberOfInt};
+ghost use Rattle.decimal.specs.Trusted.Reading.{numberOfInt};
 
 // The columns of a field.
 pub const COLUMNS: usize = 6;

@@ -14,7 +14,7 @@ use mir.Val.{SFits}
 use borrow.Author.Tests.{eq-eqb, ne-eqb, le-leb, lt-leb}
 use Rattle.decimal.specs.Trusted.Number.{digits, natural, unsigned, negated, signed, number, fieldNumber}
 use Rattle.decimal.specs.NumberLaws.{natural-below}
-use Rattle.decimal.specs.Reading.{parsed, Skipped}
+use Rattle.decimal.specs.Inside.{parsed, Skipped}
 use Rattle.decimal.specs.declared.Parsed.the-variants.{Natural, Nothing}
 
 -- ---- blanks

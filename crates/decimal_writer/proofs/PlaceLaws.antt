@@ -8,7 +8,7 @@ use lib.Dec.{leb}
 use lib.ListN.{length, take}
 use borrow.Author.Tests.{le-leb, lt-leb}
 use borrow.Rule.Slice.PartMut.{midOf, putMid, mid-len, post-is, put-same}
-use Rattle.decimal.specs.Writing.{writeIf}
+use Rattle.decimal.specs.Trusted.Writing.{writeIf}
 use Rattle.decimal.specs.Trusted.Columns.{withField}
 use Rattle.decimal.specs.declared.Written.{Written}
 use Rattle.decimal.specs.declared.Written.the-variants.{Done, TooWide}

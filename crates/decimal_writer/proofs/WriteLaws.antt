@@ -14,7 +14,8 @@ use Rattle.decimal.specs.Trusted.Columns.{room, column, fieldOf, signedFieldOf}
 use Rattle.decimal.specs.Trusted.Number.{Number}
 use Rattle.decimal.specs.ColumnLaws.{reflects-room, ten-pos}
 use Rattle.decimal.specs.FieldLaws.{plain-field, minus-digits}
-use Rattle.decimal.specs.Writing.{writeIf, fieldWritten, signedWritten, digitOf, DigitCount}
+use Rattle.decimal.specs.Trusted.Writing.{writeIf, fieldWritten, signedWritten}
+use Rattle.decimal.specs.Inside.{digitOf, DigitCount}
 use Rattle.decimal.specs.declared.Written.the-variants.{Done}
 
 -- nothing is left of a number below the divisor, and only of such a number

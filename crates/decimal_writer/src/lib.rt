@@ -2,8 +2,9 @@
 ghost use mathlib.Core.Path.{_≡_};
 ghost use lib.ListN.{length};
 ghost use Rattle.decimal.specs.Trusted.Columns.{fieldOf};
-ghost use Rattle.decimal.specs.Reading.{numberOfInt};
-ghost use Rattle.decimal.specs.Writing.{fieldWritten, signedWritten, fieldWrittenAt, signedWrittenAt, digitOf, DigitCount};
+ghost use Rattle.decimal.specs.Trusted.Reading.{numberOfInt};
+ghost use Rattle.decimal.specs.Trusted.Writing.{fieldWritten, signedWritten, fieldWrittenAt, signedWrittenAt};
+ghost use Rattle.decimal.specs.Inside.{digitOf, DigitCount};
 use decimal::Written;
 use decimal::magnitude;
 use decimal::negative;

@@ -11,8 +11,8 @@ use lib.ListN.{length}
 use Rattle.lists.specs.Trusted.Tests.{elem, either}
 use Rattle.lists.specs.TestLaws.{reflects-le, reflects-eq, reflects-or, reflects-elem, by-reflects, reflects-same, reflects-true}
 use Rattle.tree.specs.Trusted.Limits.{codeBase}
-use Rattle.tree.specs.Trusted.Tree.{proper}
-use Rattle.tree.specs.Leaves.{leaves}
+use Rattle.tree.specs.Measures.{proper}
+use Rattle.tree.specs.Measures.{leaves}
 use Rattle.lists.specs.Trusted.Checked.{Checked, passed, refused as unread}
 use Rattle.cover.specs.Trusted.Cover.{Least}
 use Rattle.plan.specs.Least.{least-unique, least-tables, least-is}

@@ -12,7 +12,7 @@ use Rattle.lists.specs.ListLaws.{every-append, permuted-to, permuted-from}
 use Rattle.lists.specs.NumberLaws.{sorted-permuted}
 use Rattle.tree.specs.declared.Kind.{Kind}
 use Rattle.tree.specs.Trusted.Tree.{Node}
-use Rattle.tree.specs.Leaves.{leaves}
+use Rattle.tree.specs.Measures.{leaves}
 use Rattle.cover.specs.Trusted.Cover.{Cover, net, top, Fanins, end, old, new, SplitOf, Rooted, rooted}
 use Rattle.cover.specs.Nets.{nets, nets*, split-nets}
 use Rattle.cover.specs.Trusted.Tables.{LookupTable, Placed, numbered}

@@ -8,7 +8,8 @@ use mathlib.Core.List.{List, [], _∷_, _++_, append-assoc, map, Memᴰ·map, Me
 use lib.ListN.{length, drop, getD, length-take, length-drop, take-append-drop}
 use lib.Seq.{getD-take, ext-getD, length-take-le}
 use Rattle.lists.specs.NumberLaws.{from-one}
-use Rattle.lists.specs.Trusted.Lists.{_∈_, first, later, Every, gather, upto}
+use Rattle.lists.specs.Trusted.Lists.{_∈_, first, later, Every, gather}
+use Rattle.lists.specs.Sequences.{upto}
 use Rattle.lists.specs.ListLaws.{every-none, every-at, every-cons, every-head, every-tail}
 use Rattle.tree.specs.Trusted.Limits.{greatestNet}
 use Rattle.decimal.specs.Trusted.Columns.{fieldOf, fieldsOf}

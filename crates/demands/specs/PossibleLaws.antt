@@ -6,7 +6,8 @@ use mathlib.Core.Path.{_≡_, refl, sym, ap, ap₂, _∙_, subst}
 use mathlib.Core.Bool.{Bool, false}
 use mathlib.Core.List.{List, [], _∷_, _++_, append-nil}
 use lib.ListN.{length, length-append}
-use Rattle.lists.specs.Trusted.Lists.{Every, Permuted, Inserted, here, there, Paired, no-pair, pair}
+use Rattle.lists.specs.Trusted.Lists.{Every, Permuted, Inserted, here, there}
+use Rattle.lists.specs.Sequences.{Paired, no-pair, pair}
 use Rattle.lists.specs.ListLaws.{every-none, every-cons, every-append, every-left, every-right, permuted-from, permuted-to, permuted-refl}
 use Rattle.lists.specs.NumberLaws.{sorted-permuted}
 use Rattle.lists.specs.Trusted.Tests.{either}

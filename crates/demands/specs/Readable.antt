@@ -3,7 +3,8 @@ use mathlib.Core.Path.{_≡_}
 use lib.Dec.{T}
 use Rattle.tree.specs.Trusted.Limits.{codeBase}
 use Rattle.tree.specs.declared.Kind.{Kind}
-use Rattle.tree.specs.Trusted.Tree.{Edges, gate, proper}
+use Rattle.tree.specs.Trusted.Tree.{Edges, gate}
+use Rattle.tree.specs.Measures.{proper}
 use Rattle.cover.specs.Trusted.CoverTables.{Circuit}
 use Rattle.cover.specs.Legal.{Legal}
 

@@ -10,7 +10,8 @@ use lib.ListN.{length}
 use lib.Seq.{take-at, drop-at}
 use Rattle.lists.specs.Trusted.Lists.{Every}
 use Rattle.lists.specs.ListLaws.{every-none, every-cons, every-head, every-tail, every-append}
-use Rattle.decimal.specs.Trusted.Number.{Number, columns, fieldNumber, Within}
+use Rattle.decimal.specs.Trusted.Number.{Number, columns, fieldNumber}
+use Rattle.decimal.specs.Inside.{Within}
 use Rattle.decimal.specs.Trusted.Columns.{room, column, signedColumn, signedFieldOf}
 use Rattle.decimal.specs.FieldLaws.{signed-length, signed-read}
 use Rattle.sheet.specs.Trusted.Limits.{mostFields}

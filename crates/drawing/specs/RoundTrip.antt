@@ -16,7 +16,8 @@ use Rattle.lists.specs.Trusted.Checked.{Checked, passed, _>>=_, require, given}
 use Rattle.tree.specs.declared.Kind.{Kind}
 use Rattle.tree.specs.declared.Kind.the-variants.{And as and, Or as or}
 use Rattle.tree.specs.Trusted.Limits.{greatestNet, fewestFanins, mostFanins, codeBase}
-use Rattle.decimal.specs.Trusted.Number.{columns, Within}
+use Rattle.decimal.specs.Trusted.Number.{columns}
+use Rattle.decimal.specs.Inside.{Within}
 use Rattle.sheet.specs.declared.Source.{Source}
 use Rattle.sheet.specs.declared.Source.the-variants.{Net as net, Gate as gate}
 use Rattle.sheet.specs.declared.Edge.{Edge as Fanin}

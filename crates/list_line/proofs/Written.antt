@@ -6,7 +6,7 @@ use lib.ListN.{length}
 use Rattle.lists.specs.TestLaws.{reflects-le, reflects-and, reflects-true}
 use Rattle.decimal.specs.Trusted.Columns.{fieldOf}
 use Rattle.decimal.specs.ColumnLaws.{reflects-room, field-length}
-use Rattle.decimal.specs.Writing.{FieldWrite, writeIf, fieldWrittenAt}
+use Rattle.decimal.specs.Trusted.Writing.{FieldWrite, writeIf, fieldWrittenAt}
 use Rattle.decimal.specs.Trusted.Columns.{withField}
 use Rattle.decimal.specs.declared.Written.{Written}
 use Rattle.list_line.specs.Trusted.Writes.{pasted}

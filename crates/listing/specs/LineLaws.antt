@@ -9,7 +9,8 @@ use lib.Dec.{leb}
 use lib.ListN.{length, getD, length-append, length-take, List·getD-eq-default}
 use lib.Seq.{getD-take}
 use Rattle.lists.specs.ListLaws.{every-at, gather-append, gather-map}
-use Rattle.lists.specs.Trusted.Lists.{gather, upto}
+use Rattle.lists.specs.Trusted.Lists.{gather}
+use Rattle.lists.specs.Sequences.{upto}
 use Rattle.lists.specs.NumberLaws.{from-one}
 use Rattle.lists.specs.Cases.{by-leb}
 use Rattle.lists.specs.Trusted.Checked.{passed}

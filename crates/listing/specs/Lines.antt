@@ -5,7 +5,8 @@ use mathlib.Core.Bool.{cond}
 use mathlib.Core.List.{List}
 use lib.Dec.{leb}
 use lib.ListN.{length, getD}
-use Rattle.lists.specs.Trusted.Lists.{gather, upto}
+use Rattle.lists.specs.Trusted.Lists.{gather}
+use Rattle.lists.specs.Sequences.{upto}
 use Rattle.lists.specs.Trusted.Checked.{passed, refused}
 use Rattle.table.specs.Trusted.Limits.{inputRoom, tableRoom}
 use Rattle.table.specs.Trusted.Records.{blank}

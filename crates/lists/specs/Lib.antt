@@ -1,4 +1,5 @@
 pub mod Trusted
+pub mod Sequences
 pub mod Cases
 pub mod ListLaws
 pub mod MixLaws

@@ -3,7 +3,8 @@
 use mathlib.Core.Path.{_≡_, refl, ap}
 use mathlib.Core.Logic.{_⊎_, inl, inr}
 use mathlib.Core.List.{List, [], _∷_, _++_}
-use Rattle.lists.specs.Trusted.Lists.{Every, Inserted, here, there, Permuted, empty, more, Mix, neither, left, right, Paired, no-pair, pair}
+use Rattle.lists.specs.Trusted.Lists.{Every, Inserted, here, there, Permuted, empty, more}
+use Rattle.lists.specs.Sequences.{Mix, neither, left, right, Paired, no-pair, pair}
 use Rattle.lists.specs.ListLaws.{every-cons, every-head, every-tail, inserted-right, permuted-insert, permuted-sym}
 
 module _ {A : Type 0} where

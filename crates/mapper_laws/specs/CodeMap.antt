@@ -3,7 +3,8 @@ use Prim.Native.Nat.{ℕ, _+_, _<_, _≤_}
 use mathlib.Core.Path.{_≡_}
 use mathlib.Core.Bool.{Bool, true, false}
 use lib.ListN.{length, getD, set, take}
-use Rattle.lists.specs.Trusted.Lists.{Every, upto}
+use Rattle.lists.specs.Trusted.Lists.{Every}
+use Rattle.lists.specs.Sequences.{upto}
 use Rattle.tree.specs.declared.Kind.{Kind}
 use Rattle.tree.specs.Trusted.Limits.{codeBase, mostFanins}
 use Rattle.plan.specs.declared.Key.{Key}

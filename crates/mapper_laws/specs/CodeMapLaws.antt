@@ -8,7 +8,8 @@ use mathlib.Core.Bool.{false}
 use mathlib.Core.List.{List, [], _∷_, _++_, append-assoc, append-nil, map}
 use lib.ListN.{length, getD, set, take, drop, length-set, length-take}
 use lib.Seq.{getD-take, getD-drop, length-take-le, take-suc, take-suc-set, getD-set-same, getD-set-other}
-use Rattle.lists.specs.Trusted.Lists.{Every, Sorted}
+use Rattle.lists.specs.Trusted.Lists.{Every}
+use Rattle.lists.specs.Sequences.{Sorted}
 use Rattle.lists.specs.Cases.{by-eqb}
 use Rattle.lists.specs.ListLaws.{every-none, every-head, every-left, every-right}
 use Rattle.lists.specs.NumberLaws.{sorted-sorted}

@@ -8,7 +8,7 @@ use mathlib.Core.List.{List, [], _∷_, _++_, map}
 use lib.ListN.{length, getD, set, take, drop, length-map, length-set, length-take}
 use lib.Seq.{drop-cons, getD-take, getD-set-same, getD-set-other, take-suc-set, length-take-le}
 use Rattle.lists.specs.Cases.{by-eqb}
-use Rattle.lists.specs.Trusted.Lists.{Sorted}
+use Rattle.lists.specs.Sequences.{Sorted}
 use Rattle.lists.specs.ListLaws.{every-none, drop-past}
 use Rattle.lists.specs.NumberLaws.{sorted-sorted}
 use Rattle.tree.specs.declared.Kind.{Kind}

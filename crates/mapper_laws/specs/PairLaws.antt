@@ -6,7 +6,8 @@ use mathlib.Core.Path.{_≡_, refl, sym, ap, ap₂, _∙_, subst, subst₂}
 use mathlib.Core.Bool.{Bool, true, false}
 use mathlib.Core.List.{List, [], _∷_, _++_}
 use lib.ListN.{length, take, replicate, getD}
-use Rattle.lists.specs.Trusted.Lists.{Every, empty, more, here, there, neither, left, right}
+use Rattle.lists.specs.Trusted.Lists.{Every, empty, more, here, there}
+use Rattle.lists.specs.Sequences.{neither, left, right}
 use Rattle.lists.specs.ListLaws.{every-none, every-cons, every-head, every-tail}
 use Rattle.tree.specs.declared.Kind.{Kind}
 use Rattle.plan.specs.declared.Key.{Key}

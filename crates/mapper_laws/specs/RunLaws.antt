@@ -7,7 +7,8 @@ use mathlib.Core.Bool.{Bool, true, false, cond}
 use mathlib.Core.List.{List, [], _∷_, _++_, append-assoc, append-nil}
 use lib.ListN.{length, getD, length-append}
 use Rattle.lists.specs.Cases.{by-eqb}
-use Rattle.lists.specs.Trusted.Lists.{Permuted, sorted, upto, gather}
+use Rattle.lists.specs.Trusted.Lists.{Permuted, sorted, gather}
+use Rattle.lists.specs.Sequences.{upto}
 use Rattle.lists.specs.ListLaws.{every-none, every-cons, every-head, every-append, permuted-sym, permuted-trans, permuted-append, permuted-to, permuted-from}
 use Rattle.lists.specs.NumberLaws.{sorted-permuted, sorted-sorted, sorted-only}
 use Rattle.tree.specs.declared.Kind.{Kind}

@@ -5,7 +5,7 @@ use mathlib.Core.Path.{_≡_, refl, sym, ap, _∙_}
 use mathlib.Core.Bool.{Bool, true, false}
 use mathlib.Core.List.{List, [], _∷_, _++_, append-assoc, append-nil}
 use lib.ListN.{length, getD, length-append}
-use Rattle.lists.specs.Trusted.Lists.{upto}
+use Rattle.lists.specs.Sequences.{upto}
 use Rattle.lists.specs.ListLaws.{permuted-length}
 use Rattle.lists.specs.NumberLaws.{sorted-permuted, upto-length}
 use Rattle.tree.specs.declared.Kind.{Kind}

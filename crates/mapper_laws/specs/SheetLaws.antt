@@ -8,7 +8,8 @@ use mathlib.Core.List.{List, [], _∷_, _++_, map}
 use lib.ListN.{List·getD-append, length, getD, set, take, drop, length-map, length-set, length-append, length-replicate, replicate, take-append-drop}
 use lib.Seq.{take-length, getD-append-add, getD-take, length-take-le, take-suc, take-suc-set, getD-set-same, getD-set-other}
 use Rattle.lists.specs.Cases.{by-eqb}
-use Rattle.lists.specs.Trusted.Lists.{Every, Distinct, gather, sorted, upto}
+use Rattle.lists.specs.Trusted.Lists.{Every, Distinct, gather, sorted}
+use Rattle.lists.specs.Sequences.{upto}
 use Rattle.lists.specs.ListLaws.{every-none, every-cons, every-head, every-append, every-left, every-right, every-at, permuted-length, gather-append}
 use Rattle.lists.specs.NumberLaws.{sorted-permuted}
 use Rattle.tree.specs.declared.Kind.the-variants.{And}

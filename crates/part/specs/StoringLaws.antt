@@ -21,7 +21,7 @@ use Rattle.sheet.specs.declared.ReadAnswer.{ReadAnswer as CodeAnswer}
 use Rattle.sheet.specs.declared.ReadResult.{ReadResult as CodeReading}
 use Rattle.sheet.specs.Trusted.Read.{readSheet}
 use Rattle.sheet.specs.Trusted.Answers.{drawnSheet, answered}
-use Rattle.sheet.specs.Promise.{SheetRead}
+use Rattle.sheet.specs.Trusted.Promise.{SheetRead}
 use Rattle.sheet.specs.Trusted.Trees.{drawn}
 use Rattle.table.specs.declared.Table.{Table}
 use Rattle.table.specs.Trusted.Records.{reads, tableOf, recordOf}

@@ -13,7 +13,8 @@ use lib.ListN.{length, getD, take, drop, set, replicate, length-append, length-m
 use lib.Pow.{pow-pos, pow-mono, shl-exact, shr-shr, ones-split, high, ones-lt}
 use lib.Seq.{slice, slice-cons, slice-empty, length-slice, length-take-le, getD-drop, getD-set-same, getD-set-other, take-suc, take-suc-set, drop-drop, drop-at, drop-set-lt, append-snoc, set-split, take-at}
 use Rattle.lists.specs.Cases.{by-eqb, by-leb, if-leb}
-use Rattle.lists.specs.Trusted.Lists.{Sorted, insert, sorted}
+use Rattle.lists.specs.Trusted.Lists.{insert, sorted}
+use Rattle.lists.specs.Sequences.{Sorted}
 use Rattle.lists.specs.ListLaws.{inserted-length, permuted-refl, permuted-length}
 use Rattle.lists.specs.NumberLaws.{insert-inserted, insert-first, sorted-permuted, sorted-sorted, sorted-only}
 use Rattle.tree.specs.declared.Kind.{Kind}

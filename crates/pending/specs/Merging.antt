@@ -4,7 +4,7 @@ use mathlib.Core.Path.{_≡_}
 use mathlib.Core.Bool.{Bool, not}
 use mathlib.Core.List.{List, _++_, map}
 use lib.ListN.{length, getD, take, replicate}
-use Rattle.lists.specs.Trusted.Lists.{Sorted}
+use Rattle.lists.specs.Sequences.{Sorted}
 use Rattle.cover.specs.Trusted.Bits.{bit, index, place, truthOf}
 use Rattle.table.specs.declared.Table.{Table}
 use Rattle.table.specs.Trusted.Limits.{inputRoom}

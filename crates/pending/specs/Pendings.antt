@@ -1,7 +1,7 @@
 -- The code's pending tables as operands of a plan's run. Internal definitions.
 use Prim.Native.Nat.{_+_, _≤_}
 use mathlib.Core.Path.{_≡_}
-use Rattle.lists.specs.Trusted.Lists.{Sorted}
+use Rattle.lists.specs.Sequences.{Sorted}
 use Rattle.table.specs.declared.Table.{Table}
 use Rattle.table.specs.Trusted.Limits.{inputRoom}
 use Rattle.table.specs.Trusted.Records.{reads, tableOf, recordOf}

@@ -6,7 +6,8 @@ use mathlib.Core.Path.{_≡_, refl, subst}
 use mathlib.Core.Bool.{Bool, false}
 use mathlib.Core.List.{List, [], _∷_, _++_, append-nil, map}
 use lib.ListN.{length, getD}
-use Rattle.lists.specs.Trusted.Lists.{Inserted, Permuted, empty, more, Paired, no-pair, pair, upto}
+use Rattle.lists.specs.Trusted.Lists.{Inserted, Permuted, empty, more}
+use Rattle.lists.specs.Sequences.{Paired, no-pair, pair, upto}
 use Rattle.lists.specs.MixLaws.{paired-append}
 use Rattle.tree.specs.Trusted.Tree.{Node, Edges, none, edge}
 use Rattle.cover.specs.Trusted.Cover.{Cover, net, top, Fanins, end, pick, arity, frontier, tables, tables*, width, widths, Fits*, Fits, SplitOf, same, split, Matched, done, match}

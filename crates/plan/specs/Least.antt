@@ -7,7 +7,8 @@ use native.Mathlib.Omega.{arith}
 use lib.Dec.{T}
 use Rattle.lists.specs.Cases.{and-split}
 use Rattle.tree.specs.declared.Kind.{Kind}
-use Rattle.tree.specs.Trusted.Tree.{Node, leaf, gate, Edges, none, edge, many, proper, propers}
+use Rattle.tree.specs.Trusted.Tree.{Node, leaf, gate, Edges, none, edge}
+use Rattle.tree.specs.Measures.{many, proper, propers}
 use Rattle.cover.specs.Trusted.Cover.{top, Fanins, tables, Least}
 use Rattle.plan.specs.declared.Key.{Key}
 use Rattle.plan.specs.Key.{leaf-key}

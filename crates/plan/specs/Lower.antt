@@ -5,7 +5,8 @@ use mathlib.Core.Bool.{Bool}
 use mathlib.Core.List.{List, []}
 use native.Mathlib.Nat.{add-zero, zero-add}
 use native.Mathlib.Omega.{arith}
-use Rattle.lists.specs.Trusted.Lists.{Permuted, empty, more, Mix, left, Paired, no-pair, pair}
+use Rattle.lists.specs.Trusted.Lists.{Permuted, empty, more}
+use Rattle.lists.specs.Sequences.{Mix, left, Paired, no-pair, pair}
 use Rattle.lists.specs.MixLaws.{mix-none, mix-all, paired-insert, paired-split}
 use Rattle.tree.specs.Trusted.Tree.{Node, Edges}
 use Rattle.plan.specs.declared.Key.{Key}

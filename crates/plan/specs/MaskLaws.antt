@@ -11,7 +11,8 @@ use lib.Arith.{bin-ind}
 use lib.Bits.{bitAnd, and-step, and-zero-l, and-block, and-le-l, and-le-r}
 use lib.ListN.{length, getD}
 use lib.Pow.{pow-pos}
-use Rattle.lists.specs.Trusted.Lists.{Every, Inserted, here, there, Mix, neither, left, right}
+use Rattle.lists.specs.Trusted.Lists.{Every, Inserted, here, there}
+use Rattle.lists.specs.Sequences.{Mix, neither, left, right}
 use Rattle.lists.specs.ListLaws.{every-cons, every-head, every-tail, inserted-length}
 use Rattle.cover.specs.Trusted.Cover.{pick}
 use Rattle.plan.specs.Masks.{select, MaskWithin}

@@ -5,7 +5,8 @@ use mathlib.Core.Bool.{Bool}
 use mathlib.Core.List.{List, [], _∷_, _++_}
 use lib.ListN.{length, getD}
 use lib.Pow.{pow-pos}
-use Rattle.lists.specs.Trusted.Lists.{Inserted, Permuted, empty, more, upto}
+use Rattle.lists.specs.Trusted.Lists.{Inserted, Permuted, empty, more}
+use Rattle.lists.specs.Sequences.{upto}
 use Rattle.lists.specs.ListLaws.{permuted-append, permuted-trans}
 use Rattle.lists.specs.MixLaws.{mix-append}
 use Rattle.lists.specs.NumberLaws.{upto-length, upto-at}

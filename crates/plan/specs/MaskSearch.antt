@@ -9,7 +9,8 @@ use mathlib.Core.Logic.{by-cases}
 use mathlib.Core.List.{List, _∷_}
 use lib.ListN.{length, getD}
 use lib.Pow.{pow-pos, pow-lt}
-use Rattle.lists.specs.Trusted.Lists.{Permuted, more, Mix, left}
+use Rattle.lists.specs.Trusted.Lists.{Permuted, more}
+use Rattle.lists.specs.Sequences.{Mix, left}
 use Rattle.lists.specs.ListLaws.{permuted-refl, permuted-sym, permuted-to}
 use Rattle.plan.specs.declared.Key.{Key}
 use Rattle.plan.specs.Key.{leaf-key, _≼_, join}

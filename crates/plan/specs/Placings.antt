@@ -5,7 +5,8 @@ use mathlib.Core.Path.{_≡_, refl, sym, ap, ap₂, _∙_}
 use mathlib.Core.Bool.{Bool, false}
 use mathlib.Core.List.{List, [], _∷_, _++_, append-assoc, append-nil}
 use lib.ListN.{length, getD}
-use Rattle.lists.specs.Trusted.Lists.{Permuted, more, here, there, upto, gather}
+use Rattle.lists.specs.Trusted.Lists.{Permuted, more, here, there, gather}
+use Rattle.lists.specs.Sequences.{upto}
 use Rattle.lists.specs.ListLaws.{permuted-refl, permuted-sym, permuted-trans, permuted-append, permuted-swap, gather-append, gather-permuted, gather-map}
 use Rattle.tree.specs.declared.Kind.{Kind}
 use Rattle.cover.specs.Trusted.Cover.{Cover, net, top, Fanins, end}

@@ -6,7 +6,8 @@ use mathlib.Core.Path.{_≡_, refl, ap, _∙_, subst}
 use mathlib.Core.Bool.{Bool, true, false}
 use mathlib.Core.List.{List, [], _∷_, _++_}
 use lib.ListN.{length}
-use Rattle.lists.specs.Trusted.Lists.{Permuted, upto}
+use Rattle.lists.specs.Trusted.Lists.{Permuted}
+use Rattle.lists.specs.Sequences.{upto}
 use Rattle.lists.specs.ListLaws.{permuted-length}
 use Rattle.lists.specs.MixLaws.{paired-permuted}
 use Rattle.lists.specs.NumberLaws.{upto-length}

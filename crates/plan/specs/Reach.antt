@@ -3,7 +3,8 @@
 use Prim.Native.Nat.{ℕ, _≤_}
 use mathlib.Core.Bool.{Bool}
 use mathlib.Core.List.{List, [], _∷_}
-use Rattle.lists.specs.Trusted.Lists.{Every, Mix}
+use Rattle.lists.specs.Trusted.Lists.{Every}
+use Rattle.lists.specs.Sequences.{Mix}
 use Rattle.tree.specs.declared.Kind.{Kind}
 use Rattle.tree.specs.Trusted.Tree.{Node, leaf, gate, Edges, none, edge}
 use Rattle.plan.specs.declared.Key.{Key}

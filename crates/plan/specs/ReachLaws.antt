@@ -5,7 +5,8 @@ use mathlib.Core.Path.{_≡_}
 use mathlib.Core.List.{List, [], _∷_}
 use native.Mathlib.Omega.{arith}
 use lib.ListN.{length}
-use Rattle.lists.specs.Trusted.Lists.{Permuted, empty, more, here, neither, left, right}
+use Rattle.lists.specs.Trusted.Lists.{Permuted, empty, more, here}
+use Rattle.lists.specs.Sequences.{neither, left, right}
 use Rattle.lists.specs.ListLaws.{every-none, every-cons, every-head, permuted-sym}
 use Rattle.lists.specs.MixLaws.{mix-none, mix-permuted, mix-every}
 use Rattle.tree.specs.declared.Kind.{Kind}

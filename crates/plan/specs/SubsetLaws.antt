@@ -7,7 +7,7 @@ use mathlib.Core.List.{List, [], _∷_}
 use native.Mathlib.Omega.{arith}
 use mathlib.Core.Option.{Option, some, none, Option·getD}
 use lib.ListN.{length}
-use Rattle.lists.specs.Trusted.Lists.{Mix, neither, left, right}
+use Rattle.lists.specs.Sequences.{Mix, neither, left, right}
 use Rattle.lists.specs.ListLaws.{every-none, every-cons, every-head, every-tail}
 use Rattle.lists.specs.MixLaws.{every-mix, mix-every, mix-swap}
 use Rattle.plan.specs.declared.Key.{Key}

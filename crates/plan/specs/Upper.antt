@@ -6,7 +6,8 @@ use mathlib.Core.Bool.{Bool}
 use mathlib.Core.List.{List, [], _∷_, map}
 use native.Mathlib.Omega.{arith}
 use lib.ListN.{length, getD}
-use Rattle.lists.specs.Trusted.Lists.{Permuted, Paired, no-pair, pair, upto}
+use Rattle.lists.specs.Trusted.Lists.{Permuted}
+use Rattle.lists.specs.Sequences.{Paired, no-pair, pair, upto}
 use Rattle.lists.specs.ListLaws.{permuted-refl, permuted-trans, permuted-append}
 use Rattle.lists.specs.MixLaws.{mix-append, paired-mix}
 use Rattle.tree.specs.declared.Kind.{Kind}

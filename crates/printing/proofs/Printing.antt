@@ -15,8 +15,8 @@ use Rattle.lists.specs.TestLaws.{reflects-true}
 use Rattle.lists.specs.Trusted.Checked.{passed, refused}
 use Rattle.decimal.specs.Trusted.Number.{Number, columns}
 use Rattle.decimal.specs.Trusted.Columns.{fieldOf, signedFieldOf}
-use Rattle.decimal.specs.Reading.{numberOfInt}
-use Rattle.decimal.specs.Writing as writing
+use Rattle.decimal.specs.Trusted.Reading.{numberOfInt}
+use Rattle.decimal.specs.Trusted.Writing as writing
 use Rattle.decimal.specs.WritingLaws.{signed-written-at}
 use Rattle.decimal.proofs.SignLaws.{minus-bits, negated-fits}
 use Rattle.decimal.specs.declared.Written.{Written}

@@ -10,7 +10,7 @@ use lib.Seq.{take-all, take-append-le, drop-append-le, length-take-le}
 use Rattle.lists.specs.Cases.{by-leb}
 use Rattle.lists.specs.Trusted.Checked.{passed}
 use Rattle.decimal.specs.Trusted.Number.{columns}
-use Rattle.tree.specs.Leaves.{leaves}
+use Rattle.tree.specs.Measures.{leaves}
 use Rattle.cover.specs.Trusted.CoverTables.{Circuit}
 use Rattle.cover.specs.Nets.{least-bounds}
 use Rattle.sheet.specs.Trusted.Sheet.{DrawnSheet}

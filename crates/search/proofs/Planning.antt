@@ -7,7 +7,7 @@ use mathlib.Core.List.{List}
 use lib.ListN.{length, take}
 use lib.Dec.{T}
 use lib.Pow.{pow-mono, pow-lt}
-use Rattle.lists.specs.Trusted.Lists.{upto}
+use Rattle.lists.specs.Sequences.{upto}
 use Rattle.lists.specs.NumberLaws.{upto-length}
 use Rattle.plan.specs.declared.Key.{Key}
 use Rattle.plan.specs.declared.Plan.{Plan}

@@ -11,7 +11,7 @@ use mathlib.Core.List.{List, [], _∷_, _++_, map-append, append-assoc}
 use lib.ListN.{length, getD, take, length-append, length-set}
 use lib.Seq.{take-suc-set}
 use lib.Pow.{pow-lt}
-use Rattle.lists.specs.Trusted.Lists.{upto}
+use Rattle.lists.specs.Sequences.{upto}
 use Rattle.lists.specs.ListLaws.{permuted-length}
 use Rattle.lists.specs.MixLaws.{mix-append}
 use Rattle.lists.specs.NumberLaws.{upto-length}

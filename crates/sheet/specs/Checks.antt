@@ -8,11 +8,12 @@ use mathlib.Core.Bool.{true, false}
 use mathlib.Core.Option.{Option, none, some}
 use mathlib.Core.List.{List, [], _∷_, _++_, map}
 use lib.ListN.{length, drop}
-use Rattle.lists.specs.Trusted.Lists.{upto, gather}
+use Rattle.lists.specs.Trusted.Lists.{gather}
+use Rattle.lists.specs.Sequences.{upto}
 use Rattle.lists.specs.Trusted.Checked.{Checked, passed, refused, _>>=_, require, given}
 use Rattle.tree.specs.declared.Kind.the-variants.{And as and, Or as or}
 use Rattle.tree.specs.Trusted.Tree.{Node, Edges}
-use Rattle.tree.specs.Leaves.{leaves}
+use Rattle.tree.specs.Measures.{leaves}
 use Rattle.decimal.specs.Trusted.Number.{Number}
 use Rattle.sheet.specs.Trusted.Line.{fields}
 use Rattle.sheet.specs.declared.Source.{Source}

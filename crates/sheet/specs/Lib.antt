@@ -1,5 +1,5 @@
 pub mod Trusted
-pub mod Promise
+pub mod GateTrees
 pub mod NumberLaws
 pub mod ReadLaws
 pub mod RefusalLaws

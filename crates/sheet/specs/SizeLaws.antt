@@ -5,9 +5,10 @@ use mathlib.Core.Path.{_≡_, refl, ap}
 use mathlib.Core.Option.{Option, none, some}
 use mathlib.Core.List.{List, [], _∷_}
 use lib.ListN.{length, take, drop, length-append, length-drop}
-use Rattle.lists.specs.Trusted.Lists.{Every, sum, from}
+use Rattle.lists.specs.Trusted.Lists.{Every, from}
+use Rattle.lists.specs.Sequences.{sum}
 use Rattle.lists.specs.ListLaws.{every-head, every-tail, permuted-length}
-use Rattle.tree.specs.Leaves.{leaves}
+use Rattle.tree.specs.Measures.{leaves}
 use Rattle.lists.specs.Trusted.Checked.{passed}
 use Rattle.lists.specs.CheckedLaws.{Meets, on, meets-any, meets-of, meets-bind, meets-require, meets-given}
 use Rattle.decimal.specs.Trusted.Number.{Number, columns, fieldNumber}

@@ -12,8 +12,9 @@ use Rattle.lists.specs.ListLaws.{every-none, every-cons, every-head, every-tail
 use Rattle.tree.specs.Trusted.Limits.{codeBase}
 use Rattle.lists.specs.Trusted.Checked.{passed}
 use Rattle.tree.specs.declared.Kind.{Kind}
-use Rattle.tree.specs.Trusted.Tree.{Node, leaf, Edges, many, proper, propers}
-use Rattle.tree.specs.Leaves.{leaves, leaves*}
+use Rattle.tree.specs.Trusted.Tree.{Node, leaf, Edges}
+use Rattle.tree.specs.Measures.{many, proper, propers}
+use Rattle.tree.specs.Measures.{leaves, leaves*}
 use Rattle.sheet.specs.Trusted.Limits.{mostLeaves}
 use Rattle.sheet.specs.declared.Source.{Source}
 use Rattle.sheet.specs.declared.Source.the-variants.{Net as net, Gate as gate}
@@ -22,7 +23,8 @@ use Rattle.sheet.specs.Trusted.Sheet.{DrawnGate, DrawnSheet, netOf, gate
 use Rattle.sheet.specs.Trusted.Read.{readSheet}
 use Rattle.sheet.specs.ReadLaws.{read-formed}
 use Rattle.sheet.specs.NumberLaws.{distinct-permuted}
-use Rattle.sheet.specs.Trusted.Trees.{treeAt, nodeOf, edgesOf, treesOf, treeOf, gateTrees, gateTrees*, drawn}
+use Rattle.sheet.specs.Trusted.Trees.{treeAt, nodeOf, edgesOf, treesOf, treeOf, drawn}
+use Rattle.sheet.specs.GateTrees.{gateTrees, gateTrees*}
 use Rattle.sheet.specs.Trusted.Formed.{FaninCount, Earlier, WellFormed}
 use Rattle.cover.specs.Legal.{Legal}
 

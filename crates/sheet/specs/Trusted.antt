@@ -7,3 +7,4 @@ pub mod Values
 pub mod Cut
 pub mod Formed
 pub mod Answers
+pub mod Promise

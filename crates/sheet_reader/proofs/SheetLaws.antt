@@ -21,7 +21,7 @@ use Rattle.sheet.specs.Trusted.Sheet.{DrawnGate, DrawnSheet}
 use Rattle.sheet.specs.Trusted.Read.{isEmpty, Head, Seen, nothing, readLeft, readUnread, headOf, readSheet}
 use Rattle.sheet.specs.Trusted.Cut.{readNext}
 use Rattle.sheet.specs.Trusted.Answers.{numberOf, answered, noSheet}
-use Rattle.sheet.specs.Promise.{nextStep, NextRead}
+use Rattle.sheet.specs.Trusted.Promise.{nextStep, NextRead}
 use Rattle.sheet_reader.specs.Inside.{Comes, GatesHeld, more, readEnd, readFront}
 
 abbrev Gates : Type 0

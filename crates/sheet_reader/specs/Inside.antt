@@ -20,7 +20,7 @@ use Rattle.sheet.specs.Trusted.Limits.{mostGates}
 use Rattle.sheet.specs.Trusted.Line.{line, fields}
 use Rattle.sheet.specs.Trusted.Read.{isEmpty, Head as LineOne, Seen, nothing, readLeft, readUnread, headOf}
 use Rattle.sheet.specs.Trusted.Answers.{numberOf, drawnGates}
-use Rattle.sheet.specs.Promise.{NextRead}
+use Rattle.sheet.specs.Trusted.Promise.{NextRead}
 
 -- ---- the lines of the gates
 

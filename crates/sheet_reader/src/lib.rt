@@ -3,7 +3,7 @@ ghost use mathlib.Core.Path.{_≡_};
 ghost use Prim.Native.Nat.{_≤_};
 ghost use lib.ListN.{length, drop};
 ghost use Rattle.sheet.specs.Trusted.Cut.{readNext};
-ghost use Rattle.sheet.specs.Promise.{SheetRead, NextRead};
+ghost use Rattle.sheet.specs.Trusted.Promise.{SheetRead, NextRead};
 ghost use Rattle.sheet.specs.Trusted.Answers.{noFanins, noGates, noSheet};
 ghost use Rattle.sheet_reader.specs.Inside.{GatesRead, UnreadFound, more, EndRead, readFront};
 use sheet::Edge;

@@ -18,7 +18,7 @@ use Rattle.sheet.specs.CutLaws.{leaving, next-is, text-less}
 use Rattle.sheet.specs.Trusted.Formed.{WellFormed}
 use Rattle.sheet.specs.ReadLaws.{read-formed}
 use Rattle.sheet.specs.Trusted.Answers.{numberOf, drawnSheet, answered}
-use Rattle.sheet.specs.Promise.{NextRead}
+use Rattle.sheet.specs.Trusted.Promise.{NextRead}
 use Rattle.sheet.specs.declared.ReadAnswer.{ReadAnswer as CodeAnswer}
 use Rattle.sheet.specs.declared.ReadAnswer.the-variants.{Accepted as Read, Refused as Misread}
 use Rattle.sheet.specs.declared.Next.{Next}

@@ -1,2 +1,2 @@
 pub mod Trusted
-pub mod Leaves
+pub mod Measures

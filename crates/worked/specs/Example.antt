@@ -6,10 +6,12 @@ use mathlib.Core.Path.{_≡_, refl}
 use mathlib.Core.Bool.{Bool, true, false, not}
 use mathlib.Core.List.{List, [], _∷_}
 use lib.Dec.{eqb}
-use Rattle.lists.specs.Trusted.Lists.{Every, upto, here, there, empty, more}
+use Rattle.lists.specs.Trusted.Lists.{Every, here, there, empty, more}
+use Rattle.lists.specs.Sequences.{upto}
 use Rattle.lists.specs.ListLaws.{every-none, every-cons, permuted-refl}
 use Rattle.tree.specs.declared.Kind.the-variants.{And as and, Or as or}
-use Rattle.tree.specs.Trusted.Tree.{leaf, gate, Edges, none, edge, turned, value}
+use Rattle.tree.specs.Trusted.Tree.{leaf, gate, Edges, none, edge, turned}
+use Rattle.tree.specs.Measures.{value}
 use Rattle.cover.specs.Trusted.Cover.{Cover, net, top, Fanins, end, old, new, same, split, done, match, rooted}
 use Rattle.plan.specs.Key.{key, Way, leaf-key, held, cut, pack, better}
 use Rattle.plan.specs.Subsets.{least-of}

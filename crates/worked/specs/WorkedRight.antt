@@ -9,7 +9,8 @@ use lib.Dec.{T, leb, eqb, leb→le, eqb→eq}
 use Rattle.lists.specs.Cases.{and-split}
 use Rattle.lists.specs.Trusted.Lists.{Every}
 use Rattle.lists.specs.ListLaws.{every-none, every-cons}
-use Rattle.tree.specs.Trusted.Tree.{Node, leaf, gate, proper}
+use Rattle.tree.specs.Trusted.Tree.{Node, leaf, gate}
+use Rattle.tree.specs.Measures.{proper}
 use Rattle.cover.specs.Trusted.Cover.{Least}
 use Rattle.plan.specs.Key.{pack, better}
 use Rattle.plan.specs.Subsets.{least-of}

@@ -1,7 +1,6 @@
 -- A decimal number in the columns of a field (01, "Sheet"): blanks, an optional minus sign, then digits without leading zeros;
 -- "-0" is no number. -- Definitions only.
-use Prim.Native.Nat.{ℕ, _+_, _-_, _*_, _^_, _<_}
-use mathlib.Core.Path.{_≡_}
+use Prim.Native.Nat.{ℕ, _+_, _-_, _*_}
 use mathlib.Core.Bool.{Bool, true, false, cond, _&&_}
 use mathlib.Core.Option.{Option, none, some}
 use mathlib.Core.List.{List, [], _∷_}
@@ -54,8 +53,3 @@ columns = 6
 -- a field fills its columns
 abbrev pub fieldNumber : List ℕ → Option Number
 fieldNumber bs = cond (eqb (length bs) columns) (number bs) none
-
--- what can stand in so many columns; a minus sign takes one
-pub record Within (width : ℕ) (n : Number) : Type 0 where
-  pub size : n .magnitude < 10 ^ width
-  pub sign : n .negative ≡ true → (0 < n .magnitude) × (n .magnitude < 10 ^ (width - 1))

@@ -7,7 +7,7 @@ use mathlib.Core.Path.{_≡_, refl, sym, ap, _∙_}
 use lib.ListN.{length, getD, drop, drop-of-length-le}
 use Rattle.decimal.specs.Trusted.Number.{digits}
 use Rattle.decimal.specs.NumberLaws.{digit-fits}
-use Rattle.decimal.specs.Reading.{parsed}
+use Rattle.decimal.specs.Inside.{parsed}
 use Rattle.decimal_reader.proofs.NumberLaws.{digits-more, digits-low, digits-high, below-five}
 use Rattle.decimal_reader.proofs.digits.Statement.{statement}
 use Rattle.decimal_reader.proofs.digits.Tie as tie

@@ -4,7 +4,7 @@ use mathlib.Core.Path.{_≡_, sym, ap, _∙_}
 use mathlib.Core.Logic.{⊎-elim}
 use lib.ListN.{drop}
 use Rattle.decimal.specs.Trusted.Number.{digits, natural}
-use Rattle.decimal.specs.Reading.{parsed}
+use Rattle.decimal.specs.Inside.{parsed}
 use Rattle.decimal_reader.proofs.NumberLaws.{natural-none, natural-zero, natural-first, natural-last}
 use borrow.Author.Needs.{needs}
 use Rattle.decimal_reader.proofs.natural.Statement.{statement}

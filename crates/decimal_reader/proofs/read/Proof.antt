@@ -1,6 +1,6 @@
 -- `decimal_reader::read` meets its contract: six columns hold what follows the blanks. Assumes nothing.
 use mathlib.Core.Path.{sym, ap, _∙_}
-use Rattle.decimal.specs.Reading.{fieldAnswer}
+use Rattle.decimal.specs.Trusted.Reading.{fieldAnswer}
 use Rattle.decimal_reader.proofs.NumberLaws.{field-signed, field-other}
 use borrow.Author.Needs.{needs}
 use Rattle.decimal_reader.proofs.read.Statement.{statement}

@@ -11,7 +11,7 @@ use mir.Val.{SFits, toZ, ofZ}
 use mir.Facts.{toZ-ofZ}
 use Rattle.decimal.specs.Trusted.Number.{natural, negated, unsigned, signed}
 use Rattle.decimal.specs.NumberLaws.{negated-more}
-use Rattle.decimal.specs.Reading.{fieldAnswer}
+use Rattle.decimal.specs.Trusted.Reading.{fieldAnswer}
 use Rattle.decimal.specs.declared.Field.the-variants.{Value}
 use Rattle.decimal_reader.proofs.NumberLaws.{signed-none, signed-minus, signed-plain, negated-zero, parsed-some, parsed-none, natural-fits}
 use Rattle.decimal.proofs.SignLaws.{minus-bits, negated-fits}

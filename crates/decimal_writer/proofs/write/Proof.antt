@@ -2,7 +2,7 @@
 use mathlib.Core.Path.{sym, ap, _∙_}
 use lib.ListN.{length}
 use Rattle.decimal.specs.Trusted.Columns.{fieldOf}
-use Rattle.decimal.specs.Writing.{writeIf}
+use Rattle.decimal.specs.Trusted.Writing.{writeIf}
 use Rattle.decimal.specs.declared.Written.the-variants.{Done}
 use Rattle.decimal_writer.proofs.WriteLaws.{has-room, no-room}
 use borrow.Author.Needs.{needs}

@@ -6,8 +6,8 @@ use mir.Facts.{toZ-ofZ}
 use borrow.Author.Tests.{not-true, not-false}
 use Rattle.decimal.specs.Trusted.Columns.{fieldOf}
 use Rattle.decimal.specs.ColumnLaws.{field-length}
-use Rattle.decimal.specs.Reading.{numberOfInt}
-use Rattle.decimal.specs.Writing.{signedWritten}
+use Rattle.decimal.specs.Trusted.Reading.{numberOfInt}
+use Rattle.decimal.specs.Trusted.Writing.{signedWritten}
 use Rattle.decimal.specs.declared.Written.the-variants.{Done}
 use Rattle.decimal_writer.proofs.WriteLaws.{plain-written, minus-written, minus-wide}
 use borrow.Author.Needs.{needs}

@@ -5,8 +5,8 @@ use mathlib.Core.Path.{ap, _∙_}
 use borrow.Rule.Slice.PartMut.{midOf}
 use mir.Facts.{toZ-ofZ}
 use Rattle.decimal.specs.Trusted.Columns.{signedRoom, signedFieldOf}
-use Rattle.decimal.specs.Reading.{numberOfInt}
-use Rattle.decimal.specs.Writing.{signedWritten}
+use Rattle.decimal.specs.Trusted.Reading.{numberOfInt}
+use Rattle.decimal.specs.Trusted.Writing.{signedWritten}
 use Rattle.decimal_writer.proofs.PlaceLaws.{place-within, place-past}
 use borrow.Author.Needs.{needs}
 use Rattle.decimal_writer.proofs.write_signed_at.Statement.{statement}

@@ -1,7 +1,7 @@
 use native.Mathlib.Omega.{arith}
 use mathlib.Core.Path.{ap, _∙_}
 use denote.Ref.{now}
-use Rattle.decimal.specs.Writing.{signedWrittenAt}
+use Rattle.decimal.specs.Trusted.Writing.{signedWrittenAt}
 use lib.ListN.{length-set}
 use Rattle.printing.proofs.Printing.{minus-held, minus-number, refusal-out, refusal-in}
 use borrow.Author.Needs.{needs}

@@ -30,16 +30,6 @@ treesOf ts (g ∷ gs) = treesOf (ts ++ (Node.gate (g .kind) (edgesOf ts (g .fani
 abbrev pub treeOf : DrawnSheet → Node
 treeOf s = treeAt (treesOf [] (s .gates)) (length (s .gates))
 
--- the gates that stand in a tree, each as the tree that it is the root of
-abbrev mutual
-  pub gateTrees : Node → List Node
-  gateTrees (Node.leaf n) = []
-  gateTrees (Node.gate k es) = Node.gate k es ∷ gateTrees* es
-
-  pub gateTrees* : Edges → List Node
-  gateTrees* Edges.none = []
-  gateTrees* (Edges.edge i t es) = gateTrees t ++ gateTrees* es
-
 -- the sheet as the theory has it
 abbrev pub drawn : DrawnSheet → Added.Circuit
 drawn s = record { tree = treeOf s; out = s .out; inverted = s .inverted }

@@ -7,7 +7,7 @@ use mathlib.Core.Path.{_≡_, sym, ap, _∙_}
 use mathlib.Core.List.{List}
 use lib.ListN.{length, take, drop, length-drop}
 use Rattle.decimal.specs.Trusted.Number.{columns}
-use Rattle.decimal.specs.Reading.{fieldRead}
+use Rattle.decimal.specs.Trusted.Reading.{fieldRead}
 use Rattle.decimal.specs.ReadingLaws.{read-number, read-none}
 use Rattle.sheet.specs.Trusted.Line.{fields}
 use Rattle.sheet_line.proofs.HeadLaws.{fields-none}

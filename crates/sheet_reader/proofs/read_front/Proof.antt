@@ -7,7 +7,7 @@ use lib.ListN.{length, take, drop}
 use Rattle.sheet.specs.declared.Refusal.the-variants.{Layout}
 use Rattle.sheet.specs.Trusted.Line.{line, fields}
 use Rattle.sheet.specs.Trusted.Read.{headOf}
-use Rattle.sheet.specs.Promise.{NextRead}
+use Rattle.sheet.specs.Trusted.Promise.{NextRead}
 use Rattle.sheet_line.specs.Inside.{cutAt, headStep}
 use Rattle.sheet_reader.proofs.SheetLaws.{next-refused, front-none, front-refused, front-passed}
 use borrow.Author.Needs.{needs}

@@ -1,7 +1,7 @@
 -- `sheet::read_next` meets its contract. Assumes nothing.
 use mathlib.Core.Path.{subst}
 use lib.ListN.{drop}
-use Rattle.sheet.specs.Promise.{NextRead}
+use Rattle.sheet.specs.Trusted.Promise.{NextRead}
 use Rattle.sheet_reader.proofs.SheetLaws.{front-next}
 use borrow.Author.Needs.{needs}
 use Rattle.sheet_reader.proofs.read_next.Statement.{statement}

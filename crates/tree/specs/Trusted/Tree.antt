@@ -1,7 +1,6 @@
--- A fanout-free tree of AND and OR gates over nets: its value, and whether each gate has two fanins or more.
--- Definitions only.
+-- A fanout-free tree of AND and OR gates over nets, and the value of a gate. Definitions only.
 use Prim.Native.Nat.{ℕ}
-use mathlib.Core.Bool.{Bool, true, false, _&&_}
+use mathlib.Core.Bool.{Bool, true, false}
 -- the kinds of gates are those of the code
 use Rattle.tree.specs.declared.Kind.{Kind}
 use Rattle.tree.specs.declared.Kind.the-variants.{And as and, Or as or}
@@ -32,28 +31,3 @@ meet or false b = b
 abbrev pub unit : Kind → Bool
 unit and = true
 unit or = false
-
-abbrev mutual
-  pub value : Node → (ℕ → Bool) → Bool
-  value (leaf n) σ = σ n
-  value (gate k es) σ = values es k σ
-
-  pub values : Edges → Kind → (ℕ → Bool) → Bool
-  values none k σ = unit k
-  values (edge i t es) k σ = meet k (turned i (value t σ)) (values es k σ)
-
--- two fanins or more
-abbrev pub many : Edges → Bool
-many none = false
-many (edge i t none) = false
-many (edge i t (edge j u es)) = true
-
--- each gate has two fanins or more
-abbrev mutual
-  pub proper : Node → Bool
-  proper (leaf n) = true
-  proper (gate k es) = many es && propers es
-
-  pub propers : Edges → Bool
-  propers none = true
-  propers (edge i t es) = proper t && propers es

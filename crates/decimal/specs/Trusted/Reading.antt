@@ -1,18 +1,14 @@
 -- What reading a field answers: the value of the number in its columns, or that they hold none.
--- Internal definitions: the laws are in ReadingLaws.
-use Prim.Native.Nat.{ℕ, _≤_}
-use mathlib.Core.Path.{_≡_}
+-- Definitions only: the laws are in ReadingLaws.
+use Prim.Native.Nat.{ℕ}
 use mathlib.Core.Bool.{not, cond}
 use mathlib.Core.Option.{Option, none, some}
 use mathlib.Core.List.{List}
 use lib.IntN.{ℤ, pos, negℤ, natAbs}
-use lib.ListN.{length, drop}
 use lib.Signed.{nonNeg}
-use Rattle.decimal.specs.Trusted.Number.{Number, signed, number, fieldNumber}
+use Rattle.decimal.specs.Trusted.Number.{Number, fieldNumber}
 use Rattle.decimal.specs.declared.Field.{Field}
 use Rattle.decimal.specs.declared.Field.the-variants.{Value, NoNumber}
-use Rattle.decimal.specs.declared.Parsed.{Parsed}
-use Rattle.decimal.specs.declared.Parsed.the-variants.{Natural, Nothing}
 
 -- a number's value, and the number that has a value
 abbrev pub intOf : Number → ℤ
@@ -28,14 +24,3 @@ fieldAnswer (some n) = Value (intOf n)
 -- what six columns read as; a slice of another length holds no number
 abbrev pub fieldRead : List ℕ → Field
 fieldRead bs = fieldAnswer (fieldNumber bs)
-
--- ---- for the functions inside
-
-abbrev pub parsed : Option ℕ → Parsed
-parsed none = Nothing
-parsed (some n) = Natural n
-
--- so many blanks stand first
-pub record Skipped (bs : List ℕ) (at : ℕ) : Type 0 where
-  pub within : at ≤ length bs
-  pub same : number bs ≡ signed (drop at bs)

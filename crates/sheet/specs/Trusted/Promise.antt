@@ -1,4 +1,4 @@
--- What the readers promise of any text. Internal definitions.
+-- What the readers promise of any text. Definitions only.
 use Prim.Native.Nat.{ℕ, _≤_}
 use mathlib.Core.Path.{_≡_}
 use mathlib.Core.List.{List}

@@ -1,9 +1,9 @@
 -- What writing a number into a field does: the answer, and the bytes after it, for every width and every number.
--- Internal definitions: the laws are in WritingLaws.
-use Prim.Native.Nat.{ℕ, _+_, _-_, _%_, _^_, _≤_, _<_}
-use mathlib.Core.Bool.{Bool, true, false, not, cond, _&&_}
+-- Definitions only: the laws are in WritingLaws.
+use Prim.Native.Nat.{ℕ, _+_}
+use mathlib.Core.Bool.{Bool, true, false, _&&_}
 use mathlib.Core.List.{List}
-use lib.Dec.{leb, eqb}
+use lib.Dec.{leb}
 use lib.ListN.{length}
 use Rattle.decimal.specs.Trusted.Number.{Number}
 use Rattle.decimal.specs.Trusted.Columns.{room, fieldOf, signedRoom, signedFieldOf, withField}
@@ -32,15 +32,3 @@ fieldWrittenAt old at width n = writeIf (leb (at + width) (length old) && room w
 
 abbrev pub signedWrittenAt : List ℕ → ℕ → ℕ → Number → FieldWrite
 signedWrittenAt old at width n = writeIf (leb (at + width) (length old) && signedRoom width n) (withField old at width (signedFieldOf width n)) old
-
--- ---- for the functions inside
-
--- the byte of a column, of which `left` is what stands there and further left
-abbrev pub digitOf : ℕ → Bool → ℕ
-digitOf left last = cond (eqb left 0 && not last) 32 (48 + left % 10)
-
--- how many digits a number has; 0 has one
-pub record DigitCount (n count : ℕ) : Type 0 where
-  pub some : 1 ≤ count
-  pub enough : n < 10 ^ count
-  pub least : 1 < count → 10 ^ (count - 1) ≤ n
