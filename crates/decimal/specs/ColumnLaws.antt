@@ -11,7 +11,8 @@ use lib.Seq.{take-append-seam, drop-append-seam}
 use Rattle.lists.specs.Cases.{by-eqb}
 use Rattle.lists.specs.Trusted.Lists.{Every}
 use Rattle.lists.specs.ListLaws.{every-head, every-tail}
-use Rattle.lists.specs.TestLaws.{Reflects, reflects-lt, reflects-and, by-reflects}
+use Rattle.lists.specs.TestLaws.{reflects-lt, reflects-and, by-reflects}
+use Rattle.lists.specs.Trusted.Tests.{Reflects}
 use Rattle.decimal.specs.Trusted.Columns.{room, column, fieldOf, fieldsOf}
 
 pub reflects-room : (width n : ℕ) → Reflects (room width n) ((0 < width) × (n < 10 ^ width))

@@ -8,7 +8,8 @@ use lib.Dec.{eqb}
 use lib.ListN.{length, length-replicate}
 use Rattle.lists.specs.Trusted.Lists.{Every}
 use Rattle.lists.specs.Trusted.Tests.{elem, within}
-use Rattle.lists.specs.TestLaws.{Reflects, reflects-le, reflects-eq, reflects-any, reflects-elem, reflects-within, by-reflects, by-either}
+use Rattle.lists.specs.TestLaws.{reflects-le, reflects-eq, reflects-any, reflects-elem, reflects-within, by-reflects, by-either}
+use Rattle.lists.specs.Trusted.Tests.{Reflects}
 use Rattle.tree.specs.Trusted.Limits.{codeBase}
 use Rattle.lists.specs.Trusted.Checked.{Checked, passed, refused as unread}
 use Rattle.cover.specs.Trusted.Cover.{Least}

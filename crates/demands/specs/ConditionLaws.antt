@@ -7,7 +7,8 @@ use mathlib.Core.Bool.{Bool, true, false, cond}
 use mathlib.Core.List.{List}
 use lib.Dec.{leb}
 use lib.ListN.{length}
-use Rattle.lists.specs.TestLaws.{Reflects, reflects-le, reflects-true, by-reflects}
+use Rattle.lists.specs.TestLaws.{reflects-le, reflects-true, by-reflects}
+use Rattle.lists.specs.Trusted.Tests.{Reflects}
 use Rattle.lists.specs.Trusted.Checked.{Checked, passed, refused as unwritten}
 use Rattle.cover.specs.Trusted.Cover.{Least}
 use Rattle.plan.specs.Least.{least-unique}

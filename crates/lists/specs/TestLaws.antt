@@ -7,11 +7,7 @@ use mathlib.Core.List.{List, [], _∷_, Memᴰ·cast}
 use lib.Dec.{T, leb, ltb, eqb, leb→le, le→leb, eqb→eq, eqb-refl, T-not, not-T}
 use Rattle.lists.specs.Trusted.Lists.{_∈_, first, later, Every, Pairwise}
 use Rattle.lists.specs.ListLaws.{every-none, every-cons, every-head, every-tail}
-use Rattle.lists.specs.Trusted.Tests.{all, any, elem, pairwise, within, either}
-
-pub record Reflects (b : Bool) (P : Type 0) : Type 0 where
-  pub to : T b → P
-  pub from : P → T b
+use Rattle.lists.specs.Trusted.Tests.{all, any, elem, pairwise, within, either, Reflects}
 
 pub reflects-le : (m n : ℕ) → Reflects (leb m n) (m ≤ n)
 reflects-le m n = record { to = leb→le m n; from = le→leb m n }

@@ -4,7 +4,8 @@ use native.Mathlib.Omega.{arith}
 use mathlib.Core.Path.{_≡_}
 use lib.ListN.{length, drop, length-take}
 use lib.Seq.{length-take-le}
-use Rattle.lists.specs.TestLaws.{Reflects, reflects-le, reflects-map, reflects-and, reflects-all}
+use Rattle.lists.specs.TestLaws.{reflects-le, reflects-map, reflects-and, reflects-all}
+use Rattle.lists.specs.Trusted.Tests.{Reflects}
 use Rattle.table.specs.Trusted.RecordTest.{isBlank}
 use Rattle.table.specs.TestedLaws.{blank-reflects, none-reflects}
 use Rattle.part.specs.declared.Part.{Part}

@@ -38,27 +38,18 @@ use Rattle.part.specs.Trusted.Reading.{readOf}
 use Rattle.part.specs.Trusted.Answers.{Answer, accepted, refused}
 use Rattle.part.specs.Trusted.Add.{extended, isDriven, isRead, Offer, Add}
 use Rattle.part.specs.Trusted.AddAnswers.{addingAnswer}
-use Rattle.part.specs.Storing.{circuitOf, withTable, stored}
+use Rattle.part.specs.Storing.{circuitOf, stored}
 use Rattle.part.specs.declared.Part.{Part}
 use Rattle.part.specs.declared.Adding.{Adding}
 use Rattle.part.specs.declared.Added.{Added}
-use Rattle.part.specs.declared.add.Uses.{Uses}
+use Rattle.part_records.specs.declared.Uses.{Uses}
+use Rattle.part_records.specs.Uses.{withTable}
 
 -- ---- the output net among the records in use
 
 any-map : {A B : Type 0} (f : B → Bool) (g : A → B) (xs : List A) → any f (map g xs) ≡ any (λ x. f (g x)) xs
 any-map f g [] = refl
 any-map f g (x ∷ xs) = ap (λ b. f (g x) || b) (any-map f g xs)
-
--- of a record whose unused inputs are zero, those in use are looked for among all
-elem-zeros : (n : ℕ) → 0 < n → (xs : List ℕ) → AllZero xs → elem n xs ≡ false
-elem-zeros n l [] h = refl
-elem-zeros n l (x ∷ xs) h = ap₂ (λ a b. a || b) (ne-eqb n x (λ e. omega (arith, every-head h))) (elem-zeros n l xs (every-tail h))
-
-pub elem-padded : (n : ℕ) → 0 < n → (k : ℕ) (xs : List ℕ) → AllZero (drop k xs) → elem n xs ≡ elem n (take k xs)
-elem-padded n l zero xs h = elem-zeros n l xs h
-elem-padded n l (suc k) [] h = refl
-elem-padded n l (suc k) (x ∷ xs) h = ap (λ b. eqb n x || b) (elem-padded n l k xs h)
 
 pub used-padded : (p : Part) → Sound p → p .used ≤ length (p .tables) → (i : ℕ) (z : Table) → i < p .used → Padded (getD (p .tables) i z)
 used-padded p s room i z l =

@@ -2,37 +2,18 @@
 ghost use mathlib.Core.Path.{_≡_};
 ghost use Rattle.sheet.specs.Trusted.Answers.{drawnSheet};
 ghost use Rattle.sheet.specs.Trusted.Formed.{WellFormed};
-ghost use Prim.Native.Nat.{_<_};
-ghost use Rattle.table.specs.Trusted.Rules.{Padded};
 ghost use Rattle.part.specs.Trusted.Sound.{Sound};
 ghost use Rattle.part.specs.Trusted.Add.{Offer, Add};
-ghost use Rattle.part.specs.Storing.{circuitOf, withTable};
+ghost use Rattle.part.specs.Storing.{circuitOf};
 ghost use Rattle.part.specs.Trusted.AddAnswers.{addingAnswer};
 use crate::Added;
 use crate::Adding;
 use crate::Part;
 use mapper::map;
+use part_records::Uses;
+use part_records::with_table;
 use sheet::ReadAnswer;
 use sheet::Sheet;
-use table::Table;
-use table_inputs::reads_net;
-
-// What tables do with a net: one drives it, one reads it.
-struct Uses {
-    driven: bool,
-    read: bool,
-}
-
-// The same with one table more. Its unused inputs are zero, so all six are looked at.
-fn with_table(uses: Uses, t: Table, net: u16) -> Uses
-    requires { ⌜ Padded t × (0 < net) ⌝ }
-    ensures { λ r. ⌜ r ≡ withTable uses t net ⌝ }
-{
-    let inputs = t.inputs;
-    let driven = uses.driven | (t.net == net);
-    let read = uses.read | reads_net(inputs, 6, net);
-    Uses { driven, read }
-}
 
 impl Part {
     // The part as it is, and why the sheet was not added.

@@ -7,8 +7,6 @@ ghost use Rattle.part.specs.Trusted.Add.{opened};
 ghost use Rattle.part.specs.Trusted.OpenAnswers.{openingAnswer};
 ghost use Rattle.part.specs.Trusted.SoundTest.{sound as isSound};
 use lists::within;
-use part_records::rest_blank;
-use part_records::rules_kept;
 use sheet::Refusal;
 use table::INPUT_ROOM;
 use table::TABLE_ROOM;
@@ -93,20 +91,7 @@ impl Part {
     pub fn sound(self) -> bool
         ensures { λ r. ⌜ r ≡ isSound self ⌝ }
     {
-        if !within(2, INPUT_ROOM, self.k as u32) {
-            return false;
-        }
-        if !within(1, TABLE_ROOM, self.capacity as u32) {
-            return false;
-        }
-        if self.used > self.capacity {
-            return false;
-        }
         let tables = self.tables;
-        if rules_kept(self.k, self.capacity, self.used, tables) {
-            rest_blank(self.used, tables)
-        } else {
-            false
-        }
+        part_records::sound(self.k, self.capacity, self.used, tables)
     }
 }

@@ -1,19 +1,27 @@
-// The records of a part: those in use keep the rules, and those past them are zero.
+// The records of a part: the test of its soundness, and what its tables do with a net.
 ghost use mathlib.Core.Path.{_≡_};
 ghost use mathlib.Core.List.{[]};
-ghost use Prim.Native.Nat.{_≤_};
+ghost use mathlib.Core.Bool.{_&&_};
+ghost use Prim.Native.Nat.{_≤_, _<_};
+ghost use lib.Dec.{leb};
 ghost use lib.ListN.{take, drop};
 ghost use Rattle.lists.specs.Trusted.Tests.{all};
 ghost use Rattle.table.specs.Trusted.Limits.{tableRoom};
-ghost use Rattle.table.specs.Trusted.RecordTest.{isBlank, isNone, walk};
+ghost use Rattle.table.specs.Trusted.RecordTest.{isBlank, isNone, tested, walk};
+ghost use Rattle.table.specs.Trusted.Rules.{Padded};
+ghost use Rattle.part_records.specs.Uses.{withTable};
+use lists::within;
 use record_rules::is_blank;
+use table::INPUT_ROOM;
+use table::TABLE_ROOM;
 use table::Table;
+use table_inputs::reads_net;
 use table_prefix::after;
 use table_prefix::empty_prefix;
 use table_rules::keeps;
 
 // The records in use keep the rules; no more are in use than the capacity says.
-pub fn rules_kept(k: u8, capacity: u16, used: u16, tables: [Table; 800]) -> bool
+fn rules_kept(k: u8, capacity: u16, used: u16, tables: [Table; 800]) -> bool
     requires { ⌜ (used ≤ capacity) × (used ≤ tableRoom) ⌝ }
     ensures { λ r. ⌜ r ≡ isNone (walk k capacity [] (take used tables)) ⌝ }
 {
@@ -32,7 +40,7 @@ pub fn rules_kept(k: u8, capacity: u16, used: u16, tables: [Table; 800]) -> bool
 }
 
 // The records past those in use are zero.
-pub fn rest_blank(used: u16, tables: [Table; 800]) -> bool
+fn rest_blank(used: u16, tables: [Table; 800]) -> bool
     requires { ⌜ used ≤ tableRoom ⌝ }
     ensures { λ r. ⌜ r ≡ all isBlank (drop used tables) ⌝ }
 {
@@ -45,4 +53,41 @@ pub fn rest_blank(used: u16, tables: [Table; 800]) -> bool
         i += 1;
     }
     true
+}
+
+// K, the capacity, the used count and the records of a part keep 01's five points of soundness, whatever they are.
+pub fn sound(k: u8, capacity: u16, used: u16, tables: [Table; 800]) -> bool
+    ensures { λ r. ⌜ r ≡ (isNone (tested k capacity (take used tables)) && (leb used capacity && all isBlank (drop used tables))) ⌝ }
+{
+    if !within(2, INPUT_ROOM, k as u32) {
+        return false;
+    }
+    if !within(1, TABLE_ROOM, capacity as u32) {
+        return false;
+    }
+    if used > capacity {
+        return false;
+    }
+    if rules_kept(k, capacity, used, tables) {
+        rest_blank(used, tables)
+    } else {
+        false
+    }
+}
+
+// What tables do with a net: one drives it, one reads it.
+pub struct Uses {
+    pub driven: bool,
+    pub read: bool,
+}
+
+// The same with one table more. Its unused inputs are zero, so all six are looked at.
+pub fn with_table(uses: Uses, t: Table, net: u16) -> Uses
+    requires { ⌜ Padded t × (0 < net) ⌝ }
+    ensures { λ r. ⌜ r ≡ withTable uses t net ⌝ }
+{
+    let inputs = t.inputs;
+    let driven = uses.driven | (t.net == net);
+    let read = uses.read | reads_net(inputs, 6, net);
+    Uses { driven, read }
 }

@@ -8,7 +8,8 @@ use lib.ListN.{length, take}
 use lib.Seq.{length-take-le}
 use Rattle.lists.specs.Cases.{and-split}
 use Rattle.lists.specs.Trusted.Tests.{within}
-use Rattle.lists.specs.TestLaws.{Reflects, reflects-le, reflects-map, reflects-and, reflects-all, reflects-within, by-either}
+use Rattle.lists.specs.TestLaws.{reflects-le, reflects-map, reflects-and, reflects-all, reflects-within, by-either}
+use Rattle.lists.specs.Trusted.Tests.{Reflects}
 use Rattle.plan.specs.declared.Key.{Key}
 use Rattle.plan.specs.declared.Plan.{Plan}
 use Rattle.tree.specs.Trusted.Limits.{fewestFanins, mostFanins}

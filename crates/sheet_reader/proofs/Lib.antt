@@ -1,4 +1,1 @@
-pub mod StoreLaws
-pub mod LinesLaws
-pub mod UnreadLaws
 pub mod SheetLaws

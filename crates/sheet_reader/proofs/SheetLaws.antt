@@ -14,7 +14,7 @@ use Rattle.lists.specs.Trusted.Checked.{Checked, passed, refused, _>>=_, requir
 use Rattle.sheet.specs.declared.Refusal.{Refusal}
 use Rattle.sheet.specs.declared.ReadAnswer.{ReadAnswer}
 use Rattle.sheet.specs.declared.ReadAnswer.the-variants.{Accepted, Refused}
-use Rattle.sheet_reader.specs.declared.Lines.{Lines}
+use Rattle.sheet_gates.specs.declared.Lines.{Lines}
 use Rattle.sheet.specs.declared.Next.{Next}
 use Rattle.sheet.specs.Trusted.Line.{line, fields}
 use Rattle.sheet.specs.Trusted.Sheet.{DrawnGate, DrawnSheet}
@@ -22,7 +22,8 @@ use Rattle.sheet.specs.Trusted.Read.{isEmpty, Head, Seen, nothing, readLeft, re
 use Rattle.sheet.specs.Trusted.Cut.{readNext}
 use Rattle.sheet.specs.Trusted.Answers.{numberOf, answered, noSheet}
 use Rattle.sheet.specs.Trusted.Promise.{nextStep, NextRead}
-use Rattle.sheet_reader.specs.Inside.{Comes, GatesHeld, more, readEnd, readFront}
+use Rattle.sheet_gates.specs.Gates.{Comes, GatesHeld}
+use Rattle.sheet_reader.specs.Inside.{more, readEnd, readFront}
 
 abbrev Gates : Type 0
 Gates = List DrawnGate × Seen × List ℕ

@@ -1,13 +1,10 @@
-// The reader of a sheet: its lines from the first to the last, and what is tested after them.
+// The reader of a sheet: its line 1, its gates, and what is tested after them.
 ghost use mathlib.Core.Path.{_≡_};
-ghost use Prim.Native.Nat.{_≤_};
-ghost use lib.ListN.{length, drop};
+ghost use lib.ListN.{drop};
 ghost use Rattle.sheet.specs.Trusted.Cut.{readNext};
 ghost use Rattle.sheet.specs.Trusted.Promise.{SheetRead, NextRead};
-ghost use Rattle.sheet.specs.Trusted.Answers.{noFanins, noGates, noSheet};
-ghost use Rattle.sheet_reader.specs.Inside.{GatesRead, UnreadFound, more, EndRead, readFront};
-use sheet::Edge;
-use sheet::FANIN_ROOM;
+ghost use Rattle.sheet.specs.Trusted.Answers.{noGates, noSheet};
+ghost use Rattle.sheet_reader.specs.Inside.{more, EndRead, readFront};
 use sheet::Gate;
 use sheet::MOST_GATES;
 use sheet::Next;
@@ -15,141 +12,24 @@ use sheet::ReadAnswer;
 use sheet::ReadResult;
 use sheet::Refusal;
 use sheet::Sheet;
-use sheet::Source;
-use sheet_fanin::CODES;
-use sheet_fanin::Fanin;
-use sheet_fanin::read_fanin;
-use sheet_fanin::with_leaf;
+use sheet_gates::Lines;
+use sheet_gates::Unread;
+use sheet_gates::first_unread;
+use sheet_gates::gate_lines;
+use sheet_gates::no_fanins;
+use sheet_gates::no_gate;
 use sheet_line::Ending;
-use sheet_line::Fault;
-use sheet_line::GateLine;
 use sheet_line::LineHead;
 use sheet_line::line_end;
 use sheet_line::read_fields;
-use sheet_line::read_gate_line;
 use sheet_line::read_head;
-use tree::Kind;
 
-// The lines of gates that were read: where they are accepted the gates, their fanins, the place after them, and a flag at each number
-// that was a fanin.
-struct Lines {
-    answer: ReadAnswer,
-    end: usize,
-    gates: [Gate; MOST_GATES],
-    fanins: [Edge; FANIN_ROOM],
-    seen: [bool; CODES],
-}
-
-// No fanins, no gate and no gates: all zero.
-fn no_fanins() -> [Edge; FANIN_ROOM]
-    ensures { λ r. ⌜ r ≡ noFanins ⌝ }
-{
-    let none = Edge {
-        inverted: false,
-        source: Source::Net(0),
-    };
-    [none; FANIN_ROOM]
-}
-
-fn no_gate() -> Gate
-    ensures { λ r. ⌜ r ≡ record { kind = Kind.And; count = 0; first = 0 } ⌝ }
-{
-    Gate {
-        kind: Kind::And,
-        count: 0,
-        first: 0,
-    }
-}
-
+// No gates: all zero.
 fn no_gates() -> [Gate; MOST_GATES]
     ensures { λ r. ⌜ r ≡ noGates ⌝ }
 {
     let none = no_gate();
     [none; MOST_GATES]
-}
-
-fn edge_of(inverted: bool, source: Source) -> Edge
-    ensures { λ r. ⌜ r ≡ record { inverted = inverted; source = source } ⌝ }
-{
-    Edge { inverted, source }
-}
-
-fn gate_of(line: GateLine, first: u16) -> Gate
-    ensures { λ r. ⌜ r ≡ record { kind = line .kind; count = line .count; first = first } ⌝ }
-{
-    let kind = line.kind;
-    Gate {
-        kind,
-        count: line.count,
-        first,
-    }
-}
-
-// The lines of so many gates, from a place on.
-fn gate_lines(text: &[u8], start: usize, out: u16, count: u8) -> Lines
-    requires { ⌜ start ≤ length (now text) ⌝ }
-    ensures { λ r. ⌜ GatesRead (now (text .entry)) start out count r ⌝ }
-{
-    let none = no_gate();
-    let mut gates = [none; MOST_GATES];
-    let mut fanins = no_fanins();
-    let mut used: usize = 0;
-    let mut seen = [false; CODES];
-    let mut leaves: u16 = 0;
-    let mut answer = ReadAnswer::Accepted;
-    let mut end = start;
-    'lines: for g in 0..count as usize {
-        let gate = g as u16 + 1;
-        let line = read_gate_line(text, end);
-        let fault = line.fault;
-        if let Fault::Is(why) = fault {
-            answer = ReadAnswer::Refused(why, gate + 1);
-            break 'lines;
-        }
-        for i in 0..line.count as usize {
-            let x = line.numbers[i + 2];
-            match read_fanin(&seen, leaves, out, gate, x.magnitude) {
-                Fanin::Bad(why) => {
-                    answer = ReadAnswer::Refused(why, gate + 1);
-                    break 'lines;
-                }
-                Fanin::Reads(source) => {
-                    let at = used + i;
-                    fanins[at] = edge_of(x.sign != 0, source);
-                    leaves = with_leaf(leaves, source);
-                    seen[x.magnitude as usize] = true;
-                }
-            }
-        }
-        gates[g] = gate_of(line, used as u16);
-        used += line.count as usize;
-        end = line.end;
-    }
-    Lines {
-        answer,
-        end,
-        gates,
-        fanins,
-        seen,
-    }
-}
-
-// The line of the first gate that is never read, the root left aside.
-enum Unread {
-    First(u16),
-    Nowhere,
-}
-
-fn first_unread(seen: &[bool; CODES], count: u8) -> Unread
-    ensures { λ r. ⌜ UnreadFound (now (seen .entry)) count r ⌝ }
-{
-    let base = tree::CODE_BASE as usize;
-    for g in 1..count as usize {
-        if !seen[base + g] {
-            return Unread::First(g as u16 + 1);
-        }
-    }
-    Unread::Nowhere
 }
 
 fn refused(why: Refusal, line: u16) -> Next

@@ -2,7 +2,7 @@
 use mathlib.Core.Path.{_≡_, sym, subst}
 use mathlib.Core.Bool.{Bool, true, false}
 use lib.Dec.{T}
-use Rattle.lists.specs.TestLaws.{Reflects}
+use Rattle.lists.specs.Trusted.Tests.{Reflects}
 
 module _ {b : Bool} {P : Type 0} where
   pub says-true : Reflects b P → b ≡ true → P

@@ -10,7 +10,8 @@ use lib.ListN.{length, take, drop, length-append, take-append-drop}
 use lib.Seq.{take-append-le, take-append-add}
 use Rattle.lists.specs.ListLaws.{every-none}
 use Rattle.lists.specs.Trusted.Tests.{within}
-use Rattle.lists.specs.TestLaws.{Reflects, reflects-le, reflects-lt, reflects-eq, reflects-map, reflects-not, reflects-and, reflects-or, reflects-all, reflects-elem, reflects-pairwise, reflects-within, by-reflects}
+use Rattle.lists.specs.TestLaws.{reflects-le, reflects-lt, reflects-eq, reflects-map, reflects-not, reflects-and, reflects-or, reflects-all, reflects-elem, reflects-pairwise, reflects-within, by-reflects}
+use Rattle.lists.specs.Trusted.Tests.{Reflects}
 use Rattle.tree.specs.Trusted.Limits.{greatestNet, codeBase}
 use Rattle.table.specs.Trusted.Limits.{inputRoom, tableRoom, KRange, CapacityRange}
 use Rattle.table.specs.Trusted.Records.{reads}

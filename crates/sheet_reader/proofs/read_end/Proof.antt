@@ -5,7 +5,7 @@ use mathlib.Core.Path.{_≡_, sym, ap, ap₂, _∙_}
 use Rattle.lists.specs.Trusted.Checked.{passed}
 use Rattle.sheet.specs.declared.Refusal.the-variants.{Layout, GateUnread}
 use Rattle.sheet.specs.Trusted.Read.{Head}
-use Rattle.sheet_reader.specs.Inside.{unreadStep}
+use Rattle.sheet_gates.specs.Gates.{unreadStep}
 use Rattle.sheet_reader.proofs.SheetLaws.{next-refused, end-refused, went, end-more, end-unread, end-passed}
 use borrow.Author.Needs.{needs}
 use Rattle.sheet_reader.proofs.read_end.Statement.{statement}

@@ -34,7 +34,7 @@ use Rattle.sheet_line.specs.Inside.{valueOf, gateLine, faninNumbers, faultStep,
 use Rattle.sheet_fanin.specs.Fanins.{flagCount, Marked, saw, faninStep, FaninRead}
 use Rattle.sheet_line.proofs.HeadLaws.{zeroValue}
 use Rattle.sheet_fanin.proofs.FaninLaws.{marked-start, marked-more}
-use Rattle.sheet_reader.proofs.StoreLaws.{readCount, read-most, read-more, Below, drawn-same, taken-more, drawn-more, below-more}
+use Rattle.sheet_gates.proofs.StoreLaws.{readCount, read-most, read-more, Below, drawn-same, taken-more, drawn-more, below-more}
 
 abbrev Gates : Type 0
 Gates = List DrawnGate × Seen × List ℕ

@@ -1,4 +1,4 @@
--- `sheet::gate_lines` meets its contract. What is left to read, with what was read put before it, is the same at each line (`AtLine`)
+-- `sheet_gates::gate_lines` meets its contract. What is left to read, with what was read put before it, is the same at each line (`AtLine`)
 -- and at each fanin (`AtFanin`). Assumes nothing.
 use Prim.Native.Nat.{_+_, _-_, _≤_, _<_}
 use native.Mathlib.Omega.{arith}
@@ -6,17 +6,17 @@ use borrow.Author.Needs.{needs}
 use mathlib.Core.Path.{_≡_, refl, sym, ap, subst}
 use lib.ListN.{length, getD, drop, replicate}
 use Rattle.sheet_line.specs.declared.GateLine.{GateLine}
-use Rattle.sheet_reader.specs.declared.Lines.{Lines}
+use Rattle.sheet_gates.specs.declared.Lines.{Lines}
 use Rattle.sheet.specs.Trusted.Limits.{mostGates, faninRoom}
 use Rattle.sheet.specs.Trusted.Read.{nothing, readLeft}
 use Rattle.sheet.specs.Trusted.Answers.{drawnGates, noFanins}
 use Rattle.sheet_fanin.specs.Fanins.{flagCount}
-use Rattle.sheet_reader.specs.Inside.{Comes, GatesHeld}
+use Rattle.sheet_gates.specs.Gates.{Comes, GatesHeld}
 use Rattle.sheet_line.proofs.HeadLaws.{zeroValue}
 use Rattle.sheet_fanin.proofs.FaninLaws.{code-below}
-use Rattle.sheet_reader.proofs.LinesLaws.{AtLine, AtFanin, at-start, line-refused, line-taken, lines-over, fanin-refused, fanin-room, fanin-taken, after-room, gate-taken}
-use Rattle.sheet_reader.proofs.gate_lines.Statement.{statement}
-use Rattle.sheet_reader.proofs.gate_lines.Tie as tie
+use Rattle.sheet_gates.proofs.LinesLaws.{AtLine, AtFanin, at-start, line-refused, line-taken, lines-over, fanin-refused, fanin-room, fanin-taken, after-room, gate-taken}
+use Rattle.sheet_gates.proofs.gate_lines.Statement.{statement}
+use Rattle.sheet_gates.proofs.gate_lines.Tie as tie
 
 abbrev Inv-loop : tie.InvT-loop
 Inv-loop text start out count gates fanins₀ used seen₀ leaves₀ answer₀ end g gate line i₀ g-end i-end fanins seen leaves answer i =

@@ -1,8 +1,8 @@
--- `sheet::no_fanins` meets its contract. Assumes nothing.
+-- `sheet_gates::no_fanins` meets its contract. Assumes nothing.
 use mathlib.Core.Path.{refl}
 use Rattle.sheet.specs.Trusted.Answers.{noFanins}
-use Rattle.sheet_reader.proofs.no_fanins.Statement.{statement}
-use Rattle.sheet_reader.proofs.no_fanins.Tie as tie
+use Rattle.sheet_gates.proofs.no_fanins.Statement.{statement}
+use Rattle.sheet_gates.proofs.no_fanins.Tie as tie
 
 returns : tie.Need-returns
 unfolding noFanins

@@ -6,9 +6,9 @@ use lib.ListN.{length, take}
 use lib.Seq.{take-length}
 use Rattle.lists.specs.Trusted.Tests.{elem}
 use Rattle.table.specs.Trusted.Records.{reads}
-use Rattle.part.specs.StoringLaws.{elem-padded}
-use Rattle.part.proofs.add.with_table.Statement.{statement}
-use Rattle.part.proofs.add.with_table.Tie as tie
+use Rattle.part_records.specs.UseLaws.{elem-padded}
+use Rattle.part_records.proofs.with_table.Statement.{statement}
+use Rattle.part_records.proofs.with_table.Tie as tie
 
 reads-net-requires : tie.Need-reads-net-requires
 reads-net-requires c κs = search needs

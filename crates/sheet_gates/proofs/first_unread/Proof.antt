@@ -1,11 +1,11 @@
--- `sheet::first_unread` meets its contract. The loop's invariant, `Passed`: each gate passed was read. Assumes nothing.
+-- `sheet_gates::first_unread` meets its contract. The loop's invariant, `Passed`: each gate passed was read. Assumes nothing.
 use Prim.Native.Nat.{_-_}
 use native.Mathlib.Omega.{arith}
 use borrow.Author.Needs.{needs}
 use borrow.Author.Tests.{not-true, not-false}
-use Rattle.sheet_reader.proofs.UnreadLaws.{Passed, passed-none, passed-more, passed-first, passed-all}
-use Rattle.sheet_reader.proofs.first_unread.Statement.{statement}
-use Rattle.sheet_reader.proofs.first_unread.Tie as tie
+use Rattle.sheet_gates.proofs.UnreadLaws.{Passed, passed-none, passed-more, passed-first, passed-all}
+use Rattle.sheet_gates.proofs.first_unread.Statement.{statement}
+use Rattle.sheet_gates.proofs.first_unread.Tie as tie
 
 abbrev Inv-loop : tie.InvT-loop
 Inv-loop seen count base g₀ g-end g = Passed seen count g
