@@ -1,14 +1,14 @@
 -- The tests of an output net over the records in use; and the mapping's records as a sheet's tables.
-use Prim.Native.Nat.{ℕ, zero, suc, _+_, _-_, _≤_, _<_}
+use Prim.Native.Nat.{ℕ, suc, _+_, _-_, _≤_, _<_}
 use native.Mathlib.Omega.{arith}
 use mathlib.Core.Path.{_≡_, refl, sym, ap, ap₂, _∙_, subst}
 use mathlib.Core.Bool.{Bool, true, false, _||_, or-assoc, or-false}
 use mathlib.Core.List.{List, [], _∷_, _++_, map}
-use borrow.Author.Tests.{le-leb, lt-leb, ne-eqb}
+use borrow.Author.Tests.{le-leb, lt-leb}
 use lib.Dec.{eqb}
 use lib.ListN.{length, getD, take, drop, length-map}
 use lib.Seq.{length-take-le, getD-take}
-use Rattle.lists.specs.ListLaws.{every-head, every-tail, every-at}
+use Rattle.lists.specs.ListLaws.{every-at}
 use Rattle.lists.specs.Trusted.Tests.{any, elem}
 use Rattle.lists.specs.TestLaws.{reflects-true}
 use Rattle.tree.specs.Trusted.Limits.{codeBase}
@@ -25,7 +25,7 @@ use Rattle.sheet.specs.Trusted.Promise.{SheetRead}
 use Rattle.sheet.specs.Trusted.Trees.{drawn}
 use Rattle.table.specs.declared.Table.{Table}
 use Rattle.table.specs.Trusted.Records.{reads, tableOf, recordOf}
-use Rattle.table.specs.Trusted.Rules.{AllZero, Padded}
+use Rattle.table.specs.Trusted.Rules.{Padded}
 use Rattle.table.specs.LoopLaws.{take-next, take-none}
 use Rattle.mapper_laws.specs.declared.Mapping.{Mapping}
 use Rattle.mapper_laws.specs.CodeRun.{noTable}
