@@ -4,7 +4,7 @@ use native.Mathlib.Omega.{arith}
 use native.Mathlib.Nat.{add-zero}
 use mathlib.Core.Path.{_≡_, refl, sym, ap, _∙_, subst}
 use mathlib.Core.Logic.{_≢_}
-use mathlib.Core.Bool.{Bool, true, false, _||_}
+use mathlib.Core.Bool.{Bool, true, false, _||_, or-assoc, or-false}
 use mathlib.Core.Option.{none, some}
 use mathlib.Core.List.{List, [], _∷_, _++_}
 use lib.Dec.{eqb, ltb}
@@ -63,17 +63,9 @@ or-true : (b : Bool) → (b || true) ≡ true
 or-true true = refl
 or-true false = refl
 
-or-false : (b : Bool) → (b || false) ≡ b
-or-false true = refl
-or-false false = refl
-
 elem-end : (n : ℕ) (xs : List ℕ) (i : ℕ) → elem n (xs ++ (i ∷ [])) ≡ (elem n xs || eqb n i)
 elem-end n [] i = or-false (eqb n i)
-elem-end n (x ∷ xs) i = ap (λ b. eqb n x || b) (elem-end n xs i) ∙ or-assoc (eqb n x) (elem n xs) (eqb n i)
-  where
-    or-assoc : (a b c : Bool) → (a || (b || c)) ≡ ((a || b) || c)
-    or-assoc true b c = refl
-    or-assoc false b c = refl
+elem-end n (x ∷ xs) i = ap (λ b. eqb n x || b) (elem-end n xs i) ∙ sym (or-assoc (eqb n x) (elem n xs) (eqb n i))
 
 -- a flag set is a number more, whatever the size
 flag-in : (base size : ℕ) (flags : List Bool) (xs : List ℕ) (i : ℕ) → base + i < length flags → Flagged base size flags xs →

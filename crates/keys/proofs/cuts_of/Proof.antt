@@ -1,4 +1,4 @@
--- `cover::cuts_of` meets its contract: each way to return is one of the cases of `cuts`. Assumes nothing.
+-- `keys::cuts_of` meets its contract: each way to return is one of the cases of `cuts`. Assumes nothing.
 use Prim.Native.Nat.{_+_, _≤_, _<_, min}
 use native.Mathlib.Omega.{arith}
 use borrow.Author.Tests.{le-leb, lt-leb}

@@ -1,4 +1,4 @@
--- `cover::join` meets its contract: each way to return is one of the three cases of a join. Assumes nothing.
+-- `keys::join` meets its contract: each way to return is one of the three cases of a join. Assumes nothing.
 use native.Mathlib.Omega.{arith}
 use Rattle.plan.specs.KeyLaws.{is-pack}
 use borrow.Author.Needs.{needs}

@@ -1,4 +1,4 @@
--- `cover::precedes` meets its contract. Assumes nothing.
+-- `keys::precedes` meets its contract. Assumes nothing.
 use native.Mathlib.Omega.{arith}
 use borrow.Author.Tests.{ltb-true, ltb-false}
 use Rattle.keys.proofs.precedes.Statement.{statement}

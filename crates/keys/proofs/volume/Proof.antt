@@ -1,4 +1,4 @@
--- `cover::volume` meets its contract. Assumes nothing.
+-- `keys::volume` meets its contract. Assumes nothing.
 use native.Mathlib.Omega.{arith}
 use borrow.Author.Needs.{needs}
 use Rattle.plan.specs.Limits.{mostInputs, mostJoined}

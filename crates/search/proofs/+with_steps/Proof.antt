@@ -1,4 +1,4 @@
--- `cover::with_steps`, which calls itself for the two parts of a mask, meets its contract. The measure is how
+-- `search::with_steps`, which calls itself for the two parts of a mask, meets its contract. The measure is how
 -- many fanins the mask has, so it is at most ten calls deep. Assumes nothing.
 use native.Mathlib.Omega.{arith}
 use Rattle.search.proofs.Writing.{faninCount, split-most, one-able, one-writes, proper-part, fewer, first-writable, second-writable, join-able, join-writes}

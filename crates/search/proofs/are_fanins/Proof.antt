@@ -1,4 +1,4 @@
--- `cover::are_fanins` meets its contract. The invariant: the keys before i pass. The measure is how many are left. Assumes nothing.
+-- `search::are_fanins` meets its contract. The invariant: the keys before i pass. The measure is how many are left. Assumes nothing.
 use Prim.Native.Nat.{_-_, _≤_}
 use mathlib.Core.Path.{_≡_, refl, sym, ap, _∙_}
 use mathlib.Core.Bool.{true}

@@ -1,4 +1,4 @@
--- `cover::best_join` meets its contract. The invariant: the key is made by a submask and is no worse than the join by any submask
+-- `search::best_join` meets its contract. The invariant: the key is made by a submask and is no worse than the join by any submask
 -- passed, and its volume is the bound where the flag says so. The measure is the submask that is next. Assumes nothing.
 use mathlib.Core.Logic.{⊎-elim}
 use mathlib.Core.Path.{_≡_, sym, _∙_}

@@ -1,4 +1,4 @@
--- `cover::best_plan` meets its contract. Assumes nothing.
+-- `search::best_plan` meets its contract. Assumes nothing.
 use mathlib.Core.Path.{_≡_, refl, sym, ap, _∙_}
 use mathlib.Core.Bool.{true}
 use Prim.Native.Nat.{_^_}

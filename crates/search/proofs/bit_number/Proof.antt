@@ -1,4 +1,4 @@
--- `cover::bit_number` meets its contract. The invariant: b is the bit of the number h, and not above the mask. The measure is what
+-- `search::bit_number` meets its contract. The invariant: b is the bit of the number h, and not above the mask. The measure is what
 -- is left up to the mask. Assumes nothing.
 use Prim.Native.Nat.{ℕ, suc, _-_, _^_, _≤_, _<_}
 use native.Mathlib.Omega.{arith}

@@ -1,4 +1,4 @@
--- `cover::fill` meets its contract. The invariant: every mask below s has its entry. The measure is what is left of the masks.
+-- `search::fill` meets its contract. The invariant: every mask below s has its entry. The measure is what is left of the masks.
 -- Assumes nothing.
 use Prim.Native.Nat.{_-_, _^_, _≤_, _<_}
 use mathlib.Core.Path.{_≡_, ap, _∙_}

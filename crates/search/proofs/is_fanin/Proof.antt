@@ -1,4 +1,4 @@
--- `cover::is_fanin` meets its contract. Assumes nothing.
+-- `search::is_fanin` meets its contract. Assumes nothing.
 use borrow.Author.Tests.{le-leb, lt-leb}
 use Rattle.plan.specs.PlanOf.{faninTest}
 use Rattle.search.proofs.is_fanin.Statement.{statement}

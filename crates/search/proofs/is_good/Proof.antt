@@ -1,4 +1,4 @@
--- `cover::is_good` meets its contract: each way to return is settled by the tests before it. Assumes nothing.
+-- `search::is_good` meets its contract: each way to return is settled by the tests before it. Assumes nothing.
 use borrow.Author.Tests.{le-leb, lt-leb}
 use Rattle.plan.specs.PlanOf.{goodInput}
 use borrow.Author.Needs.{needs}

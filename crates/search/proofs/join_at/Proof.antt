@@ -1,4 +1,4 @@
--- `cover::join_at` meets its contract. Assumes nothing.
+-- `search::join_at` meets its contract. Assumes nothing.
 use borrow.Author.Needs.{needs}
 use Rattle.search.proofs.join_at.Statement.{statement}
 use Rattle.search.proofs.join_at.Tie as tie

@@ -1,4 +1,4 @@
--- `cover::join_token` meets its contract. Assumes nothing.
+-- `search::join_token` meets its contract. Assumes nothing.
 use mathlib.Core.Path.{ap}
 use borrow.Author.Needs.{needs}
 use Rattle.plan.specs.declared.Token.the-variants.{Join}

@@ -1,4 +1,4 @@
--- `cover::with_join` meets its contract. Assumes nothing.
+-- `search::with_join` meets its contract. Assumes nothing.
 use borrow.Author.Needs.{needs}
 use Rattle.search.proofs.with_join.Statement.{statement}
 use Rattle.search.proofs.with_join.Tie as tie

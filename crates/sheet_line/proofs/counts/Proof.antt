@@ -1,4 +1,4 @@
--- `sheet::counts` meets its contract. Assumes nothing.
+-- `sheet_line::counts` meets its contract. Assumes nothing.
 use borrow.Author.Needs.{needs}
 use borrow.Author.Tests.{eq-eqb, ne-eqb}
 use Rattle.sheet_line.proofs.counts.Statement.{statement}

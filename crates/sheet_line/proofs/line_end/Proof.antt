@@ -1,4 +1,4 @@
--- `sheet::line_end` meets its contract. The loop's invariant: the line from `start` on is the bytes passed before the line from `i` on.
+-- `sheet_line::line_end` meets its contract. The loop's invariant: the line from `start` on is the bytes passed before the line from `i` on.
 -- Assumes nothing.
 use Prim.Native.Nat.{ℕ, _-_, _≤_, _<_}
 use native.Mathlib.Omega.{arith}

@@ -1,4 +1,4 @@
--- `sheet::read_fields` meets its contract. The loop's invariant, `SoFar`: the fields of the line are the numbers read, and then
+-- `sheet_line::read_fields` meets its contract. The loop's invariant, `SoFar`: the fields of the line are the numbers read, and then
 -- those of the bytes left. Assumes nothing.
 use Prim.Native.Nat.{ℕ, _+_, _-_}
 use native.Mathlib.Omega.{arith}

@@ -1,4 +1,4 @@
--- `sheet::read_gate_line` meets its contract. Assumes nothing.
+-- `sheet_line::read_gate_line` meets its contract. Assumes nothing.
 use Prim.Native.Nat.{ℕ, suc, _+_, _-_, _≤_, _<_}
 use native.Mathlib.Omega.{arith}
 use mathlib.Core.Path.{_≡_, sym, ap, _∙_}

@@ -1,4 +1,4 @@
--- `sheet::read_kind` meets its contract. Assumes nothing.
+-- `sheet_line::read_kind` meets its contract. Assumes nothing.
 use mathlib.Core.Path.{sym, _∙_}
 use borrow.Author.Needs.{needs}
 use Rattle.sheet_line.proofs.read_kind.Statement.{statement}

@@ -1,4 +1,4 @@
--- `sheet::more` meets its contract. Assumes nothing.
+-- `sheet_reader::more` meets its contract. Assumes nothing.
 use borrow.Author.Needs.{needs}
 use Rattle.sheet_reader.proofs.more.Statement.{statement}
 use Rattle.sheet_reader.proofs.more.Tie as tie

@@ -1,4 +1,4 @@
--- `sheet::no_gates` meets its contract. Assumes nothing.
+-- `sheet_reader::no_gates` meets its contract. Assumes nothing.
 use mathlib.Core.Path.{ap}
 use lib.ListN.{replicate}
 use Rattle.sheet.specs.Trusted.Limits.{mostGates}

@@ -1,4 +1,4 @@
--- `sheet::read` meets its contract. Assumes nothing.
+-- `sheet_reader::read` meets its contract. Assumes nothing.
 use mathlib.Core.Path.{sym, ap, _∙_}
 use lib.ListN.{drop}
 use Rattle.lists.specs.Trusted.Checked.{_>>=_}

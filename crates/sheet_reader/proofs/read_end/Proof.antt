@@ -1,4 +1,4 @@
--- `sheet::read_end` meets its contract. Assumes nothing.
+-- `sheet_reader::read_end` meets its contract. Assumes nothing.
 use Prim.Native.Nat.{ℕ, _+_}
 use native.Mathlib.Omega.{arith}
 use mathlib.Core.Path.{_≡_, sym, ap, ap₂, _∙_}

@@ -1,4 +1,4 @@
--- `sheet::read_front` meets its contract. Assumes nothing.
+-- `sheet_reader::read_front` meets its contract. Assumes nothing.
 use Prim.Native.Nat.{_+_, _-_, _≤_, _<_}
 use native.Mathlib.Omega.{arith}
 use mathlib.Core.Path.{_≡_, sym, ap, _∙_, subst}

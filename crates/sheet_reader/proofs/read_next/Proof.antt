@@ -1,4 +1,4 @@
--- `sheet::read_next` meets its contract. Assumes nothing.
+-- `sheet_reader::read_next` meets its contract. Assumes nothing.
 use mathlib.Core.Path.{subst}
 use lib.ListN.{drop}
 use Rattle.sheet.specs.Trusted.Promise.{NextRead}

@@ -1,4 +1,4 @@
--- `sheet::refused` meets its contract. Assumes nothing.
+-- `sheet_reader::refused` meets its contract. Assumes nothing.
 use mathlib.Core.Path.{ap₂}
 use mathlib.Core.Bool.{false}
 use Rattle.sheet.specs.declared.ReadAnswer.the-variants.{Refused}
