@@ -58,11 +58,11 @@ pub fn reason(number: u32) -> Option<&'static str> {
         }
         2 => "K must be from 2 to 6",
         3 => "the capacity must be from 1 to 800",
-        4 => "the output net must be from 1 to 999, with or without a minus sign",
+        4 => "the output net must be from 1 to 9999, with or without a minus sign",
         5 => "the number of gates must be from 1 to 255",
         6 => "the kind must be 1 (AND) or 2 (OR)",
         7 => "the fanin count must be from 2 to 10",
-        8 => "a fanin is neither a net (1 to 999) nor an earlier gate (1000 plus its number)",
+        8 => "a fanin is neither a net (1 to 9999) nor an earlier gate (10000 plus its number)",
         9 => "a gate is read a second time",
         10 => "a net stands at a second leaf",
         11 => "the sheet's output net is one of its leaves",

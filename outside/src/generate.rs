@@ -162,7 +162,8 @@ fn post_order(tree: &Tree, gates: &mut Vec<Vec<Option<usize>>>) -> Option<usize>
     Some(gates.len() - 1)
 }
 
-/// The nets of an input: outputs are taken from one part of them, leaves from the other and from the nets driven.
+/// The nets of an input: outputs are taken from one part of them, leaves from the other and from the nets driven. For one input in four
+/// they are the greatest that there are.
 struct Nets {
     outputs: Vec<u16>,
     leaves: Vec<u16>,
@@ -170,9 +171,10 @@ struct Nets {
 
 impl Nets {
     fn new(rng: &mut Rng, leaves: usize) -> Nets {
-        let mut outputs: Vec<u16> = (1..=NETS as u16).collect();
-        rng.shuffle(&mut outputs);
-        let leaves = outputs.split_off(outputs.len() - leaves);
+        let count = leaves + TABLES + 1; // a net for each sheet of a full part, and one
+        let least = if rng.once_in(4) { NETS as u16 - count as u16 + 1 } else { 1 };
+        let mut outputs = rng.draw((least..=NETS as u16).collect(), count);
+        let leaves = outputs.split_off(TABLES + 1);
         Nets { outputs, leaves }
     }
 
@@ -387,7 +389,7 @@ fn damage_opening(rng: &mut Rng, input: &mut Input) {
 /// For 4 and 5.
 fn damage_head(rng: &mut Rng, sheet: &mut Lines) {
     match rng.below(4) {
-        0 => sheet[0][0] = *rng.pick(&[0, 1000, -1000, 1001, 999_999, -99_999]),
+        0 => sheet[0][0] = *rng.pick(&[0, NETS, -NETS, CODES, -CODES, CODES + 1, 999_999, -99_999]),
         1 => sheet[0][1] = *rng.pick(&[0, 256, -1, 999_999]),
         2 => sheet[0][1] += 1,
         _ => sheet[0][1] = (sheet[0][1] - 1).max(1),
@@ -425,12 +427,12 @@ fn damage_count(rng: &mut Rng, sheet: &mut Lines) {
     }
     let gate = &mut sheet[*rng.pick(&lines)];
     match rng.below(6) {
-        0 => gate[0] = *rng.pick(&[0, 3, -1, -2, 1001]),
+        0 => gate[0] = *rng.pick(&[0, 3, -1, -2, CODES + 1]),
         1 => gate[0] = 3 - gate[0],
         2 => gate[1] = *rng.pick(&[0, 1, 11, -2, 999_999]),
         3 => gate[1] = rng.between(2, 10) as i64,
         4 => gate.truncate(rng.between(1, gate.len())),
-        _ => gate.push(rng.between(1, 999) as i64),
+        _ => gate.push(rng.between(1, NETS as usize) as i64),
     }
 }
 
@@ -461,13 +463,13 @@ fn damage_fanin(rng: &mut Rng, sheet: &mut Lines) {
     let line = *rng.pick(&lines);
     let other = *rng.pick(&lines);
     let fanin = match rng.below(8) {
-        0 => *rng.pick(&[0, 1000, 1256, 2000, 99_999]),
+        0 => *rng.pick(&[0, 1, NETS, CODES, CODES + GATES as i64, CODES + GATES as i64 + 1, 20_000, 99_999]),
         1 => CODES + line as i64,
         2 => CODES + rng.between(line.min(GATES), GATES + 1) as i64,
         3 | 4 => CODES + rng.between(1, line) as i64,
         5 => sheet[0][0],
         6 => *rng.pick(&sheet[other][2..]),
-        _ => rng.between(1, 999) as i64,
+        _ => rng.between(1, NETS as usize) as i64,
     };
     let place = rng.between(2, sheet[line].len() - 1);
     sheet[line][place] = sign(rng, fanin);

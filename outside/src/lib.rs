@@ -1,4 +1,5 @@
-//! An independent implementation of Pailinstant's paper 01, written from the paper alone: it shares nothing with the proved code.
+//! An independent implementation of Pailinstant's paper 01 and the change requests of 02, written from the papers alone: it shares nothing
+//! with the proved code.
 //!
 //! `program::map` answers a whole input as the mapping program has to. 01 leaves free which least cover is taken and in which order
 //! its tables stand, so another mapper's list is not compared with ours: `check::check_list` tests it against the input.
@@ -25,9 +26,9 @@ pub mod text;
 pub mod tool;
 
 /// The greatest net.
-pub const NETS: i64 = 999;
+pub const NETS: i64 = 9_999;
 /// Gate g is the fanin `CODES + g`, table t the input `CODES + t`.
-pub const CODES: i64 = 1000;
+pub const CODES: i64 = 10_000;
 /// The most gates of a sheet.
 pub const GATES: usize = 255;
 /// The most leaves of a sheet.

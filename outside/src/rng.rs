@@ -47,4 +47,13 @@ impl Rng {
             items.swap(i, self.below(i + 1));
         }
     }
+
+    /// So many of the items, each as likely as another, in any order.
+    pub fn draw<T>(&mut self, mut items: Vec<T>, count: usize) -> Vec<T> {
+        for i in 0..count {
+            items.swap(i, self.between(i, items.len() - 1));
+        }
+        items.truncate(count);
+        items
+    }
 }

@@ -11,7 +11,7 @@ const INPUT: &str = "     4     8
     20     3
      2     2     1     2
      2     2     3     4
-     1     2  1001  1002
+     1     2 10001 10002
    -21     1
      1     2    20    -5
 ";
@@ -26,6 +26,15 @@ fn the_example() {
     assert_eq!(print(INPUT.as_bytes()), PRINTED);
     assert_eq!(check_list(INPUT.as_bytes(), PRINTED.as_bytes()), Ok(()));
     assert_eq!(check_output(INPUT.as_bytes(), PRINTED.as_bytes()), Ok(()));
+}
+
+/// 01's example as 01 prints it, in the codes from before request 102: 1001 and 1002 are nets, so that gate 1, on line 2, is never read.
+#[test]
+fn the_example_in_old_codes() {
+    let old = INPUT.replace(" 10001 10002", "  1001  1002");
+    assert_ne!(old, INPUT);
+    assert_eq!(refused(&old), Refusal::new(13, 1, 2));
+    assert_eq!(print(&input(2, 8, &one_gate(20, 1, &[1001, -1000])).into_bytes()), "     2     8     1\n     1    20     2  1000  1001                    4\n");
 }
 
 /// Every other byte in place of any byte of the example's list, and every cut and every added byte, is found.
@@ -72,7 +81,7 @@ fn one_wide_and() {
 
 #[test]
 fn and_of_two_ors() {
-    let sheet = line(&[99, 3]) + &gate(2, &[1, 2]) + &gate(2, &[3, 4]) + &gate(1, &[1001, 1002]);
+    let sheet = line(&[99, 3]) + &gate(2, &[1, 2]) + &gate(2, &[3, 4]) + &gate(1, &[10001, 10002]);
     assert_eq!(tables(4, &sheet), 1);
     assert_eq!(truth(4, &sheet), [61152]);
     assert_eq!(tables(3, &sheet), 2);
@@ -80,14 +89,14 @@ fn and_of_two_ors() {
 
 #[test]
 fn or_of_an_and_of_five_and_two_leaves() {
-    let sheet = line(&[99, 2]) + &gate(1, &[1, 2, 3, 4, 5]) + &gate(2, &[1001, 6, 7]);
+    let sheet = line(&[99, 2]) + &gate(1, &[1, 2, 3, 4, 5]) + &gate(2, &[10001, 6, 7]);
     assert_eq!(tables(4, &sheet), 2);
 }
 
 #[test]
 fn or_of_five_ands() {
     let ands = [gate(1, &[1, 2, 3]), gate(1, &[4, 5]), gate(1, &[6, 7]), gate(1, &[8, 9]), gate(1, &[10, 11])].concat();
-    let sheet = line(&[99, 6]) + &ands + &gate(2, &[1001, 1002, 1003, 1004, 1005]);
+    let sheet = line(&[99, 6]) + &ands + &gate(2, &[10001, 10002, 10003, 10004, 10005]);
     assert_eq!(tables(5, &sheet), 3);
     assert_eq!(tables(4, &sheet), 4);
 }
@@ -96,14 +105,14 @@ fn or_of_five_ands() {
 fn and_of_three_gates() {
     for kind in [1, 2] {
         let three = [gate(kind, &[1, 2, 3]), gate(kind, &[4, 5, 6]), gate(kind, &[7, 8, 9])].concat();
-        let sheet = line(&[99, 4]) + &three + &gate(1, &[1001, 1002, 1003]);
+        let sheet = line(&[99, 4]) + &three + &gate(1, &[10001, 10002, 10003]);
         assert_eq!(tables(5, &sheet), 3);
     }
 }
 
 #[test]
 fn the_longest_chain() {
-    let sheet = chain(999, 255);
+    let sheet = chain(9999, 255);
     assert_eq!(tables(6, &sheet), 51);
     assert_eq!(tables(2, &sheet), 255);
 }

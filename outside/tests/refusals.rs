@@ -46,7 +46,7 @@ fn the_opening_line() {
 #[test]
 fn fields() {
     let with = |field: &str| input(4, 8, &format!("    99     1\n     1     2{field}     7\n"));
-    for good in ["     1", "    -1", "   999", "  -999"] {
+    for good in ["     1", "    -1", "  1001", " -1255", "  9999", " -9999"] {
         assert!(read(with(good).as_bytes()).is_ok(), "{good:?}");
     }
     for bad in [
@@ -55,7 +55,7 @@ fn fields() {
     ] {
         assert_eq!(refused(&with(bad)), Refusal::new(1, 1, 2), "{bad:?}");
     }
-    for out in ["     0", "  1000", "999999", "-99999", "  1256", "  1001"] {
+    for out in ["     0", " 10000", "-10000", " 10001", "-10001", " 10255", "-10255", " 10256", "-10256", "999999", "-99999"] {
         assert_eq!(refused(&with(out)), Refusal::new(8, 1, 2), "{out:?}");
     }
 }
@@ -81,7 +81,7 @@ fn lines() {
 
 #[test]
 fn line_one() {
-    for net in [0, 1000, -1000, 999999] {
+    for net in [0, 10000, -10000, 10001, -10001, 999999] {
         refuses(&line(&[net, 1]), 4, 1);
     }
     for gates in [0, 256, -1, 999999] {
@@ -108,24 +108,24 @@ fn kind_and_fanin_count() {
 #[test]
 fn fanins() {
     let two = line(&[99, 3]) + &gate(1, &[1, 2]);
-    refuses(&(two.clone() + &gate(1, &[1002, 3])), 8, 3);
-    refuses(&(two.clone() + &gate(1, &[1003, 3])), 8, 3);
-    refuses(&(two.clone() + &gate(1, &[1001, -1001])), 9, 3);
-    refuses(&(two.clone() + &gate(1, &[3, 4]) + &gate(1, &[1001, 1002, 1001])), 9, 4);
-    refuses(&(two.clone() + &gate(1, &[1001, -2])), 10, 3);
+    refuses(&(two.clone() + &gate(1, &[10002, 3])), 8, 3);
+    refuses(&(two.clone() + &gate(1, &[10003, 3])), 8, 3);
+    refuses(&(two.clone() + &gate(1, &[10001, -10001])), 9, 3);
+    refuses(&(two.clone() + &gate(1, &[3, 4]) + &gate(1, &[10001, 10002, 10001])), 9, 4);
+    refuses(&(two.clone() + &gate(1, &[10001, -2])), 10, 3);
     refuses(&(two.clone() + &gate(1, &[3, 3])), 10, 3);
-    refuses(&(two.clone() + &gate(1, &[1001, -99])), 11, 3);
+    refuses(&(two.clone() + &gate(1, &[10001, -99])), 11, 3);
     refuses(&one_gate(-99, 1, &[1, 99]), 11, 2);
     refuses(&(two.clone() + &gate(1, &[0, 1])), 8, 3);
     refuses(&(two.clone() + &gate(1, &[1, 0])), 10, 3);
     refuses(&(two.clone() + &gate(1, &[99, 1])), 11, 3);
-    refuses(&(two + &gate(1, &[99, 1001, 1001])), 11, 3);
+    refuses(&(two + &gate(1, &[99, 10001, 10001])), 11, 3);
     refuses(&one_gate(99, 1, &[99, 99]), 11, 2);
 }
 
 /// A chain with 255 leaves at gates 1 to 254, and a last gate.
 fn last_gate(fanins: &[i64]) -> String {
-    let full = chain(999, 254).replace("   999   254\n", "   999   255\n");
+    let full = chain(9999, 254).replace("  9999   254\n", "  9999   255\n");
     full + &gate(1, fanins)
 }
 
@@ -137,15 +137,15 @@ fn the_257th_leaf() {
     refuses(&last_gate(&[500, 0, 501]), 8, 256);
     refuses(&last_gate(&[500, 500]), 10, 256);
     refuses(&last_gate(&[500, -1]), 10, 256);
-    refuses(&last_gate(&[500, 999]), 11, 256);
-    refuses(&last_gate(&[500, -999]), 11, 256);
+    refuses(&last_gate(&[500, 9999]), 11, 256);
+    refuses(&last_gate(&[500, -9999]), 11, 256);
 }
 
 #[test]
 fn a_gate_never_read() {
     let sheet = text(&[&[99, 3], &[1, 2, 1, 2], &[1, 2, 3, 4], &[1, 2, 5, 6]]);
     refuses(&sheet, 13, 2);
-    let second = text(&[&[99, 3], &[1, 2, 1, 2], &[1, 2, 3, 4], &[1, 2, 1001, 6]]);
+    let second = text(&[&[99, 3], &[1, 2, 1, 2], &[1, 2, 3, 4], &[1, 2, 10001, 6]]);
     refuses(&second, 13, 3);
     refuses_lent(&second, 13, 3);
     refuses_lent(&(second.clone() + " "), 1, 5);

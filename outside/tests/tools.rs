@@ -50,7 +50,7 @@ fn a_drawing() {
         assert!(gates.lines().any(|drawn| drawn == line), "{line} in {gates}");
     }
     let list =
-        "     2     8     2\n     1     0     2     1     2                    2\n     2    99     2     3  1001                    7\n";
+        "     2     8     2\n     1     0     2     1     2                    2\n     2    99     2     3 10001                    7\n";
     let tables = draw(list.as_bytes()).expect("a drawing");
     for line in ["  t1 [shape=box, label=\"table 1\\n2\"];", "  t1 -> t2;", "  3 -> t2;", "  t2 -> 99;"] {
         assert!(tables.lines().any(|drawn| drawn == line), "{line} in {tables}");

@@ -7,7 +7,7 @@ use outside::check::check_output;
 use outside::part::{Part, Table};
 
 /// 01's example: 20 = AND(OR(1, 2), OR(3, 4)), and 21 = NOT AND(20, NOT 5).
-const EXAMPLE: &[&[i64]] = &[&[4, 8], &[20, 3], &[2, 2, 1, 2], &[2, 2, 3, 4], &[1, 2, 1001, 1002], &[-21, 1], &[1, 2, 20, -5]];
+const EXAMPLE: &[&[i64]] = &[&[4, 8], &[20, 3], &[2, 2, 1, 2], &[2, 2, 3, 4], &[1, 2, 10001, 10002], &[-21, 1], &[1, 2, 20, -5]];
 
 fn table(net: u16, inputs: &[u16], truth: u64) -> Table {
     Table { net, inputs: inputs.to_vec(), truth }
@@ -36,7 +36,7 @@ fn the_right_list() {
 
 #[test]
 fn one_table_for_each_gate() {
-    let gates = [table(0, &[1, 2], 14), table(0, &[3, 4], 14), table(20, &[1001, 1002], 8)];
+    let gates = [table(0, &[1, 2], 14), table(0, &[3, 4], 14), table(20, &[10001, 10002], 8)];
     assert!(!taken(&list(4, 8, &[&gates[..], &[second()]].concat())));
 }
 
@@ -95,9 +95,9 @@ fn sheets_in_another_order() {
 /// Where the AND's root table takes four inputs, the OR needs a table of its own: three tables in place of two.
 #[test]
 fn the_width_forgotten() {
-    let input = input(4, 8, &(line(&[99, 2]) + &gate(1, &[1, 2, 3, 4, 5]) + &gate(2, &[1001, 6, 7])));
-    let three = [table(0, &[1, 2], 8), table(0, &[3, 4, 5, 1001], 32768), table(99, &[6, 7, 1002], 254)];
-    let two = [table(0, &[1, 2, 3, 4], 32768), table(99, &[5, 6, 7, 1001], 65276)];
+    let input = input(4, 8, &(line(&[99, 2]) + &gate(1, &[1, 2, 3, 4, 5]) + &gate(2, &[10001, 6, 7])));
+    let three = [table(0, &[1, 2], 8), table(0, &[3, 4, 5, 10001], 32768), table(99, &[6, 7, 10002], 254)];
+    let two = [table(0, &[1, 2, 3, 4], 32768), table(99, &[5, 6, 7, 10001], 65276)];
     assert!(check_output(input.as_bytes(), list(4, 8, &three).as_bytes()).is_err());
     assert_eq!(check_output(input.as_bytes(), list(4, 8, &two).as_bytes()), Ok(()));
 }
@@ -106,9 +106,9 @@ fn the_width_forgotten() {
 #[test]
 fn only_wide_gates_split() {
     let ands = [gate(1, &[1, 2, 3]), gate(1, &[4, 5]), gate(1, &[6, 7]), gate(1, &[8, 9]), gate(1, &[10, 11])].concat();
-    let input = input(5, 8, &(line(&[99, 6]) + &ands + &gate(2, &[1001, 1002, 1003, 1004, 1005])));
+    let input = input(5, 8, &(line(&[99, 6]) + &ands + &gate(2, &[10001, 10002, 10003, 10004, 10005])));
     let two = |a, b| table(0, &[a, b], 8);
-    let or = table(99, &[1001, 1002, 1003, 1004, 1005], 0xffff_fffe);
+    let or = table(99, &[10001, 10002, 10003, 10004, 10005], 0xffff_fffe);
     let six = [table(0, &[1, 2, 3], 128), two(4, 5), two(6, 7), two(8, 9), two(10, 11), or];
     assert!(check_output(input.as_bytes(), list(5, 8, &six).as_bytes()).is_err());
 }
@@ -117,8 +117,8 @@ fn only_wide_gates_split() {
 #[test]
 fn inverted_twice() {
     let input = input(2, 8, &(line(&[99, 1]) + &gate(1, &[1, 2, 3])));
-    let upright = [table(0, &[1, 2], 8), table(99, &[3, 1001], 8)];
-    let inverted = [table(0, &[1, 2], 7), table(99, &[3, 1001], 2)];
+    let upright = [table(0, &[1, 2], 8), table(99, &[3, 10001], 8)];
+    let inverted = [table(0, &[1, 2], 7), table(99, &[3, 10001], 2)];
     assert_eq!(check_output(input.as_bytes(), list(2, 8, &upright).as_bytes()), Ok(()));
     assert!(check_output(input.as_bytes(), list(2, 8, &inverted).as_bytes()).is_err());
 }
@@ -127,10 +127,10 @@ fn inverted_twice() {
 #[test]
 fn gates_joined() {
     let ands = [gate(1, &[1, 2, 3]), gate(1, &[4, 5, 6]), gate(1, &[7, 8, 9])].concat();
-    let input = input(5, 8, &(line(&[99, 4]) + &ands + &gate(1, &[1001, 1002, 1003])));
-    let two = [table(0, &[1, 2, 3, 4, 5], 1 << 31), table(99, &[6, 7, 8, 9, 1001], 1 << 31)];
-    let across = [table(0, &[1, 4], 8), table(0, &[2, 3, 5, 6, 1001], 1 << 31), table(99, &[7, 8, 9, 1002], 1 << 15)];
-    let drawn = [table(0, &[1, 2, 3], 1 << 7), table(0, &[4, 5, 6], 1 << 7), table(99, &[7, 8, 9, 1001, 1002], 1 << 31)];
+    let input = input(5, 8, &(line(&[99, 4]) + &ands + &gate(1, &[10001, 10002, 10003])));
+    let two = [table(0, &[1, 2, 3, 4, 5], 1 << 31), table(99, &[6, 7, 8, 9, 10001], 1 << 31)];
+    let across = [table(0, &[1, 4], 8), table(0, &[2, 3, 5, 6, 10001], 1 << 31), table(99, &[7, 8, 9, 10002], 1 << 15)];
+    let drawn = [table(0, &[1, 2, 3], 1 << 7), table(0, &[4, 5, 6], 1 << 7), table(99, &[7, 8, 9, 10001, 10002], 1 << 31)];
     assert!(check_output(input.as_bytes(), list(5, 8, &two).as_bytes()).is_err());
     assert!(check_output(input.as_bytes(), list(5, 8, &across).as_bytes()).is_err());
     assert_eq!(check_output(input.as_bytes(), list(5, 8, &drawn).as_bytes()), Ok(()));

@@ -1,5 +1,5 @@
 """The expected output of the program part_test: the user's scope paper (01), sections "Part", "List" and the tables of refusals,
-written down once more from the paper alone, with nothing shared with crates/. CASES.md has the answers worked out by hand.
+with the nets and codes of request 102, written down once more from the papers alone, with nothing shared with crates/. CASES.md has the answers worked out by hand.
 
 An add reads its sheet by tests/sheet/model.py, and has its least number of tables from tests/cover/exhaustive.py.
 
@@ -27,6 +27,7 @@ def load(path):
 
 
 SHEET, COVER = load("sheet/model.py"), load("cover/exhaustive.py")
+CODES = 10000  # gate g is CODES + g in a fanin, table t CODES + t in a table's input (request 102)
 
 
 class Record:
@@ -45,12 +46,12 @@ class Part:
 
 
 def is_net(code):
-    return 1 <= code <= 999
+    return 1 <= code <= SHEET.NETS
 
 
 def table_named(code):
-    """t for the input 1000 + t, where t is a table's number; else None."""
-    return code - 1000 if 1001 <= code <= 1000 + RECORDS else None
+    """t for the input CODES + t, where t is a table's number; else None."""
+    return code - CODES if 1 <= code - CODES <= RECORDS else None
 
 
 def opened(k, capacity):
@@ -77,7 +78,7 @@ def keeps_rules(tables, k):
     for t, table in enumerate(tables, 1):
         if any(table.inputs[table.u :]):
             return False  # an unused input is not zero
-        if not 0 <= table.net <= 999:
+        if not 0 <= table.net <= SHEET.NETS:
             return False
         if not 2 <= table.u <= k:
             return False
@@ -165,15 +166,15 @@ def tables(k, used, lines):
         code = abs(code)
         if is_net(code):
             return code
-        return 1000 + number[code - 1000] if code - 1000 in number else None
+        return CODES + number[code - CODES] if code - CODES in number else None
 
     def inputs(gate):
         _, _, *fanins = gates[gate - 1]
-        return [code for fanin in fanins for code in ([input_of(fanin)] if input_of(fanin) else inputs(abs(fanin) - 1000))]
+        return [code for fanin in fanins for code in ([input_of(fanin)] if input_of(fanin) else inputs(abs(fanin) - CODES))]
 
     def value(gate, given):
         kind, _, *fanins = gates[gate - 1]
-        values = [(given[input_of(f)] if input_of(f) else value(abs(f) - 1000, given)) != (f < 0) for f in fanins]
+        values = [(given[input_of(f)] if input_of(f) else value(abs(f) - CODES, given)) != (f < 0) for f in fanins]
         return all(values) if kind == AND else any(values)
 
     records = []

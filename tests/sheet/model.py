@@ -1,5 +1,5 @@
 """The expected output of the program sheet_test: the reading of a sheet as the user's scope paper (01) has it in "Sheet" and "Turned
-down because of the input", from the paper alone.
+down because of the input", with the nets and codes of request 102, from the papers alone.
 
 Run: python3 tests/sheet/model.py > crates/sheet_test/stdout
 """
@@ -10,7 +10,8 @@ import sys
 
 CRATE = pathlib.Path(__file__).parents[2] / "crates/sheet_test"
 NUMBER = re.compile(rb" *(-?[1-9][0-9]*|0)")  # blanks, an optional minus sign, digits without leading zeros, and no "-0"
-FIRST_GATE = 1001
+NETS = 9999
+FIRST_GATE = 10001
 
 
 class Refused(Exception):
@@ -35,7 +36,7 @@ def read(text, at, whole):
     if len(head) != 2:
         raise Refused(1, 1)
     out, gates = head
-    if not 1 <= abs(out) <= 999:
+    if not 1 <= abs(out) <= NETS:
         raise Refused(4, 1)
     if not 1 <= gates <= 255:
         raise Refused(5, 1)
@@ -52,7 +53,7 @@ def read(text, at, whole):
         if len(fanins) != count:
             raise Refused(1, gate + 1)
         for code in map(abs, fanins):
-            if 1 <= code <= 999:
+            if 1 <= code <= NETS:
                 if code in leaves:
                     raise Refused(10, gate + 1)
                 if code == abs(out):

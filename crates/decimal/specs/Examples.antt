@@ -16,15 +16,17 @@ plus n = some (record { negative = false; magnitude = n })
 minus : ℕ → Option Number
 minus n = some (record { negative = true; magnitude = n })
 
--- "     0", "   -10", "999999", "-99999"
+-- "     0", "   -10", "999999", "-99999", and the widest codes of fanins and table inputs (request 102), "-10255" and " 10800"
 numbers-read :
     map fieldNumber (
     (32 ∷ 32 ∷ 32 ∷ 32 ∷ 32 ∷ 48 ∷ []) ∷
     (32 ∷ 32 ∷ 32 ∷ 45 ∷ 49 ∷ 48 ∷ []) ∷
     (57 ∷ 57 ∷ 57 ∷ 57 ∷ 57 ∷ 57 ∷ []) ∷
     (45 ∷ 57 ∷ 57 ∷ 57 ∷ 57 ∷ 57 ∷ []) ∷
+    (45 ∷ 49 ∷ 48 ∷ 50 ∷ 53 ∷ 53 ∷ []) ∷
+    (32 ∷ 49 ∷ 48 ∷ 56 ∷ 48 ∷ 48 ∷ []) ∷
     [])
-    ≡ plus 0 ∷ minus 10 ∷ plus 999999 ∷ minus 99999 ∷ []
+    ≡ plus 0 ∷ minus 10 ∷ plus 999999 ∷ minus 99999 ∷ minus 10255 ∷ plus 10800 ∷ []
 unfolding plus minus
 numbers-read = refl
 
@@ -59,6 +61,12 @@ signs-written :
     map (λ v. signedFieldOf 4 (numberOfInt v)) (negsuc 0 ∷ negsuc 119 ∷ pos 5 ∷ [])
     ≡ (32 ∷ 32 ∷ 45 ∷ 49 ∷ []) ∷ (45 ∷ 49 ∷ 50 ∷ 48 ∷ []) ∷ (32 ∷ 32 ∷ 32 ∷ 53 ∷ []) ∷ []
 signs-written = refl
+
+-- -10255 and 10800 in six columns
+codes-written :
+    map (λ v. signedFieldOf 6 (numberOfInt v)) (negsuc 10254 ∷ pos 10800 ∷ [])
+    ≡ (45 ∷ 49 ∷ 48 ∷ 50 ∷ 53 ∷ 53 ∷ []) ∷ (32 ∷ 49 ∷ 48 ∷ 56 ∷ 48 ∷ 48 ∷ []) ∷ []
+codes-written = refl
 
 sign-room : map (λ v. signedRoom 4 (numberOfInt v)) (negsuc 998 ∷ negsuc 999 ∷ pos 9999 ∷ pos 10000 ∷ []) ≡ true ∷ false ∷ true ∷ false ∷ []
 sign-room = refl

@@ -9,6 +9,7 @@ use Rattle.lists.specs.Trusted.Lists.{Every, here}
 use Rattle.lists.specs.ListLaws.{every-none, every-cons, permuted-refl}
 use Rattle.lists.specs.Trusted.Checked.{passed, _>>=_, require, given}
 use Rattle.tree.specs.declared.Kind.the-variants.{And as and, Or as or}
+use Rattle.tree.specs.Trusted.Limits.{codeBase}
 use Rattle.tree.specs.Trusted.Tree.{leaf, gate, none, edge}
 use Rattle.cover.specs.Trusted.Cover.{Cover, net, top, end, old, Rooted, rooted, tables, CoverOf, Least, same, split, done, match}
 use Rattle.cover.specs.Trusted.Tables.{LookupTable}
@@ -38,7 +39,7 @@ abbrev second : Circuit
 second = record { tree = gate and (edge false (leaf 20) (edge true (leaf 5) none)); out = 21; inverted = true }
 
 abbrev first-text : List ℕ
-first-text = bytes "    20     3\n     2     2     1     2\n     2     2     3     4\n     1     2  1001  1002\n"
+first-text = bytes "    20     3\n     2     2     1     2\n     2     2     3     4\n     1     2 10001 10002\n"
 
 abbrev second-text : List ℕ
 second-text = bytes "   -21     1\n     1     2    20    -5\n"
@@ -90,7 +91,7 @@ least-1 = record { some = (_, cover-1, refl); none-fewer = λ c h. one-table c (
 least-2 : Least 4 (second .tree) 1
 least-2 = record { some = (_, cover-2, refl); none-fewer = λ c h. one-table c (h .root) }
 
-added-1 : LeastCoverTables 1000 4 [] table-1 first
+added-1 : LeastCoverTables codeBase 4 [] table-1 first
 added-1 = record {
   added = record {
     cover = _;
@@ -102,7 +103,7 @@ added-1 = record {
   fewest = least-1;
 }
 
-added-2 : LeastCoverTables 1000 4 table-1 table-2 second
+added-2 : LeastCoverTables codeBase 4 table-1 table-2 second
 added-2 = record {
   added = record {
     cover = _;

@@ -100,7 +100,7 @@ table-line-only t r s xs ys l f g e = (same-record r s (b .0) (c .0) (inputs-sam
 
 -- ---- a part in its lines
 
--- a net or the name of a table has at most four digits
+-- a net or the name of a table fits the columns of a field
 inputs-small : (p : Part) → Sound p → Every (λ r. Every (λ x. x < 10 ^ 6) (reads r)) (inUse p)
 inputs-small p h r m x i = ⊎-elim (λ n. omega (arith, n .1)) named (h .rules .coded r m .1 x i)
   where

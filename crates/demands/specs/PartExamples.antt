@@ -87,22 +87,27 @@ runs =
     ((4, 8, (made 9 (1 ∷ []) 1 ∷ [])), bad 1) ∷
     -- an unused input that is not zero
     ((4, 8, (record { net = 9; count = 2; inputs = 1 ∷ 2 ∷ 3 ∷ 0 ∷ 0 ∷ 0 ∷ []; truth = 8 } ∷ [])), bad 1) ∷
-    -- a net driven above 999
-    ((4, 8, (made 1000 (1 ∷ 2 ∷ []) 8 ∷ [])), bad 1) ∷
-    -- inputs 0 and 1000
+    -- a net driven above 9999
+    ((4, 8, (made 10000 (1 ∷ 2 ∷ []) 8 ∷ [])), bad 1) ∷
+    -- inputs 0 and 10000
     ((4, 8, (made 9 (0 ∷ 2 ∷ []) 8 ∷ [])), bad 1) ∷
-    ((4, 8, (made 9 (1 ∷ 1000 ∷ []) 8 ∷ [])), bad 1) ∷
+    ((4, 8, (made 9 (1 ∷ 10000 ∷ []) 8 ∷ [])), bad 1) ∷
+    -- nets 1001 and 9999, and what names table 800 or none
+    ((4, 8, (made 9999 (1001 ∷ 9998 ∷ []) 8 ∷ [])), none) ∷
+    ((4, 8, (made 9998 (1001 ∷ 9999 ∷ []) 8 ∷ [])), none) ∷
+    ((4, 8, (made 9 (1 ∷ 10800 ∷ []) 8 ∷ [])), bad 1) ∷
+    ((4, 8, (made 9 (1 ∷ 10801 ∷ []) 8 ∷ [])), bad 1) ∷
     -- inputs that do not rise
     ((4, 8, (made 9 (2 ∷ 2 ∷ []) 8 ∷ [])), bad 1) ∷
     -- a truth table of 2^(2^u)
     ((4, 8, (made 9 (1 ∷ 2 ∷ []) 16 ∷ [])), bad 1) ∷
     ((4, 8, (made 9 (1 ∷ 2 ∷ []) 15 ∷ [])), none) ∷
     -- table 1 is read by itself; by an earlier one; by a later one
-    ((4, 8, (made 0 (1 ∷ 1001 ∷ []) 8 ∷ [])), bad 1) ∷
-    ((4, 8, (made 9 (1 ∷ 1002 ∷ []) 8 ∷ made 0 (2 ∷ 3 ∷ []) 8 ∷ [])), bad 1) ∷
-    ((4, 8, (made 0 (2 ∷ 3 ∷ []) 8 ∷ made 9 (1 ∷ 1001 ∷ []) 8 ∷ [])), none) ∷
+    ((4, 8, (made 0 (1 ∷ 10001 ∷ []) 8 ∷ [])), bad 1) ∷
+    ((4, 8, (made 9 (1 ∷ 10002 ∷ []) 8 ∷ made 0 (2 ∷ 3 ∷ []) 8 ∷ [])), bad 1) ∷
+    ((4, 8, (made 0 (2 ∷ 3 ∷ []) 8 ∷ made 9 (1 ∷ 10001 ∷ []) 8 ∷ [])), none) ∷
     -- a table that drives a net is read as a table
-    ((4, 8, (made 8 (2 ∷ 3 ∷ []) 8 ∷ made 9 (1 ∷ 1001 ∷ []) 8 ∷ [])), bad 2) ∷
+    ((4, 8, (made 8 (2 ∷ 3 ∷ []) 8 ∷ made 9 (1 ∷ 10001 ∷ []) 8 ∷ [])), bad 2) ∷
     -- a net driven twice
     ((4, 8, (one ∷ made 20 (6 ∷ 7 ∷ []) 8 ∷ [])), bad 2) ∷
     -- a net read and later driven is found at its driver

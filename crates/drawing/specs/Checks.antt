@@ -25,7 +25,7 @@ Drawing = String × DrawnSheet
 -- the two of the paper, and one with the greatest net, the most fanins and an inverted gate
 abbrev pub drawings : List Drawing
 drawings = (
-  "    20     3\n     2     2     1     2\n     2     2     3     4\n     1     2  1001  1002\n",
+  "    20     3\n     2     2     1     2\n     2     2     3     4\n     1     2 10001 10002\n",
   record {
     out = 20;
     inverted = false;
@@ -41,9 +41,9 @@ drawings = (
       record { out = 21; inverted = true; gates = record { kind = and; fanins = up (net 20) ∷ down (net 5) ∷ [] } ∷ [] },
     )
     ∷ (
-      "   999     2\n     2    10     1     2     3     4     5     6     7     8     9   -10\n     1     2 -1001    11\n",
+      "  9999     2\n     2    10     1     2     3     4     5     6     7     8     9   -10\n     1     2-10001    11\n",
       record {
-        out = 999;
+        out = 9999;
         inverted = false;
         gates =
             record { kind = or; fanins = map (λ n. up (net n)) (1 ∷ 2 ∷ 3 ∷ 4 ∷ 5 ∷ 6 ∷ 7 ∷ 8 ∷ 9 ∷ []) ++ (down (net 10) ∷ []) }

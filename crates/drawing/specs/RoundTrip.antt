@@ -1,5 +1,5 @@
 -- READING WHAT WAS WRITTEN GIVES THE SHEET BACK: a well-formed sheet passes each test of the reading.
-use Prim.Native.Nat.{ℕ, suc, _+_, _-_, _≤_, _<_}
+use Prim.Native.Nat.{ℕ, suc, _+_, _-_, _^_, _≤_, _<_}
 use native.Mathlib.Omega.{arith}
 use mathlib.Core.Path.{_≡_, refl, sym, ap, ap₂, _∙_}
 use mathlib.Core.Bool.{Bool, true, false, not}
@@ -47,7 +47,7 @@ on-given o number place f e h = ap (λ p. given p number place >>= f) e ∙ h
 
 -- ---- what is written has room in its field
 
-small : (b : Bool) (n : ℕ) → 1 ≤ n → n ≤ 9999 → Within columns (signedNumber b n)
+small : (b : Bool) (n : ℕ) → 1 ≤ n → n < 10 ^ 5 → Within columns (signedNumber b n)
 small b n l u = record { size = omega arith; sign = λ e. (l, omega arith) }
 
 source-small : (g : ℕ) (b : Bool) (s : Source) → g ≤ mostGates → Every Net (netOf s) → Every (Before g) (gateOf s) → Within columns (signedNumber b (codeOf s))

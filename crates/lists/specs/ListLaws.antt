@@ -152,3 +152,9 @@ pub drop-past : {A : Type 0} (n : ℕ) (xs : List A) → length xs ≤ n → dro
 drop-past n [] l = drop-nil n
 drop-past zero (x ∷ xs) l = absurd (omega arith)
 drop-past (suc n) (x ∷ xs) l = drop-past n xs (omega arith)
+
+-- within a list it does not matter what stands past its end
+pub getD-any : {A : Type 0} (xs : List A) (i : ℕ) (y z : A) → i < length xs → getD xs i y ≡ getD xs i z
+getD-any [] i y z h = absurd (omega arith)
+getD-any (x ∷ xs) zero y z h = refl
+getD-any (x ∷ xs) (suc i) y z h = getD-any xs i y z (omega arith)

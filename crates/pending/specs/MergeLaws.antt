@@ -1,5 +1,5 @@
 -- Laws of the steps of a merge: what each loop adds in a turn, and what the whole makes.
-use Prim.Native.Nat.{ℕ, zero, suc, _+_, _-_, _*_, _/_, _%_, _^_, _≤_, _<_, min, max}
+use Prim.Native.Nat.{ℕ, zero, suc, _+_, _-_, _*_, _/_, _%_, _^_, _≤_, _<_}
 use native.Mathlib.Nat.{add-zero}
 use native.Mathlib.Numerals.{add-one}
 use native.Mathlib.Omega.{arith}
@@ -7,7 +7,7 @@ use mathlib.Core.Path.{_≡_, refl, sym, ap, ap₂, _∙_, subst}
 use mathlib.Core.Logic.{_≢_}
 use mathlib.Core.Bool.{Bool, true, false, not, cond}
 use mathlib.Core.List.{List, [], _∷_, _++_, map, map-append}
-use lib.Bits.{bitAnd, bitOr, bitXor, differ, and-step, or-step, xor-step, mask-lt}
+use lib.Bits.{bitAnd, bitXor, mask-lt}
 use lib.Dec.{eqb}
 use lib.ListN.{length, getD, take, drop, set, replicate, length-append, length-map, length-set, length-take, length-replicate}
 use lib.Pow.{pow-pos, pow-mono, shl-exact, shr-shr, ones-split, high, ones-lt}
@@ -22,7 +22,7 @@ use Rattle.tree.specs.declared.Kind.the-variants.{And as and, Or as or}
 use Rattle.tree.specs.Trusted.Tree.{turned, meet}
 use Rattle.cover.specs.Trusted.Bits.{bit, digit, truthOf, index, place}
 use Rattle.cover.specs.Trusted.Tables.{output, tabled}
-use Rattle.cover.specs.BitLaws.{bit-shift, bit-truthOf, truthOf-lt, truthOf-only}
+use Rattle.cover.specs.BitLaws.{bit-shift, bit-truthOf, truthOf-lt, truthOf-only, bit-and, bit-xor, bit-zero}
 use Rattle.table.specs.Trusted.Limits.{inputRoom}
 use Rattle.table.specs.declared.Table.{Table}
 use Rattle.table.specs.Trusted.Records.{reads, tableOf, recordOf}
@@ -65,51 +65,6 @@ place-low c n xs l = omega (arith, place-le c (take n xs), length-take n xs)
 bit-column : (p row : ℕ) → row < 64 → bit (columnOf p) row ≡ bit row p
 unfolding columnOf
 bit-column p row l = bit-truthOf (λ i. bit i p) 64 row l
-
-two-digits : (P : ℕ → ℕ → Type 0) → P 0 0 → P 0 1 → P 1 0 → P 1 1 → (x y : ℕ) → x < 2 → y < 2 → P x y
-two-digits P a b c d zero zero l m = a
-two-digits P a b c d zero (suc zero) l m = b
-two-digits P a b c d (suc zero) zero l m = c
-two-digits P a b c d (suc zero) (suc zero) l m = d
-two-digits P a b c d zero (suc (suc y)) l m = absurd (omega arith)
-two-digits P a b c d (suc zero) (suc (suc y)) l m = absurd (omega arith)
-two-digits P a b c d (suc (suc x)) y l m = absurd (omega arith)
-
--- `f` does on digits what `g` does on bits
-abbrev Agree : (ℕ → ℕ → ℕ) → (Bool → Bool → Bool) → ℕ → ℕ → Type 0
-Agree f g x y = (f x y < 2) × (eqb (f x y) 1 ≡ g (eqb x 1) (eqb y 1))
-
--- an operation on words that goes digit by digit
-module _ (op f : ℕ → ℕ → ℕ) (g : Bool → Bool → Bool) (step : (a b : ℕ) → op a b ≡ op (a / 2) (b / 2) * 2 + f (a % 2) (b % 2))
-    (agree : (x y : ℕ) → x < 2 → y < 2 → Agree f g x y) where
-  bit-op : (a b i : ℕ) → bit (op a b) i ≡ g (bit a i) (bit b i)
-  bit-op a b zero =
-      let h = agree (a % 2) (b % 2) (omega arith) (omega arith) in
-      let e : op a b % 2 ≡ f (a % 2) (b % 2) = omega (arith, step a b) in
-      ap (λ k. eqb k 1) e ∙ h .1
-  bit-op a b (suc i) =
-      let h = agree (a % 2) (b % 2) (omega arith) (omega arith) in
-      let e : op a b / 2 ≡ op (a / 2) (b / 2) = omega (arith, step a b) in
-      ap (λ k. bit k i) e ∙ bit-op (a / 2) (b / 2) i
-
-pub bit-and : (a b i : ℕ) → bit (bitAnd a b) i ≡ meet and (bit a i) (bit b i)
-bit-and =
-    bit-op bitAnd min (meet and) and-step
-    (two-digits (Agree min (meet and)) (omega arith, refl) (omega arith, refl) (omega arith, refl) (omega arith, refl))
-
-pub bit-or : (a b i : ℕ) → bit (bitOr a b) i ≡ meet or (bit a i) (bit b i)
-bit-or =
-    bit-op bitOr max (meet or) or-step
-    (two-digits (Agree max (meet or)) (omega arith, refl) (omega arith, refl) (omega arith, refl) (omega arith, refl))
-
-bit-xor : (a b i : ℕ) → bit (bitXor a b) i ≡ turned (bit a i) (bit b i)
-bit-xor =
-    bit-op bitXor differ turned xor-step
-    (two-digits (Agree differ turned) (omega arith, refl) (omega arith, refl) (omega arith, refl) (omega arith, refl))
-
-bit-zero : (i : ℕ) → bit 0 i ≡ false
-bit-zero zero = refl
-bit-zero (suc i) = bit-zero i
 
 turned-not : (b : Bool) → turned true b ≡ not b
 turned-not true = refl

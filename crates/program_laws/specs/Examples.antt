@@ -17,7 +17,7 @@ use Rattle.program_laws.specs.Trusted.Runs.{firstRefusal, Texts, end, st
 
 -- 01's example
 abbrev first-text : List ℕ
-first-text = bytes "    20     3\n     2     2     1     2\n     2     2     3     4\n     1     2  1001  1002\n"
+first-text = bytes "    20     3\n     2     2     1     2\n     2     2     3     4\n     1     2 10001 10002\n"
 
 abbrev second-text : List ℕ
 second-text = bytes "   -21     1\n     1     2    20    -5\n"

@@ -52,11 +52,11 @@ pub fn write(number: u32, out: &mut [u8]) -> usize
         the line is missing, has no line feed, has a wrong number of fields or a field that is not laid out, or follows the last line\n\
         K must be from 2 to 6\n\
         the capacity must be from 1 to 800\n\
-        the output net must be from 1 to 999, with or without a minus sign\n\
+        the output net must be from 1 to 9999, with or without a minus sign\n\
         the number of gates must be from 1 to 255\n\
         the kind must be 1 (AND) or 2 (OR)\n\
         the fanin count must be from 2 to 10\n\
-        a fanin is neither a net (1 to 999) nor an earlier gate (1000 plus its number)\n\
+        a fanin is neither a net (1 to 9999) nor an earlier gate (10000 plus its number)\n\
         a gate is read a second time\n\
         a net stands at a second leaf\n\
         the sheet's output net is one of its leaves\n\

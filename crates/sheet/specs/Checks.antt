@@ -75,7 +75,7 @@ lines-right = refl
 -- ---- the paper's two sheets
 
 abbrev first : String
-first = "    20     3\n     2     2     1     2\n     2     2     3     4\n     1     2  1001  1002\n"
+first = "    20     3\n     2     2     1     2\n     2     2     3     4\n     1     2 10001 10002\n"
 
 abbrev second : String
 second = "   -21     1\n     1     2    20    -5\n"
@@ -164,8 +164,10 @@ cases =
     ∷ ("     0     0     0\n", refused 1 1)
     -- 4 before 5
     ∷ ("     0     1\n", refused 4 1)
-    ∷ ("  1000     0\n", refused 4 1)
-    ∷ ("  -999     0\n", refused 5 1)
+    ∷ (" 10000     0\n", refused 4 1)
+    ∷ ("-10001     0\n", refused 4 1)
+    ∷ ("  9999     0\n", refused 5 1)
+    ∷ (" -9999     0\n", refused 5 1)
     ∷ ("     1   256\n", refused 5 1)
     ∷ ("     1    -1\n", refused 5 1)
     -- 1: a gate's line missing, unended, badly laid out, with one field
@@ -184,23 +186,27 @@ cases =
     ∷ ("     9     1\n     1     2     0     0     0\n", refused 1 2)
     -- 8: zero, the base, the gate itself, a number above all gates; not an earlier gate
     ∷ ("     9     1\n     1     2     1     0\n", refused 8 2)
-    ∷ ("     9     1\n     1     2     1  1000\n", refused 8 2)
-    ∷ ("     9     1\n     1     2     1 -1001\n", refused 8 2)
-    ∷ ("     9     1\n     1     2     1  1256\n", refused 8 2)
-    ∷ ("     9     2\n     1     2     1     2\n     1     2 -1001  1002\n", refused 8 3)
+    ∷ ("     9     1\n     1     2     1 10000\n", refused 8 2)
+    ∷ ("     9     1\n     1     2     1-10001\n", refused 8 2)
+    ∷ ("     9     1\n     1     2     1-10255\n", refused 8 2)
+    ∷ ("     9     1\n     1     2     1 10256\n", refused 8 2)
+    ∷ ("     9     2\n     1     2     1     2\n     1     2-10001 10002\n", refused 8 3)
     -- fanins from left to right
     ∷ ("     9     1\n     1     3     1    -1     0\n", refused 10 2)
     ∷ ("     9     1\n     1     3     1     0    -1\n", refused 8 2)
     -- 9, 10, 11
-    ∷ ("     9     2\n     1     2     1     2\n     1     2  1001 -1001\n", refused 9 3)
-    ∷ ("     9     2\n     1     2     1     2\n     1     2  1001    -2\n", refused 10 3)
+    ∷ ("     9     2\n     1     2     1     2\n     1     2 10001-10001\n", refused 9 3)
+    ∷ ("     9     2\n     1     2     1     2\n     1     2 10001    -2\n", refused 10 3)
     ∷ ("    -9     1\n     1     2     1    -9\n", refused 11 2)
     -- 1 for bytes after the last line, before 13
     ∷ ("     9     1\n     1     2     1     2\n\n", refused 1 3)
     ∷ ("     9     2\n     1     2     1     2\n     1     2     3     4\n ", refused 1 4)
     -- 13: the lowest gate
     ∷ ("     9     2\n     1     2     1     2\n     1     2     3     4\n", refused 13 2)
-    ∷ ("     9     4\n     1     2     1     2\n     1     2     3     4\n     1     2     5     6\n     1     2  1001     7\n", refused 13 3)
+    ∷ ("     9     4\n     1     2     1     2\n     1     2     3     4\n     1     2     5     6\n     1     2 10001     7\n", refused 13 3)
+    -- what was a code before request 102 is a net: 1001 to 9999, and so the first sheet in the old codes never reads its first gate
+    ∷ ("     9     1\n     1     2 -1001  9999\n", passed (record { out = 9; inverted = false; gates = record { kind = and; fanins = down (net 1001) ∷ up (net 9999) ∷ [] } ∷ [] }))
+    ∷ ("    20     3\n     2     2     1     2\n     2     2     3     4\n     1     2  1001  1002\n", refused 13 2)
     ∷ []
 
 pub cases-right : map (λ (c : Case). readSheet (bytes (c .0))) cases ≡ map (λ (c : Case). c .1) cases
@@ -215,7 +221,7 @@ three n = 32 ∷ 32 ∷ 32 ∷ (48 + n / 100) ∷ (48 + n / 10 % 10) ∷ (48 + n
 abbrev tens : ℕ → List ℕ
 tens g = bytes "     1    10" ++ gather (λ i. three (100 + 10 * g + i)) (upto 10) ++ (10 ∷ [])
 
-pub leaf-257 : readSheet (bytes "   999    27\n" ++ gather tens (upto 26)) ≡ refused 12 27
+pub leaf-257 : readSheet (bytes "  9999    27\n" ++ gather tens (upto 26)) ≡ refused 12 27
 unfolding _>>=_ require given
 leaf-257 = refl
 
@@ -223,11 +229,11 @@ leaf-257 = refl
 abbrev seven : ℕ → List ℕ
 seven n = bytes "     1     7" ++ gather (λ i. three (350 + i)) (upto 6) ++ three n ++ (10 ∷ [])
 
-pub leaf-256 : readSheet (bytes "   999    27\n" ++ gather tens (upto 25) ++ bytes "     1     6" ++ gather (λ i. three (350 + i)) (upto 6) ++ (10 ∷ [])) ≡ refused 1 28
+pub leaf-256 : readSheet (bytes "  9999    27\n" ++ gather tens (upto 25) ++ bytes "     1     6" ++ gather (λ i. three (350 + i)) (upto 6) ++ (10 ∷ [])) ≡ refused 1 28
 unfolding _>>=_ require given
 leaf-256 = refl
 
-pub leaf-257-again : readSheet (bytes "   999    27\n" ++ gather tens (upto 25) ++ seven 100) ≡ refused 10 27
+pub leaf-257-again : readSheet (bytes "  9999    27\n" ++ gather tens (upto 25) ++ seven 100) ≡ refused 10 27
 unfolding _>>=_ require given
 leaf-257-again = refl
 
@@ -239,13 +245,13 @@ leaf-257-out = refl
 
 -- the line of gate g + 1, which reads net g + 101 and gate g
 abbrev link : ℕ → List ℕ
-link g = bytes "     1     2" ++ three (101 + g) ++ bytes "  1" ++ drop 3 (three g) ++ (10 ∷ [])
+link g = bytes "     1     2" ++ three (101 + g) ++ bytes " 10" ++ drop 3 (three g) ++ (10 ∷ [])
 
 -- the numbers of gates and of leaves
 abbrev sizes : Checked DrawnSheet → ℕ × ℕ
 sizes (passed s) = (length (s .gates), length (leaves (treeOf s)))
 sizes (refused number place) = (0, 0)
 
-pub chain-read : sizes (readSheet (bytes "   999   255\n     1     2   100   101\n" ++ gather link (drop 1 (upto 255)))) ≡ (255, 256)
+pub chain-read : sizes (readSheet (bytes "  9999   255\n     1     2   100   101\n" ++ gather link (drop 1 (upto 255)))) ≡ (255, 256)
 unfolding _>>=_ require given
 chain-read = refl

@@ -6,14 +6,15 @@ ghost use Rattle.sheet.specs.Trusted.Read.{sourceOf};
 ghost use Rattle.sheet.specs.Trusted.Limits.{mostGates, mostLeaves};
 ghost use Rattle.sheet.specs.Trusted.Sheet.{netOf};
 ghost use Rattle.sheet_fanin.specs.Fanins.{sourceStep, FaninRead};
+use flags::flag;
 use lists::within;
 use sheet::MOST_GATES;
 use sheet::MOST_LEAVES;
 use sheet::Refusal;
 use sheet::Source;
 
-// How many numbers have a flag: all that a fanin may be written as, and those below.
-pub const CODES: usize = tree::CODE_BASE as usize + MOST_GATES + 1;
+// The words that hold a flag for each number that a fanin may be written as.
+pub const FLAG_WORDS: usize = (tree::CODE_BASE as usize + MOST_GATES) / 64 + 1;
 
 // A fanin: what it reads, or why it is refused.
 pub enum Fanin {
@@ -39,15 +40,15 @@ fn source_of(gate: u16, code: u32) -> Fanin
     Fanin::Reads(Source::Gate((code - base) as u16))
 }
 
-// A fanin of a gate, where `seen` has a flag at each number that was a fanin before.
-pub fn read_fanin(seen: &[bool; CODES], leaves: u16, out: u16, gate: u16, code: u32) -> Fanin
+// A fanin of a gate, where `seen` has a flag raised for each number that was a fanin before.
+pub fn read_fanin(seen: &[u64], leaves: u16, out: u16, gate: u16, code: u32) -> Fanin
     requires { ⌜ gate ≤ mostGates ⌝ }
     ensures { λ r. ⌜ FaninRead (now (seen .entry)) leaves out gate code r ⌝ }
 {
     let Fanin::Reads(source) = source_of(gate, code) else {
         return Fanin::Bad(Refusal::NoSource);
     };
-    let twice = seen[code as usize];
+    let twice = flag(seen, code as usize);
     match source {
         Source::Gate(_) => {
             if twice {

@@ -31,10 +31,11 @@ use Rattle.sheet.specs.Trusted.Sheet.{DrawnGate, netOf}
 use Rattle.sheet.specs.Trusted.Read.{Seen, nothing, readFanin, readFanins, gateHeadOf, readLeft}
 use Rattle.sheet.specs.Trusted.Answers.{numberOf, drawnGate, drawnGates}
 use Rattle.sheet_line.specs.Inside.{valueOf, gateLine, faninNumbers, faultStep, GateLineRead}
-use Rattle.sheet_fanin.specs.Fanins.{flagCount, Marked, saw, faninStep, FaninRead}
+use Rattle.flags.specs.Flags.{raised}
+use Rattle.sheet_fanin.specs.Fanins.{flagWords, Marked, saw, faninStep, FaninRead}
 use Rattle.sheet_line.proofs.HeadLaws.{zeroValue}
 use Rattle.sheet_fanin.proofs.FaninLaws.{marked-start, marked-more}
-use Rattle.sheet_gates.proofs.StoreLaws.{readCount, read-most, read-more, Below, drawn-same, taken-more, drawn-more, below-more}
+use Rattle.sheet_gates.proofs.StoreLaws.{readCount, read-none, read-most, read-more, Below, drawn-same, taken-more, drawn-more, below-more}
 
 abbrev Gates : Type 0
 Gates = List DrawnGate × Seen × List ℕ
@@ -182,38 +183,38 @@ module _ (text : List ℕ) (start out count : ℕ) where
   all = readLeft out count 1 nothing (drop start text)
 
   -- at a gate's line
-  pub record AtLine (gates : List Gate) (fs : List Edge) (used : ℕ) (flags : List Bool) (leaves : ℕ) (answer : ReadAnswer) (at g : ℕ) : Type 0 where
+  pub record AtLine (gates : List Gate) (fs : List Edge) (used : ℕ) (words : List ℕ) (leaves : ℕ) (answer : ReadAnswer) (at g : ℕ) : Type 0 where
     pub accepted : answer ≡ Accepted
     pub far : g ≤ count
     pub inside : at ≤ length text
     pub room : length gates ≡ mostGates
     pub wide : length fs ≡ faninRoom
     pub below : Below used (take g gates)
-    pub read : used ≡ readCount flags leaves
+    pub read : used ≡ readCount words leaves
     pub seen : Seen
-    pub marked : Marked flags leaves seen
+    pub marked : Marked words leaves seen
     pub few : leaves ≤ mostLeaves
     pub same : all ≡ lines out (count - g) (g + 1) (drawnGates fs g gates) seen (drop at text)
 
   -- at a fanin of gate g + 1
-  pub record AtFanin (gates : List Gate) (fs : List Edge) (used : ℕ) (flags : List Bool) (leaves : ℕ) (answer : ReadAnswer) (g : ℕ) (l : GateLine) (i : ℕ) : Type 0 where
+  pub record AtFanin (gates : List Gate) (fs : List Edge) (used : ℕ) (words : List ℕ) (leaves : ℕ) (answer : ReadAnswer) (g : ℕ) (l : GateLine) (i : ℕ) : Type 0 where
     pub accepted : answer ≡ Accepted
     pub far : g < count
     pub room : length gates ≡ mostGates
     pub wide : length fs ≡ faninRoom
     pub below : Below used (take g gates)
-    pub read : used + i ≡ readCount flags leaves
+    pub read : used + i ≡ readCount words leaves
     pub whole : length (l .numbers) ≡ mostFields
     pub within : l .count ≤ mostFanins
     pub some-left : i ≤ l .count
     pub ends : l .end ≤ length text
     pub seen : Seen
-    pub marked : Marked flags leaves seen
+    pub marked : Marked words leaves seen
     pub few : leaves ≤ mostLeaves
     pub same : all ≡ fanins out (count - (g + 1)) (g + 1) (drawnGates fs g gates) (l .kind) (take i (drop used fs)) seen (drop i (faninNumbers l)) (drop (l .end) text)
 
   pub at-start : (gates : List Gate) (fs : List Edge) → length gates ≡ mostGates → length fs ≡ faninRoom → start ≤ length text →
-      AtLine gates fs 0 (replicate flagCount false) 0 Accepted start 0
+      AtLine gates fs 0 (replicate flagWords 0) 0 Accepted start 0
   at-start gates fs r w l = record {
     accepted = refl;
     far = omega arith;
@@ -221,7 +222,7 @@ module _ (text : List ℕ) (start out count : ℕ) where
     room = r;
     wide = w;
     below = every-none _;
-    read = refl;
+    read = sym read-none;
     seen = nothing;
     marked = marked-start;
     few = omega arith;
@@ -229,7 +230,7 @@ module _ (text : List ℕ) (start out count : ℕ) where
         ∙ ap (λ n. lines out n 1 [] nothing (drop start text)) (let q : count ≡ count - 0 = omega arith in q);
   }
 
-  module _ {gates : List Gate} {fs : List Edge} {used : ℕ} {flags : List Bool} {leaves : ℕ} {answer : ReadAnswer} {at g : ℕ} (h : AtLine gates fs used flags leaves answer at g) where
+  module _ {gates : List Gate} {fs : List Edge} {used : ℕ} {words : List ℕ} {leaves : ℕ} {answer : ReadAnswer} {at g : ℕ} (h : AtLine gates fs used words leaves answer at g) where
     one-left : g < count → all ≡ lines out (suc (count - (g + 1))) (g + 1) (drawnGates fs g gates) (h .seen) (drop at text)
     one-left l = h .same ∙ ap (λ n. lines out n (g + 1) (drawnGates fs g gates) (h .seen) (drop at text)) (let q : count - g ≡ suc (count - (g + 1)) = omega arith in q)
 
@@ -240,7 +241,7 @@ module _ (text : List ℕ) (start out count : ℕ) where
         (r .step (g + 1) ∙ ap (λ w. faultStep (g + 1) w (l .kind, faninNumbers l, drop (l .end) text)) e)
         ∙ ap (refused (numberOf why)) (sym (add-one (g + 1))))
 
-    pub line-taken : g < count → (l : GateLine) → GateLineRead text at l → l .fault ≡ Nothing → AtFanin gates fs used flags leaves answer g l 0
+    pub line-taken : g < count → (l : GateLine) → GateLineRead text at l → l .fault ≡ Nothing → AtFanin gates fs used words leaves answer g l 0
     line-taken k l r e = record {
       accepted = h .accepted;
       far = k;
@@ -265,8 +266,8 @@ module _ (text : List ℕ) (start out count : ℕ) where
         ∙ (ap (λ n. lines out n (g + 1) (drawnGates fs g gates) (h .seen) (drop at text)) (let q : count - g ≡ 0 = omega arith in q)
         ∙ (lines-done out (g + 1) (drawnGates fs g gates) (h .seen) (drop at text) ∙ ap (λ n. passed (drawnGates fs n gates, h .seen, drop at text)) (let q : g ≡ count = omega arith in q)))
 
-  module _ {gates : List Gate} {fs : List Edge} {used : ℕ} {flags : List Bool} {leaves : ℕ} {answer : ReadAnswer} {g : ℕ} {l : GateLine} {i : ℕ}
-      (h : AtFanin gates fs used flags leaves answer g l i) where
+  module _ {gates : List Gate} {fs : List Edge} {used : ℕ} {words : List ℕ} {leaves : ℕ} {answer : ReadAnswer} {g : ℕ} {l : GateLine} {i : ℕ}
+      (h : AtFanin gates fs used words leaves answer g l i) where
     abbrev number : FieldValue
     number = getD (l .numbers) (i + 2) zeroValue
 
@@ -276,7 +277,7 @@ module _ (text : List ℕ) (start out count : ℕ) where
         h .same
         ∙ ap (λ xs. fanins out (count - (g + 1)) (g + 1) (drawnGates fs g gates) (l .kind) (take i (drop used fs)) (h .seen) xs (drop (l .end) text)) (fanin-at l i (h .whole) (h .within) k)
 
-    pub fanin-refused : i < l .count → (r : Fanin) → FaninRead flags leaves out (g + 1) (number .magnitude) r → (why : Refusal) → r ≡ Bad why →
+    pub fanin-refused : i < l .count → (r : Fanin) → FaninRead words leaves out (g + 1) (number .magnitude) r → (why : Refusal) → r ≡ Bad why →
         all ≡ refused (numberOf why) (g + 1 + 1)
     fanin-refused k r f why e =
         one-number k
@@ -284,33 +285,33 @@ module _ (text : List ℕ) (start out count : ℕ) where
         (f .step (h .seen) (h .marked) ∙ ap (faninStep (g + 1) (h .seen)) e)
         ∙ ap (refused (numberOf why)) (sym (add-one (g + 1))))
 
-    module _ (b : g + 1 ≤ mostGates) (r : Fanin) (d : FaninRead flags leaves out (g + 1) (number .magnitude) r) (s : Source) (e : r ≡ Reads s) where
-      read-next : used + (i + 1) ≡ readCount (set flags (number .magnitude) true) (leaves + length (netOf s))
+    module _ (b : g + 1 ≤ mostGates) (r : Fanin) (d : FaninRead words leaves out (g + 1) (number .magnitude) r) (s : Source) (e : r ≡ Reads s) where
+      read-next : used + (i + 1) ≡ readCount (raised words (number .magnitude)) (leaves + length (netOf s))
       read-next =
-          let q = read-more flags (h .marked .whole) (g + 1) (number .magnitude) leaves b s (d .source s e) (d .first s e) in
+          let q = read-more words (h .marked .whole) (g + 1) (number .magnitude) leaves b s (d .source s e) (d .first s e) in
           omega (arith, q, h .read)
 
       -- there is room for it
       pub fanin-room : used + i < faninRoom
       fanin-room =
-          let q = read-most (set flags (number .magnitude) true) (simp length-set (h .marked .whole)) (leaves + length (netOf s)) (d .few s e (h .few)) in
+          let q = read-most (raised words (number .magnitude)) (leaves + length (netOf s)) (d .few s e (h .few)) in
           omega (arith, q, read-next)
 
       pub fanin-taken : i < l .count → (f : Edge) → f ≡ record { inverted = valueOf number .negative; source = s } → (n : ℕ) → n ≡ leaves + length (netOf s) →
-          AtFanin gates (set fs (used + i) f) used (set flags (number .magnitude) true) n answer g l (i + 1)
+          AtFanin gates (set fs (used + i) f) used (raised words (number .magnitude)) n answer g l (i + 1)
       fanin-taken k f p n q = record {
         accepted = h .accepted;
         far = h .far;
         room = h .room;
         wide = simp length-set (h .wide);
         below = h .below;
-        read = read-next ∙ ap (readCount (set flags (number .magnitude) true)) (sym q);
+        read = read-next ∙ ap (readCount (raised words (number .magnitude))) (sym q);
         whole = h .whole;
         within = h .within;
         some-left = omega arith;
         ends = h .ends;
         seen = saw (h .seen) s;
-        marked = subst (λ m. Marked (set flags (number .magnitude) true) m (saw (h .seen) s)) (sym q) (marked-more (g + 1) (number .magnitude) b (h .marked) s (d .source s e));
+        marked = subst (λ m. Marked (raised words (number .magnitude)) m (saw (h .seen) s)) (sym q) (marked-more (g + 1) (number .magnitude) b (h .marked) s (d .source s e));
         few = omega (arith, d .few s e (h .few));
         same =
             one-number k
@@ -327,10 +328,10 @@ module _ (text : List ℕ) (start out count : ℕ) where
 
       -- the place after its fanins
       pub after-room : used + l .count ≤ faninRoom
-      after-room = let q = read-most flags (h .marked .whole) leaves (h .few) in omega (arith, all-taken, h .read)
+      after-room = let q = read-most words leaves (h .few) in omega (arith, all-taken, h .read)
 
       pub gate-taken : count ≤ mostGates → (x : Gate) → x ≡ record { kind = l .kind; count = l .count; first = used } →
-          AtLine (set gates g x) fs (used + l .count) flags leaves answer (l .end) (g + 1)
+          AtLine (set gates g x) fs (used + l .count) words leaves answer (l .end) (g + 1)
       gate-taken m x e = record {
         accepted = h .accepted;
         far = omega arith;

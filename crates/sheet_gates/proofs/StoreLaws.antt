@@ -1,4 +1,4 @@
--- Where the fanins of the gates are stored, one gate's after the other's: there is room for all, since each sets a flag of its own.
+-- Where the fanins of the gates are stored, one gate's after the other's: there is room for all, since each raises a flag of its own.
 use Prim.Native.Nat.{ℕ, zero, suc, _+_, _-_, _≤_, _<_}
 use native.Mathlib.Omega.{arith}
 use native.Mathlib.Numerals.{add-one}
@@ -6,8 +6,8 @@ use mathlib.Core.Path.{_≡_, refl, sym, ap, ap₂, _∙_, subst}
 use mathlib.Core.Bool.{Bool, true, false}
 use mathlib.Core.Option.{some}
 use mathlib.Core.List.{List, [], _∷_, _++_, map, map-append}
-use lib.ListN.{length, getD, take, drop, set, length-drop}
-use lib.Seq.{take-suc-set, take-set-le, drop-set-lt, drop-set-add, getD-drop}
+use lib.ListN.{length, getD, take, drop, set, replicate, length-drop}
+use lib.Seq.{drop-nil, take-suc-set, take-set-le, drop-set-lt, drop-set-add, getD-drop}
 use Rattle.lists.specs.Trusted.Lists.{Every}
 use Rattle.lists.specs.ListLaws.{every-none, every-cons, every-head, every-tail, every-append}
 use Rattle.tree.specs.Trusted.Limits.{codeBase}
@@ -20,55 +20,78 @@ use Rattle.sheet.specs.Trusted.Sheet.{netOf}
 use Rattle.sheet.specs.Trusted.Read.{sourceOf}
 use Rattle.sheet.specs.ReadLaws.{source-named}
 use Rattle.sheet.specs.Trusted.Answers.{drawnGate, drawnGates}
-use Rattle.sheet_fanin.specs.Fanins.{flagCount}
+use Rattle.flags.specs.Flags.{flagAt, flagsOf, raised}
+use Rattle.flags.specs.FlagLaws.{flags-length, flags-at, flags-none, raised-flags}
+use Rattle.sheet_fanin.specs.Fanins.{flagWords}
 
 -- ---- flags
 
--- how many are set
-abbrev pub raised : List Bool → ℕ
-raised [] = 0
-raised (true ∷ bs) = suc (raised bs)
-raised (false ∷ bs) = raised bs
+-- how many are up
+abbrev up : List Bool → ℕ
+up [] = 0
+up (true ∷ bs) = suc (up bs)
+up (false ∷ bs) = up bs
 
-raised-most : (bs : List Bool) → raised bs ≤ length bs
-raised-most [] = omega arith
-raised-most (true ∷ bs) = omega (arith, raised-most bs)
-raised-most (false ∷ bs) = omega (arith, raised-most bs)
+up-most : (bs : List Bool) → up bs ≤ length bs
+up-most [] = omega arith
+up-most (true ∷ bs) = omega (arith, up-most bs)
+up-most (false ∷ bs) = omega (arith, up-most bs)
 
-raised-set : (bs : List Bool) (i : ℕ) → i < length bs → getD bs i false ≡ false → raised (set bs i true) ≡ suc (raised bs)
-raised-set [] i l e = absurd (omega arith)
-raised-set (true ∷ bs) zero l e = let z : _≡_ {A = ℕ} 0 1 = cc in absurd (omega arith)
-raised-set (false ∷ bs) zero l e = refl
-raised-set (true ∷ bs) (suc i) l e = ap suc (raised-set bs i (omega arith) e)
-raised-set (false ∷ bs) (suc i) l e = raised-set bs i (omega arith) e
+up-more : (bs : List Bool) (i : ℕ) → i < length bs → getD bs i false ≡ false → up (set bs i true) ≡ suc (up bs)
+up-more [] i l e = absurd (omega arith)
+up-more (true ∷ bs) zero l e = let z : _≡_ {A = ℕ} 0 1 = cc in absurd (omega arith)
+up-more (false ∷ bs) zero l e = refl
+up-more (true ∷ bs) (suc i) l e = ap suc (up-more bs i (omega arith) e)
+up-more (false ∷ bs) (suc i) l e = up-more bs i (omega arith) e
 
--- how many fanins were read: so many leaves, and as many gates as have their flag set
-abbrev pub readCount : List Bool → ℕ → ℕ
-readCount flags leaves = leaves + raised (drop codeBase flags)
+up-none : (k n : ℕ) → up (drop k (replicate n false)) ≡ 0
+up-none k zero = ap up (drop-nil k)
+up-none zero (suc n) = up-none zero n
+up-none (suc k) (suc n) = up-none k n
 
-module _ (flags : List Bool) (whole : length flags ≡ flagCount) where
-  gates-most : raised (drop codeBase flags) ≤ mostGates + 1
-  gates-most = omega (arith, raised-most (drop codeBase flags), length-drop codeBase flags)
+-- the flags of all numbers that a fanin may be written as
+abbrev flagCount : ℕ
+flagCount = codeBase + mostGates + 1
 
-  pub read-most : (leaves : ℕ) → leaves ≤ mostLeaves → readCount flags leaves ≤ faninRoom
-  read-most leaves l = omega (arith, gates-most)
+abbrev gateFlags : List ℕ → List Bool
+gateFlags words = drop codeBase (flagsOf flagCount words)
+
+-- how many fanins were read: so many leaves, and as many gates as have their flag up
+abbrev pub readCount : List ℕ → ℕ → ℕ
+readCount words leaves = leaves + up (gateFlags words)
+
+pub read-none : readCount (replicate flagWords 0) 0 ≡ 0
+read-none =
+    let q : up (gateFlags (replicate flagWords 0)) ≡ 0 = ap (λ flags. up (drop codeBase flags)) (flags-none flagCount flagWords) ∙ up-none codeBase flagCount in
+    omega (arith, q)
+
+module _ (words : List ℕ) where
+  gates-length : length (gateFlags words) ≡ mostGates + 1
+  gates-length = omega (arith, length-drop codeBase (flagsOf flagCount words), flags-length flagCount words)
+
+  pub read-most : (leaves : ℕ) → leaves ≤ mostLeaves → readCount words leaves ≤ faninRoom
+  read-most leaves l = omega (arith, up-most (gateFlags words), gates-length)
 
   -- one fanin more, which was not read before
-  pub read-more : (g n leaves : ℕ) → g ≤ mostGates → (s : Source) → sourceOf g n ≡ some s → getD flags n false ≡ false →
-      readCount (set flags n true) (leaves + length (netOf s)) ≡ suc (readCount flags leaves)
-  read-more g n leaves few (net m) e f =
+  pub read-more : length words ≡ flagWords → (g n leaves : ℕ) → g ≤ mostGates → (s : Source) → sourceOf g n ≡ some s → flagAt words n ≡ false →
+      readCount (raised words n) (leaves + length (netOf s)) ≡ suc (readCount words leaves)
+  read-more whole g n leaves few (net m) e f =
       let d = source-named g n (net m) e in
       let k = every-head (d .is-net) in
-      let q = ap raised (drop-set-lt codeBase flags n true (omega (arith, d .code))) in
+      let r = raised-flags flagCount words n (omega (arith, whole)) in
+      let q = ap (λ flags. up (drop codeBase flags)) r ∙ ap up (drop-set-lt codeBase (flagsOf flagCount words) n true (omega (arith, d .code))) in
       omega (arith, q)
-  read-more g n leaves few (gate j) e f =
+  read-more whole g n leaves few (gate j) e f =
       let d = source-named g n (gate j) e in
       let k = every-head (d .is-before) in
-      let at : codeBase + j ≡ n = d .code in
-      let q : raised (drop codeBase (set flags n true)) ≡ suc (raised (drop codeBase flags)) =
-      ap (λ i. raised (drop codeBase (set flags i true))) (sym at)
-      ∙ (ap raised (drop-set-add codeBase flags j true)
-      ∙ raised-set (drop codeBase flags) j (omega (arith, length-drop codeBase flags)) (getD-drop codeBase flags j false ∙ (ap (λ i. getD flags i false) at ∙ f))) in
+      let flags = flagsOf flagCount words in
+      let r = raised-flags flagCount words n (omega (arith, whole)) in
+      let down : getD (gateFlags words) j false ≡ false =
+      getD-drop codeBase flags j false ∙ (ap (λ i. getD flags i false) (d .code) ∙ (flags-at flagCount words n (omega (arith, d .code)) ∙ f)) in
+      let q : up (gateFlags (raised words n)) ≡ suc (up (gateFlags words)) =
+      ap (λ bs. up (drop codeBase bs)) r
+      ∙ (ap (λ i. up (drop codeBase (set flags i true))) (sym (d .code))
+      ∙ (ap up (drop-set-add codeBase flags j true) ∙ up-more (gateFlags words) j (omega (arith, gates-length)) down)) in
       omega (arith, q)
 
 -- ---- the fanins of the gates

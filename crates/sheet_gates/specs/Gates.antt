@@ -1,7 +1,6 @@
 -- What was read of a sheet's gates, and the first that is never read. Internal definitions: the laws are in proofs/.
 use Prim.Native.Nat.{ℕ, _+_, _-_, _≤_}
 use mathlib.Core.Path.{_≡_}
-use mathlib.Core.Bool.{Bool}
 use mathlib.Core.List.{List}
 use lib.ListN.{length, drop}
 use Rattle.lists.specs.Trusted.Lists.{from}
@@ -41,5 +40,5 @@ abbrev pub unreadStep : Unread → Checked (Unit {0})
 unreadStep Nowhere = passed tt
 unreadStep (First line) = refused 13 line
 
-abbrev pub UnreadFound : List Bool → ℕ → Unread → Type 0
+abbrev pub UnreadFound : List ℕ → ℕ → Unread → Type 0
 UnreadFound flags count r = (read : List ℕ) → Flagged codeBase (mostGates + 1) flags read → readUnread (from 1 (count - 1)) read ≡ unreadStep r

@@ -4,13 +4,15 @@ ghost use Prim.Native.Nat.{_≤_};
 ghost use lib.ListN.{length};
 ghost use Rattle.sheet.specs.Trusted.Answers.{noFanins};
 ghost use Rattle.sheet_gates.specs.Gates.{GatesRead, UnreadFound};
+use flags::flag;
+use flags::raise;
 use sheet::Edge;
 use sheet::FANIN_ROOM;
 use sheet::Gate;
 use sheet::MOST_GATES;
 use sheet::ReadAnswer;
 use sheet::Source;
-use sheet_fanin::CODES;
+use sheet_fanin::FLAG_WORDS;
 use sheet_fanin::Fanin;
 use sheet_fanin::read_fanin;
 use sheet_fanin::with_leaf;
@@ -19,14 +21,14 @@ use sheet_line::GateLine;
 use sheet_line::read_gate_line;
 use tree::Kind;
 
-// The lines of gates that were read: where they are accepted the gates, their fanins, the place after them, and a flag at each number
-// that was a fanin.
+// The lines of gates that were read: where they are accepted the gates, their fanins, the place after them, and a flag raised for each
+// number that was a fanin.
 pub struct Lines {
     pub answer: ReadAnswer,
     pub end: usize,
     pub gates: [Gate; MOST_GATES],
     pub fanins: [Edge; FANIN_ROOM],
-    pub seen: [bool; CODES],
+    pub seen: [u64; FLAG_WORDS],
 }
 
 // No fanins and no gate: all zero.
@@ -76,7 +78,7 @@ pub fn gate_lines(text: &[u8], start: usize, out: u16, count: u8) -> Lines
     let mut gates = [none; MOST_GATES];
     let mut fanins = no_fanins();
     let mut used: usize = 0;
-    let mut seen = [false; CODES];
+    let mut seen = [0u64; FLAG_WORDS];
     let mut leaves: u16 = 0;
     let mut answer = ReadAnswer::Accepted;
     let mut end = start;
@@ -99,7 +101,7 @@ pub fn gate_lines(text: &[u8], start: usize, out: u16, count: u8) -> Lines
                     let at = used + i;
                     fanins[at] = edge_of(x.sign != 0, source);
                     leaves = with_leaf(leaves, source);
-                    seen[x.magnitude as usize] = true;
+                    raise(&mut seen, x.magnitude as usize);
                 }
             }
         }
@@ -122,12 +124,12 @@ pub enum Unread {
     Nowhere,
 }
 
-pub fn first_unread(seen: &[bool; CODES], count: u8) -> Unread
+pub fn first_unread(seen: &[u64], count: u8) -> Unread
     ensures { λ r. ⌜ UnreadFound (now (seen .entry)) count r ⌝ }
 {
     let base = tree::CODE_BASE as usize;
     for g in 1..count as usize {
-        if !seen[base + g] {
+        if !flag(seen, base + g) {
             return Unread::First(g as u16 + 1);
         }
     }

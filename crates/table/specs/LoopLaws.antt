@@ -1,6 +1,6 @@
 -- Tests of a list as a loop makes them: of the elements from an index on, one after the other. The index after i is the code's i + 1.
 -- For each test: where it stops at the element, where it goes on, and where nothing is left.
-use Prim.Native.Nat.{ℕ, zero, suc, _+_, _≤_, _<_}
+use Prim.Native.Nat.{ℕ, _+_, _≤_, _<_}
 use native.Mathlib.Numerals.{add-one}
 use native.Mathlib.Omega.{arith}
 use mathlib.Core.Path.{_≡_, refl, sym, ap, _∙_}
@@ -15,12 +15,6 @@ use Rattle.lists.specs.TestLaws.{reflects-lt, reflects-and, reflects-pairwise, 
 
 pub drop-next : {A : Type 0} (xs : List A) (i : ℕ) (z : A) → i < length xs → drop i xs ≡ getD xs i z ∷ drop (i + 1) xs
 drop-next xs i z h = rw (add-one, drop-cons xs i z)
-
--- within a list it does not matter what stands past its end
-pub getD-any : {A : Type 0} (xs : List A) (i : ℕ) (y z : A) → i < length xs → getD xs i y ≡ getD xs i z
-getD-any [] i y z h = absurd (omega arith)
-getD-any (x ∷ xs) zero y z h = refl
-getD-any (x ∷ xs) (suc i) y z h = getD-any xs i y z (omega arith)
 
 -- ---- of the whole list
 

@@ -1,5 +1,5 @@
 -- What is kept of the records stands for their list: after none, after one more, and in the rules' tests.
-use Prim.Native.Nat.{ℕ, suc, _+_, _-_, _≤_, _<_}
+use Prim.Native.Nat.{ℕ, suc, _+_, _-_, _*_, _≤_, _<_}
 use native.Mathlib.Omega.{arith}
 use mathlib.Core.Path.{_≡_, refl, sym, ap, ap₂, _∙_}
 use mathlib.Core.Logic.{_≢_}
@@ -11,11 +11,13 @@ use lib.Seq.{getD-append-seam, getD-set-same, getD-set-other}
 use Rattle.lists.specs.Cases.{by-eqb, by-leb}
 use Rattle.lists.specs.Trusted.Tests.{all, elem}
 use Rattle.lists.specs.TestLaws.{reflects-lt, reflects-eq, reflects-same, reflects-true}
+use Rattle.flags.specs.Flags.{flagAt, raised}
+use Rattle.flags.specs.FlagLaws.{flag-none, raised-length, raised-flag}
 use Rattle.tree.specs.Trusted.Limits.{greatestNet, codeBase}
 use Rattle.table.specs.Trusted.Limits.{tableRoom}
 use Rattle.table.specs.Trusted.Records.{reads, blank}
 use Rattle.table.specs.Trusted.RecordTest.{isCode, isPadded, isSized, sourced, clear, unclaimed, keeps}
-use Rattle.table.specs.PrefixTest.{Stands, emptyPrefix, claimAll, prefixAfter, sourcedIn, unclaimedIn, keepsIn}
+use Rattle.table.specs.PrefixTest.{netWords, Stands, emptyPrefix, claimAll, prefixAfter, sourcedIn, unclaimedIn, keepsIn}
 use Rattle.table.specs.declared.Table.{Table}
 use Rattle.table.specs.declared.Prefix.{Prefix}
 
@@ -24,24 +26,17 @@ unfolding emptyPrefix
 stands-none = record {
   room = omega arith;
   count = refl;
-  nets = length-replicate (suc greatestNet) false;
+  nets = length-replicate {A = ℕ} netWords 0;
   tables = length-replicate tableRoom false;
-  claimed = λ n l. ap not (getD-replicate (suc greatestNet) n false false (omega arith));
+  claimed = λ n l. ap not (flag-none netWords n);
   drives = λ t l. ap not (getD-replicate tableRoom t false true l);
 }
 
 -- ---- one more record
 
-claim-length : (c : List Bool) (xs : List ℕ) → length (claimAll c xs) ≡ length c
+claim-length : (c : List ℕ) (xs : List ℕ) → length (claimAll c xs) ≡ length c
 claim-length c [] = refl
-claim-length c (x ∷ xs) = claim-length (set c x true) xs ∙ length-set c x true
-
--- a net is claimed where it was or is one of these
-set-claims : (c : List Bool) (x n : ℕ) → n < length c → getD (set c x true) n false ≡ eqb n x || getD c n false
-set-claims c x n h =
-    by-eqb (λ b. getD (set c x true) n false ≡ b || getD c n false) n x
-    (λ e. rw e (getD-set-same c x true false (omega arith)))
-    (λ d. getD-set-other c x n true false d)
+claim-length c (x ∷ xs) = claim-length (raised c x) xs ∙ raised-length c x
 
 or-swap : (a b c : Bool) → a || (b || c) ≡ (b || a) || c
 or-swap true true c = refl
@@ -49,11 +44,12 @@ or-swap true false c = refl
 or-swap false true c = refl
 or-swap false false c = refl
 
-claim-claims : (c : List Bool) (xs : List ℕ) (n : ℕ) → n < length c → getD (claimAll c xs) n false ≡ elem n xs || getD c n false
+-- a net is claimed where it was or is one of these
+claim-claims : (c : List ℕ) (xs : List ℕ) (n : ℕ) → n < 64 * length c → flagAt (claimAll c xs) n ≡ elem n xs || flagAt c n
 claim-claims c [] n h = refl
 claim-claims c (x ∷ xs) n h =
-    claim-claims (set c x true) xs n (rw length-set h) ∙ ap (λ b. elem n xs || b) (set-claims c x n h)
-    ∙ or-swap (elem n xs) (eqb n x) (getD c n false)
+    claim-claims (raised c x) xs n (rw raised-length h) ∙ ap (λ b. elem n xs || b) (raised-flag c x n h)
+    ∙ or-swap (elem n xs) (eqb n x) (flagAt c n)
 
 eqb-swap : (m n : ℕ) → eqb m n ≡ eqb n m
 eqb-swap m n = reflects-same (reflects-eq m n) (reflects-eq n m) sym sym
@@ -78,10 +74,10 @@ module _ (s : Prefix) (before : List Table) (r : Table) (h : Stands s before) (l
   abbrev next : Prefix
   next = record { count = s .count + 1; claimed = claimAll (s .claimed) (r .net ∷ reads r); drives = set (s .drives) (s .count) (not (eqb (r .net) 0)) }
 
-  next-claimed : (n : ℕ) → n ≤ greatestNet → not (getD (next .claimed) n false) ≡ all (clear n) (before ++ r ∷ [])
+  next-claimed : (n : ℕ) → n ≤ greatestNet → not (flagAt (next .claimed) n) ≡ all (clear n) (before ++ r ∷ [])
   next-claimed n m =
       ap not (claim-claims (s .claimed) (r .net ∷ reads r) n (omega (arith, h .nets)))
-      ∙ none-of (eqb n (r .net)) (elem n (reads r)) (getD (s .claimed) n false)
+      ∙ none-of (eqb n (r .net)) (elem n (reads r)) (flagAt (s .claimed) n)
       ∙ ap₂ (λ a b. a && ((not b && not (elem n (reads r))) && true)) (h .claimed n m) (eqb-swap n (r .net))
       ∙ sym (all-append (clear n) before (r ∷ []))
 

@@ -1,12 +1,13 @@
 -- The rules of a record by what is kept of the records before it, in place of their list.
 -- Internal definitions: PrefixLaws has the proof that the two say the same.
-use Prim.Native.Nat.{ℕ, suc, _+_, _-_, _≤_, _<_}
+use Prim.Native.Nat.{ℕ, suc, _+_, _-_, _/_, _≤_, _<_}
 use mathlib.Core.Path.{_≡_}
 use mathlib.Core.Bool.{Bool, true, false, cond, not, _&&_, _||_}
 use mathlib.Core.List.{List, [], _∷_}
 use lib.Dec.{leb, ltb, eqb}
 use lib.ListN.{length, getD, set, replicate}
 use Rattle.lists.specs.Trusted.Tests.{all, elem}
+use Rattle.flags.specs.Flags.{flagAt, raised}
 use Rattle.tree.specs.Trusted.Limits.{greatestNet, codeBase}
 use Rattle.table.specs.Trusted.Limits.{tableRoom}
 use Rattle.table.specs.Trusted.Records.{reads, blank}
@@ -14,23 +15,27 @@ use Rattle.table.specs.Trusted.RecordTest.{isPadded, isCoded, isSized, c
 use Rattle.table.specs.declared.Table.{Table}
 use Rattle.table.specs.declared.Prefix.{Prefix}
 
+-- the words that hold a flag for each net
+abbrev pub netWords : ℕ
+netWords = greatestNet / 64 + 1
+
 -- what is kept stands for the records: their number, for each net whether none of them drives or reads it, and for each of them
 -- whether it drives no net
 pub record Stands (s : Prefix) (before : List Table) : Type 0 where
   pub room : length before ≤ tableRoom
   pub count : s .count ≡ length before
-  pub nets : length (s .claimed) ≡ suc greatestNet
+  pub nets : length (s .claimed) ≡ netWords
   pub tables : length (s .drives) ≡ tableRoom
-  pub claimed : (n : ℕ) → n ≤ greatestNet → not (getD (s .claimed) n false) ≡ all (clear n) before
+  pub claimed : (n : ℕ) → n ≤ greatestNet → not (flagAt (s .claimed) n) ≡ all (clear n) before
   pub drives : (t : ℕ) → t < tableRoom → not (getD (s .drives) t true) ≡ eqb ((getD before t blank) .net) 0
 
 unfoldable pub emptyPrefix : Prefix
-emptyPrefix = record { count = 0; claimed = replicate (suc greatestNet) false; drives = replicate tableRoom false }
+emptyPrefix = record { count = 0; claimed = replicate netWords 0; drives = replicate tableRoom false }
 
 -- the nets claimed, with these; what is no net claims none
-abbrev pub claimAll : List Bool → List ℕ → List Bool
+abbrev pub claimAll : List ℕ → List ℕ → List ℕ
 claimAll c [] = c
-claimAll c (x ∷ xs) = claimAll (set c x true) xs
+claimAll c (x ∷ xs) = claimAll (raised c x) xs
 
 -- one more record, where there is room for it
 abbrev pub prefixAfter : Prefix → Table → Prefix
@@ -43,8 +48,8 @@ prefixAfter s r =
 abbrev pub sourcedIn : List Bool → ℕ → ℕ → Bool
 sourcedIn drives count x = leb x codeBase || (leb x (codeBase + count) && not (getD drives (x - suc codeBase) true))
 
-abbrev pub unclaimedIn : List Bool → Table → Bool
-unclaimedIn claimed r = eqb (r .net) 0 || (not (getD claimed (r .net) false) && not (elem (r .net) (reads r)))
+abbrev pub unclaimedIn : List ℕ → Table → Bool
+unclaimedIn claimed r = eqb (r .net) 0 || (not (flagAt claimed (r .net)) && not (elem (r .net) (reads r)))
 
 abbrev pub keepsIn : ℕ → Prefix → Table → Bool
 keepsIn k s r = isPadded r && (isCoded r && (isSized k r && (all (sourcedIn (s .drives) (s .count)) (reads r) && unclaimedIn (s .claimed) r)))

@@ -2,11 +2,15 @@
 ghost use mathlib.Core.Path.{_≡_};
 ghost use Prim.Native.Nat.{min};
 ghost use Rattle.table.specs.Trusted.Records.{blank as blankRecord};
+use tree::GREATEST_NET;
 
 // The inputs that a record has room for, and the records that a part has room for.
 pub const INPUT_ROOM: u32 = 6;
 
 pub const TABLE_ROOM: u32 = 800;
+
+// The words that hold a flag for each net.
+pub const NET_WORDS: usize = GREATEST_NET as usize / 64 + 1;
 
 // A lookup table of a part: the net that it drives (0 for none), how many inputs it has, the inputs, and its truth table.
 pub struct Table {
@@ -16,11 +20,11 @@ pub struct Table {
     pub truth: u64,
 }
 
-// What the rules need to know of the records so far: how many there are, which nets a record drives or reads, and which of
-// the records drive a net.
+// What the rules need to know of the records so far: how many there are, which nets a record drives or reads, as flags packed into words,
+// and which of the records drive a net.
 pub struct Prefix {
     pub count: u16,
-    pub claimed: [bool; 1000],
+    pub claimed: [u64; NET_WORDS],
     pub drives: [bool; 800],
 }
 

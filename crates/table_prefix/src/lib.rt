@@ -1,10 +1,11 @@
 // What is kept of the records so far: of none, and of one more after others.
 // table/specs/PrefixTest defines it, and table/specs/PrefixLaws has the proof that it stands for the records.
 ghost use mathlib.Core.Path.{_≡_};
-ghost use mathlib.Core.Bool.{true, false};
 ghost use Prim.Native.Nat.{_≤_};
-ghost use lib.ListN.{set, take};
+ghost use lib.ListN.{take};
 ghost use Rattle.table.specs.PrefixTest.{claimAll, emptyPrefix, prefixAfter};
+use flags::raise;
+use table::NET_WORDS;
 use table::Prefix;
 use table::Table;
 use table::in_use;
@@ -15,29 +16,19 @@ pub fn empty_prefix() -> Prefix
 {
     Prefix {
         count: 0,
-        claimed: [false; 1000],
+        claimed: [0; NET_WORDS],
         drives: [false; 800],
     }
 }
 
-// The net is claimed; what is no net is not looked at.
-fn claim(claimed: &mut [bool], x: u16)
-    ensures { λ _. ⌜ now (claimed .exit) ≡ set (now (claimed .entry)) x true ⌝ }
-{
-    let at = x as usize;
-    if at < claimed.len() {
-        claimed[at] = true;
-    }
-}
-
-// So for the first n inputs.
-fn claim_all(claimed: &mut [bool], inputs: [u16; 6], n: usize)
+// The nets among the first n inputs are claimed.
+fn claim_all(claimed: &mut [u64], inputs: [u16; 6], n: usize)
     requires { ⌜ n ≤ 6 ⌝ }
     ensures { λ _. ⌜ now (claimed .exit) ≡ claimAll (now (claimed .entry)) (take n inputs) ⌝ }
 {
     let mut i = 0;
     while i < n {
-        claim(claimed, inputs[i]);
+        raise(claimed, inputs[i] as usize);
         i += 1;
     }
 }
@@ -53,7 +44,7 @@ pub fn after(prefix: Prefix, r: Table) -> Prefix
     let mut claimed = prefix.claimed;
     let mut drives = prefix.drives;
     let inputs = r.inputs;
-    claim(&mut claimed, r.net);
+    raise(&mut claimed, r.net as usize);
     claim_all(&mut claimed, inputs, in_use(r.count));
     drives[count as usize] = r.net != 0;
     Prefix {

@@ -1,11 +1,11 @@
 // The rules of a record after the records before it, by what is kept of these: of each rule a test, equal to the test of that name with
 // In after it in table/specs/PrefixTest.
 ghost use mathlib.Core.Path.{_≡_};
-ghost use mathlib.Core.Bool.{true, false};
 ghost use Prim.Native.Nat.{_≤_};
-ghost use lib.ListN.{getD, take};
+ghost use lib.ListN.{take};
 ghost use Rattle.lists.specs.Trusted.Tests.{all};
 ghost use Rattle.table.specs.PrefixTest.{sourcedIn, unclaimedIn, keepsIn};
+use flags::flag;
 use record_rules::coded;
 use record_rules::padded;
 use record_rules::sized;
@@ -49,20 +49,8 @@ fn all_sourced(drives: &[bool], count: u16, inputs: [u16; 6], n: usize) -> bool
     true
 }
 
-// Whether the net is claimed; what is no net is not.
-fn is_claimed(claimed: &[bool], net: u16) -> bool
-    ensures { λ b. ⌜ b ≡ getD (now (claimed .entry)) net false ⌝ }
-{
-    let at = net as usize;
-    if at < claimed.len() {
-        claimed[at]
-    } else {
-        false
-    }
-}
-
 // The net driven, if any, is claimed by no record before, and the record does not read it.
-fn unclaimed(claimed: &[bool], r: Table) -> bool
+fn unclaimed(claimed: &[u64], r: Table) -> bool
     ensures { λ b. ⌜ b ≡ unclaimedIn (now (claimed .entry)) r ⌝ }
 {
     let net = r.net;
@@ -70,7 +58,7 @@ fn unclaimed(claimed: &[bool], r: Table) -> bool
     if net == 0 {
         return true;
     }
-    if is_claimed(claimed, net) {
+    if flag(claimed, net as usize) {
         return false;
     }
     !reads_net(inputs, in_use(r.count), net)

@@ -2,10 +2,10 @@
 // no net.
 
 // The greatest net. Nets go from 1.
-pub const GREATEST_NET: u16 = 999;
+pub const GREATEST_NET: u16 = 9999;
 
 // What is no net has a code above this base: gate g in a fanin, table t in a table's input.
-pub const CODE_BASE: u16 = 1000;
+pub const CODE_BASE: u16 = 10000;
 
 // The fanins of a gate.
 pub const FEWEST_FANINS: usize = 2;

@@ -1,6 +1,6 @@
 -- One sheet, net 5 = not (1 and 4 and (2 or not 3)), in tables of two inputs: the definitions computed, and met.
 -- The AND gate is split in two, of which the lower has the fanins 1 and 4; the plan says so, and its run makes the cover.
-use Prim.Native.Nat.{ℕ}
+use Prim.Native.Nat.{ℕ, _+_}
 use native.Mathlib.Omega.{arith}
 use mathlib.Core.Path.{_≡_, refl}
 use mathlib.Core.Bool.{Bool, true, false, not}
@@ -10,6 +10,7 @@ use Rattle.lists.specs.Trusted.Lists.{Every, here, there, empty, more}
 use Rattle.lists.specs.Sequences.{upto}
 use Rattle.lists.specs.ListLaws.{every-none, every-cons, permuted-refl}
 use Rattle.tree.specs.declared.Kind.the-variants.{And as and, Or as or}
+use Rattle.tree.specs.Trusted.Limits.{codeBase}
 use Rattle.tree.specs.Trusted.Tree.{leaf, gate, Edges, none, edge, turned}
 use Rattle.tree.specs.Measures.{value}
 use Rattle.cover.specs.Trusted.Cover.{Cover, net, top, Fanins, end, old, new, same, split, done, match, rooted}
@@ -70,17 +71,17 @@ cover = top 3 and body
 abbrev part : List LookupTable
 part =
     record { drives = 0; inputs = 2 ∷ 3 ∷ []; truth = 0b1011 } ∷ record { drives = 0; inputs = 1 ∷ 4 ∷ []; truth = 0b1000 }
-    ∷ record { drives = 5; inputs = 1001 ∷ 1002 ∷ []; truth = 0b0111 } ∷ []
+    ∷ record { drives = 5; inputs = (codeBase + 1) ∷ (codeBase + 2) ∷ []; truth = 0b0111 } ∷ []
 
-its-records : records 1000 cover 5 true ≡ numbered 0 part
+its-records : records codeBase cover 5 true ≡ numbered 0 part
 its-records = refl
 
 -- the run places all but the root's
-its-placings : placings 1000 and fanins its-run ≡ records* 1000 body and
+its-placings : placings codeBase and fanins its-run ≡ records* codeBase body and
 its-placings = refl
 
 -- with net 3 alone true, and with net 3 alone false
-its-values : (settled 1000 part (λ n. eqb n 3) 5 ≡ true) × (settled 1000 part (λ n. not (eqb n 3)) 5 ≡ false)
+its-values : (settled codeBase part (λ n. eqb n 3) 5 ≡ true) × (settled codeBase part (λ n. not (eqb n 3)) 5 ≡ false)
 its-values = (refl, refl)
 
 -- ---- the sheet is added
@@ -88,7 +89,7 @@ its-values = (refl, refl)
 two : {A : Type 0} (P : A → Type 0) {x y : A} → P x → P y → Every P (x ∷ y ∷ [])
 two P p q = every-cons p (every-cons q (every-none _))
 
-legal : Legal 1000 sheet
+legal : Legal codeBase sheet
 legal = record {
   out-net = omega arith;
   leaf-nets = every-cons (omega arith) (every-cons (omega arith) (two _ (omega arith) (omega arith)));
@@ -98,7 +99,7 @@ legal = record {
   );
 }
 
-added : LeastCoverTables 1000 2 [] part sheet
+added : LeastCoverTables codeBase 2 [] part sheet
 unfolding pack better least-of
 added = record {
   added = record {
@@ -115,5 +116,5 @@ added = record {
   fewest = least-is 2 (omega arith) and edges tt;
 }
 
-its-meaning : (σ : ℕ → Bool) → settled 1000 part σ 5 ≡ turned true (value (sheet .tree) (settled 1000 part σ))
-its-meaning = added-met 1000 2 [] part sheet legal (added .added)
+its-meaning : (σ : ℕ → Bool) → settled codeBase part σ 5 ≡ turned true (value (sheet .tree) (settled codeBase part σ))
+its-meaning = added-met codeBase 2 [] part sheet legal (added .added)

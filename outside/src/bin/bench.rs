@@ -22,7 +22,7 @@ struct Sample {
 }
 
 fn one(name: &str, k: usize, gates: usize, fanins: usize) -> Sample {
-    Sample { name: format!("{name}, K {k}"), text: input(k, 800, &[chain(999, 1, gates, fanins)]) }
+    Sample { name: format!("{name}, K {k}"), text: input(k, 800, &[chain(9999, 1, gates, fanins)]) }
 }
 
 fn samples() -> Vec<Sample> {

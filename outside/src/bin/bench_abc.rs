@@ -80,8 +80,8 @@ fn compared() -> Result<String, String> {
     let rounds = arguments.get(3).and_then(|rounds| rounds.parse().ok()).unwrap_or(20);
     let programs = Programs { program: program.clone(), abc: abc.clone(), folder: folder.clone(), rounds };
     let head = format!("{:<34}{:>12}{:>12}{:>10}{:>14}\n", "input", "mapper", "abc", "times", "abc once more");
-    let chain_255 = programs.compare("chain of 255 gates, K 6", 6, &input(6, 800, &[chain(999, 1, 255, 2)]))?;
-    let wide = programs.compare("28 gates of ten fanins, K 6", 6, &input(6, 800, &[chain(999, 1, 28, 10)]))?;
+    let chain_255 = programs.compare("chain of 255 gates, K 6", 6, &input(6, 800, &[chain(9999, 1, 255, 2)]))?;
+    let wide = programs.compare("28 gates of ten fanins, K 6", 6, &input(6, 800, &[chain(9999, 1, 28, 10)]))?;
     let full = programs.compare("full part of 800 tables, K 6", 6, &full_part())?;
     Ok(head + &chain_255 + &wide + &full)
 }

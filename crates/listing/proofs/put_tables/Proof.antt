@@ -4,7 +4,7 @@ use mathlib.Core.Path.{_≡_, refl, sym, ap, _∙_}
 use borrow.Author.Needs.{needs}
 use denote.Ref.{now}
 use lib.ListN.{length, getD}
-use Rattle.table.specs.LoopLaws.{getD-any}
+use Rattle.lists.specs.ListLaws.{getD-any}
 use Rattle.table.specs.Trusted.Records.{blank}
 use Rattle.table.proofs.Shape.{past}
 use Rattle.part.proofs.Shape.{shaped}

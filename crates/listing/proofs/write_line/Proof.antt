@@ -6,7 +6,7 @@ use denote.Ref.{now}
 use lib.Dec.{leb}
 use lib.ListN.{length, getD}
 use Rattle.lists.specs.Trusted.Checked.{passed}
-use Rattle.table.specs.LoopLaws.{getD-any}
+use Rattle.lists.specs.ListLaws.{getD-any}
 use Rattle.table.specs.Trusted.Records.{blank}
 use mathlib.Core.Bool.{true}
 use Rattle.part.specs.Trusted.SoundTest.{sound}

@@ -18,11 +18,11 @@ refusals =
     1 means "the line is missing, has no line feed, has a wrong number of fields or a field that is not laid out, or follows the last line" ∷
     2 means "K must be from 2 to 6" ∷
     3 means "the capacity must be from 1 to 800" ∷
-    4 means "the output net must be from 1 to 999, with or without a minus sign" ∷
+    4 means "the output net must be from 1 to 9999, with or without a minus sign" ∷
     5 means "the number of gates must be from 1 to 255" ∷
     6 means "the kind must be 1 (AND) or 2 (OR)" ∷
     7 means "the fanin count must be from 2 to 10" ∷
-    8 means "a fanin is neither a net (1 to 999) nor an earlier gate (1000 plus its number)" ∷
+    8 means "a fanin is neither a net (1 to 9999) nor an earlier gate (10000 plus its number)" ∷
     9 means "a gate is read a second time" ∷
     10 means "a net stands at a second leaf" ∷
     11 means "the sheet's output net is one of its leaves" ∷

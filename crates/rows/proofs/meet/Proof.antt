@@ -2,7 +2,7 @@
 use Rattle.tree.specs.Trusted.Tree.{meet}
 use Rattle.cover.specs.Trusted.Bits.{bit}
 use mathlib.Core.Path.{sym, ap, _∙_}
-use Rattle.pending.specs.MergeLaws.{bit-and, bit-or}
+use Rattle.cover.specs.BitLaws.{bit-and, bit-or}
 use borrow.Author.Needs.{needs}
 use Rattle.rows.proofs.meet.Statement.{statement}
 use Rattle.rows.proofs.meet.Tie as tie

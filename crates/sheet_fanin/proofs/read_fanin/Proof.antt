@@ -14,21 +14,21 @@ use Rattle.sheet.specs.Trusted.Limits.{mostLeaves}
 use Rattle.sheet.specs.Trusted.Sheet.{netOf}
 use Rattle.sheet.specs.Trusted.Read.{sourceOf}
 use Rattle.sheet_fanin.specs.Fanins.{saw, sourceStep}
-use Rattle.sheet_fanin.proofs.FaninLaws.{fanin-none, gate-twice, gate-once, net-twice, net-out, net-many, net-once, code-below, net-flag, gate-flag}
+use Rattle.sheet_fanin.proofs.FaninLaws.{fanin-none, gate-twice, gate-once, net-twice, net-out, net-many, net-once, net-flag, gate-flag}
 use borrow.Author.Needs.{needs}
 use Rattle.sheet_fanin.proofs.read_fanin.Statement.{statement}
 use Rattle.sheet_fanin.proofs.read_fanin.Tie as tie
 
-source-is : (c : tie.After-source) → sourceOf (c .before .before .before .args .gate) (c .before .before .before .args .code) ≡ some (c .source .given .0 .0)
+source-is : (c : tie.After-source) → sourceOf (c .before .before .before .before .args .gate) (c .before .before .before .before .args .code) ≡ some (c .source .given .0 .0)
 source-is c = c .before .before .source-of .ensures ∙ ap sourceStep (c .source .given .1)
 
 -- in the arm of a gate
-gate-is : (c : tie.After-enum-told2) → let a = c .before .before .before .before .before .before .before .args in
+gate-is : (c : tie.After-enum-told2) → let a = c .before .before .before .before .before .before .before .before .args in
     sourceOf (a .gate) (a .code) ≡ some (gate (c .enum-told2 .given .0 .0))
 gate-is c = source-is (c .before .before .before .before) ∙ ap some (c .enum-told2 .given .1)
 
 -- in the arm of a net
-net-is : (c : tie.After-known-told2) → let a = c .before .before .before .before .before .before .before .before .args in
+net-is : (c : tie.After-known-told2) → let a = c .before .before .before .before .before .before .before .before .before .args in
     sourceOf (a .gate) (a .code) ≡ some (net (c .before .source2 .given .0 .0))
 net-is c = source-is (c .before .before .before .before .before) ∙ ap some (c .before .source2 .given .1)
 
@@ -46,7 +46,7 @@ enum-told c = search needs
 
 returns : tie.Need-returns
 returns c =
-    let a = c .before .before .before .args in
+    let a = c .before .before .before .before .args in
     let e = c .before .before .source-of .ensures ∙ ap sourceStep (c .enum-told .given .1) in
     record {
       source = λ s q. absurd (none-reads _ s q);
@@ -55,23 +55,21 @@ returns c =
       step = λ seen h. fanin-none (a .out) (a .gate) seen (a .code) e;
     }
 
-element-copy-out-twice : tie.Need-element-copy-out-twice
-element-copy-out-twice c =
-    let s = c .before .before .before .before in
-    code-below (s .args .gate) (s .args .code) (s .pre) (c .before .source .given .0 .0) (source-is (c .before))
+flag-requires : tie.Need-flag-requires
+flag-requires c κs = search needs
 
 enum-told-2 : tie.Need-enum-told-2
 enum-told-2 c = search needs
 
 returns-2 : tie.Need-returns-2
 returns-2 c =
-    let s = c .before .before .before .before .before .before .before .before in
+    let s = c .before .before .before .before .before .before .before .before .before in
     let a = s .args in
     record {
       source = λ s q. absurd (none-reads _ s q);
       few = λ s q l. absurd (none-reads _ s q);
       first = λ s q. absurd (none-reads _ s q);
-      step = λ seen h. gate-twice (a .out) (a .gate) seen (a .code) _ (gate-is (c .before)) (sym (gate-flag (a .gate) (a .code) (s .pre) h _ (gate-is (c .before))) ∙ c .if1 .taken);
+      step = λ seen h. gate-twice (a .out) (a .gate) seen (a .code) _ (gate-is (c .before)) (sym (gate-flag (a .gate) (a .code) (s .pre) h _ (gate-is (c .before))) ∙ sym (c .before .before .before .flag .ensures) ∙ c .if1 .taken);
     }
 
 enum-known-source-2 : tie.Need-enum-known-source-2
@@ -79,30 +77,30 @@ enum-known-source-2 c = search needs
 
 returns-3 : tie.Need-returns-3
 returns-3 c =
-    let s = c .before .before .before .before .before .before .before .before .before in
+    let s = c .before .before .before .before .before .before .before .before .before .before in
     let a = s .args in
     record {
       source = λ s q. absurd (none-reads _ s q);
       few = λ s q l. absurd (none-reads _ s q);
       first = λ s q. absurd (none-reads _ s q);
-      step = λ seen h. net-twice (a .out) (a .gate) seen (a .code) _ (net-is (c .before)) (sym (net-flag (a .gate) (a .code) (s .pre) h _ (net-is (c .before))) ∙ c .if2 .taken);
+      step = λ seen h. net-twice (a .out) (a .gate) seen (a .code) _ (net-is (c .before)) (sym (net-flag (a .gate) (a .code) (s .pre) h _ (net-is (c .before))) ∙ sym (c .before .before .before .before .flag .ensures) ∙ c .if2 .taken);
     }
 
 returns-4 : tie.Need-returns-4
 returns-4 c =
-    let s = c .before .before .before .before .before .before .before .before .before .before in
+    let s = c .before .before .before .before .before .before .before .before .before .before .before in
     let a = s .args in
     let e = net-is (c .before .before) in
     record {
       source = λ s q. absurd (none-reads _ s q);
       few = λ s q l. absurd (none-reads _ s q);
       first = λ s q. absurd (none-reads _ s q);
-      step = λ seen h. net-out (a .out) (a .gate) seen (a .code) _ e (sym (net-flag (a .gate) (a .code) (s .pre) h _ e) ∙ c .before .if2 .left) (eq-eqb _ _ (c .if3 .taken));
+      step = λ seen h. net-out (a .out) (a .gate) seen (a .code) _ e (sym (net-flag (a .gate) (a .code) (s .pre) h _ e) ∙ sym (c .before .before .before .before .before .flag .ensures) ∙ c .before .if2 .left) (eq-eqb _ _ (c .if3 .taken));
     }
 
 returns-5 : tie.Need-returns-5
 returns-5 c =
-    let s = c .before .before .before .before .before .before .before .before .before .before .before in
+    let s = c .before .before .before .before .before .before .before .before .before .before .before .before in
     let a = s .args in
     let e = net-is (c .before .before .before) in
     record {
@@ -110,13 +108,13 @@ returns-5 c =
       few = λ s q l. absurd (none-reads _ s q);
       first = λ s q. absurd (none-reads _ s q);
       step = λ seen h.
-          net-many (a .out) (a .gate) seen (a .code) _ e (sym (net-flag (a .gate) (a .code) (s .pre) h _ e) ∙ c .before .before .if2 .left) (ne-eqb _ _ (c .before .if3 .left))
+          net-many (a .out) (a .gate) seen (a .code) _ e (sym (net-flag (a .gate) (a .code) (s .pre) h _ e) ∙ sym (c .before .before .before .before .before .before .flag .ensures) ∙ c .before .before .if2 .left) (ne-eqb _ _ (c .before .if3 .left))
           (le-ltb (length (seen .nets)) mostLeaves (omega (arith, h .count)));
     }
 
 returns-6 : tie.Need-returns-6
 returns-6 c =
-    let s = c .before .before .before .before .before .before .before .before in
+    let s = c .before .before .before .before .before .before .before .before .before in
     let a = s .args in
     let e = gate-is (c .before) in
     record {
@@ -124,15 +122,15 @@ returns-6 c =
       few = λ s q l.
           let z : s ≡ gate (c .before .enum-told2 .given .0 .0) = cc (c .before .enum-told2 .given .1) in
           omega (arith, ap (λ s. length (netOf s)) z);
-      first = λ s q. c .if1 .left;
+      first = λ s q. sym (c .before .before .before .flag .ensures) ∙ c .if1 .left;
       step = λ seen h.
-          gate-once (a .out) (a .gate) seen (a .code) _ e (sym (gate-flag (a .gate) (a .code) (s .pre) h _ e) ∙ c .if1 .left)
+          gate-once (a .out) (a .gate) seen (a .code) _ e (sym (gate-flag (a .gate) (a .code) (s .pre) h _ e) ∙ sym (c .before .before .before .flag .ensures) ∙ c .if1 .left)
           ∙ ap (λ s. passed (s, saw seen s)) (sym (c .before .enum-told2 .given .1));
     }
 
 returns-7 : tie.Need-returns-7
 returns-7 c =
-    let s = c .before .before .before .before .before .before .before .before .before .before .before in
+    let s = c .before .before .before .before .before .before .before .before .before .before .before .before in
     let a = s .args in
     let e = net-is (c .before .before .before) in
     record {
@@ -140,9 +138,9 @@ returns-7 c =
       few = λ s q l.
           let z : net (c .before .before .before .before .source2 .given .0 .0) ≡ s = cc in
           omega (arith, ap (λ s. length (netOf s)) z);
-      first = λ s q. c .before .before .if2 .left;
+      first = λ s q. sym (c .before .before .before .before .before .before .flag .ensures) ∙ c .before .before .if2 .left;
       step = λ seen h.
-          net-once (a .out) (a .gate) seen (a .code) _ e (sym (net-flag (a .gate) (a .code) (s .pre) h _ e) ∙ c .before .before .if2 .left) (ne-eqb _ _ (c .before .if3 .left))
+          net-once (a .out) (a .gate) seen (a .code) _ e (sym (net-flag (a .gate) (a .code) (s .pre) h _ e) ∙ sym (c .before .before .before .before .before .before .flag .ensures) ∙ c .before .before .if2 .left) (ne-eqb _ _ (c .before .if3 .left))
           (lt-ltb (length (seen .nets)) mostLeaves (omega (arith, h .count)));
     }
 
@@ -154,7 +152,7 @@ read-fanin-spec =
     enum-known-source
     enum-told
     returns
-    element-copy-out-twice
+    flag-requires
     enum-told-2
     returns-2
     enum-known-source-2

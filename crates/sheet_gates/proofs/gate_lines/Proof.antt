@@ -10,10 +10,8 @@ use Rattle.sheet_gates.specs.declared.Lines.{Lines}
 use Rattle.sheet.specs.Trusted.Limits.{mostGates, faninRoom}
 use Rattle.sheet.specs.Trusted.Read.{nothing, readLeft}
 use Rattle.sheet.specs.Trusted.Answers.{drawnGates, noFanins}
-use Rattle.sheet_fanin.specs.Fanins.{flagCount}
 use Rattle.sheet_gates.specs.Gates.{Comes, GatesHeld}
 use Rattle.sheet_line.proofs.HeadLaws.{zeroValue}
-use Rattle.sheet_fanin.proofs.FaninLaws.{code-below}
 use Rattle.sheet_gates.proofs.LinesLaws.{AtLine, AtFanin, at-start, line-refused, line-taken, lines-over, fanin-refused, fanin-room, fanin-taken, after-room, gate-taken}
 use Rattle.sheet_gates.proofs.gate_lines.Statement.{statement}
 use Rattle.sheet_gates.proofs.gate_lines.Tie as tie
@@ -43,14 +41,6 @@ line-of c = c .before .before .before .read-gate-line .result
 
 abbrev loop-of : tie.After-known-told3 Inv-loop μ-loop Inv-lines μ-lines → tie.At-loop Inv-loop μ-loop Inv-lines μ-lines
 loop-of c = c .before .before .before .before .before .before .before
-
--- the number of an accepted fanin has a flag
-code-known : (c : tie.After-known-told3 Inv-loop μ-loop Inv-lines μ-lines) → let b = loop-of c in getD (line-of b .numbers) (b .loop .i + 2) zeroValue .magnitude < flagCount
-code-known c =
-    let f = c .before .before .before in
-    let l = lines-of (loop-of c) in
-    code-below (l .lines .g + 1) _ (omega (arith, l .before .before .before .before .fits)) (c .before .source .given .0 .0)
-    (f .read-fanin .ensures .source (c .before .source .given .0 .0) (c .before .source .given .1))
 
 -- there is room for an accepted fanin
 room-left : (c : tie.After-known-told3 Inv-loop μ-loop Inv-lines μ-lines) → let b = loop-of c in lines-of b .lines .used + b .loop .i < faninRoom
@@ -119,14 +109,17 @@ mul-x c = search needs
 element-copy-out-x : tie.Need-element-copy-out-x Inv-loop μ-loop Inv-lines μ-lines
 element-copy-out-x c = search needs
 
+slice-aggregate-read-fanin : tie.Need-slice-aggregate-read-fanin Inv-loop μ-loop Inv-lines μ-lines
+slice-aggregate-read-fanin c = search needs
+
 read-fanin-requires : tie.Need-read-fanin-requires Inv-loop μ-loop Inv-lines μ-lines
 read-fanin-requires c κs = search needs
 
 enum-known-why : tie.Need-enum-known-why Inv-loop μ-loop Inv-lines μ-lines
 enum-known-why c = search needs
 
-add-t39 : tie.Need-add-t39 Inv-loop μ-loop Inv-lines μ-lines
-add-t39 c = search needs
+add-t40 : tie.Need-add-t40 Inv-loop μ-loop Inv-lines μ-lines
+add-t40 c = search needs
 
 enum-known-source : tie.Need-enum-known-source Inv-loop μ-loop Inv-lines μ-lines
 enum-known-source c = search needs
@@ -146,11 +139,14 @@ array-set-from-fanins c = omega (arith, room-left (c .before .before), loop-of (
 with-leaf-requires : tie.Need-with-leaf-requires Inv-loop μ-loop Inv-lines μ-lines
 with-leaf-requires c κs = search needs
 
-cast-seen : tie.Need-cast-seen Inv-loop μ-loop Inv-lines μ-lines
-cast-seen c = omega (arith, code-known (c .before .before .before .before))
+slice-aggregate-raise : tie.Need-slice-aggregate-raise Inv-loop μ-loop Inv-lines μ-lines
+slice-aggregate-raise c = search needs
 
-array-write-seen : tie.Need-array-write-seen Inv-loop μ-loop Inv-lines μ-lines
-array-write-seen c = omega (arith, code-known (c .before .before .before .before), loop-of (c .before .before .before .before) .loop .inv .marked .whole)
+cast-raise : tie.Need-cast-raise Inv-loop μ-loop Inv-lines μ-lines
+cast-raise c = search needs
+
+raise-requires : tie.Need-raise-requires Inv-loop μ-loop Inv-lines μ-lines
+raise-requires c κs = search needs
 
 add-i : tie.Need-add-i Inv-loop μ-loop Inv-lines μ-lines
 add-i c = search needs
@@ -160,14 +156,15 @@ loop-less c = search needs
 
 loop-again : tie.Need-loop-again Inv-loop μ-loop Inv-lines μ-lines
 loop-again c =
-    let w = c .before in
+    let w = c .before .before .before .before in
     let e = w .before in
     let d = e .before .before in
     let f = d .before .before .before in
     let b = loop-of d in
     let a = lines-of b .before .before .before .before in
-    fanin-taken (a .args .text .now) (a .args .start) (a .args .out) (a .args .count) (b .loop .inv) (omega (arith, a .fits)) (f .read-fanin .result) (f .read-fanin .ensures)
-    (d .before .source .given .0 .0) (d .before .source .given .1) (omega arith) (e .edge-of .result) (e .edge-of .ensures) (w .with-leaf .result) (w .with-leaf .ensures)
+    rw (c .before .raise .ensures)
+    (fanin-taken (a .args .text .now) (a .args .start) (a .args .out) (a .args .count) (b .loop .inv) (omega (arith, a .fits)) (f .read-fanin .result) (f .read-fanin .ensures)
+    (d .before .source .given .0 .0) (d .before .source .given .1) (omega arith) (e .edge-of .result) (e .edge-of .ensures) (w .with-leaf .result) (w .with-leaf .ensures))
 
 cast-gate-of : tie.Need-cast-gate-of Inv-loop μ-loop Inv-lines μ-lines
 cast-gate-of c = omega (arith, room-after (c .before) (omega arith))
@@ -248,17 +245,19 @@ gate-lines-spec =
     add-x
     mul-x
     element-copy-out-x
+    slice-aggregate-read-fanin
     read-fanin-requires
     enum-known-why
-    add-t39
+    add-t40
     enum-known-source
     add-at
     edge-of-requires
     mul-fanins
     array-set-from-fanins
     with-leaf-requires
-    cast-seen
-    array-write-seen
+    slice-aggregate-raise
+    cast-raise
+    raise-requires
     add-i
     loop-less
     loop-again

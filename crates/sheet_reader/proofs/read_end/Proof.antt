@@ -48,6 +48,9 @@ returns-2 c =
     λ m h. next-refused (a .text .now) _ (c .refused2 .result) Layout (a .count + 2) (c .refused2 .ensures)
     (end-more (a .text .now) (a .l) (head-of s) (a .last) m h (e .enum-told .given .1) (sym (c .before .before .more .ensures) ∙ c .before .if1 .taken))
 
+slice-aggregate-first-unread : tie.Need-slice-aggregate-first-unread
+slice-aggregate-first-unread c = search needs
+
 first-unread-requires : tie.Need-first-unread-requires
 first-unread-requires c κs = search needs
 
@@ -102,6 +105,7 @@ read-end-spec =
     add-refused
     refused-requires-2
     returns-2
+    slice-aggregate-first-unread
     first-unread-requires
     enum-known-line
     refused-requires-3

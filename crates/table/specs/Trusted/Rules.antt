@@ -31,7 +31,7 @@ IsNet x = (1 ≤ x) × (x ≤ greatestNet)
 abbrev pub NamesTable : ℕ → Type 0
 NamesTable x = codeBase < x
 
--- the net driven is 0 to 999, and an input is a net or names a table
+-- the net driven is 0 or a net, and an input is a net or names a table
 abbrev pub Coded : Table → Type 0
 Coded r = (r .net ≤ greatestNet) × Every (λ x. IsNet x ⊎ NamesTable x) (reads r)
 

@@ -14,11 +14,14 @@ use Rattle.table_prefix.proofs.after.Tie as tie
 returns : tie.Need-returns
 returns c = rw (le-ltb _ _ (c .if1 .taken))
 
-slice-aggregate-claim : tie.Need-slice-aggregate-claim
-slice-aggregate-claim c = search needs
+slice-aggregate-raise : tie.Need-slice-aggregate-raise
+slice-aggregate-raise c = search needs
 
-claim-requires : tie.Need-claim-requires
-claim-requires c κs = search needs
+cast-raise : tie.Need-cast-raise
+cast-raise c = search needs
+
+raise-requires : tie.Need-raise-requires
+raise-requires c κs = search needs
 
 slice-aggregate-claim-all : tie.Need-slice-aggregate-claim-all
 slice-aggregate-claim-all c = search needs
@@ -40,23 +43,24 @@ add-t16 c = search needs
 
 returns-2 : tie.Need-returns-2
 returns-2 c =
-    let s = c .before .before .before .before .before .before .before .before .before .before .before .before in
+    let s = c .before .before .before .before .before .before .before .before .before .before .before .before .before in
     let r = s .args .r in
     let q = s .args .prefix in
-    let m = c .before .before .before .before .before .before .claim .last .0 in
-    rw (lt-ltb _ _ (c .before .before .before .before .before .before .before .before .before .before .before .if1 .left))
+    let m = c .before .before .before .before .before .before .raise .last .0 in
+    rw (lt-ltb _ _ (c .before .before .before .before .before .before .before .before .before .before .before .before .if1 .left))
     (ap (λ l. record { count = q .count + 1; claimed = l; drives = set (q .drives) (q .count) (not (eqb (r .net) 0)) })
     (c .before .before .claim-all .ensures ∙ ap (λ n. claimAll m (take n (r .inputs))) (c .before .before .before .in-use .ensures)
     ∙ ap (claimAll m) (take-room (r .inputs) (r .count) (inputs-fill r (s .good .1 .0 .1 .1 .1 .1 .0 .1 .0 .1)))
-    ∙ ap (λ l. claimAll l (reads r)) (c .before .before .before .before .before .before .claim .ensures)))
+    ∙ ap (λ l. claimAll l (reads r)) (c .before .before .before .before .before .before .raise .ensures)))
 
 pub after-spec : {M : Type 1} → statement M
 after-spec =
     tie.close
     (tie.spec
     returns
-    slice-aggregate-claim
-    claim-requires
+    slice-aggregate-raise
+    cast-raise
+    raise-requires
     slice-aggregate-claim-all
     in-use-requires
     claim-all-requires

@@ -1,9 +1,9 @@
 use Prim.Native.Nat.{_+_, _-_}
 use native.Mathlib.Omega.{arith}
 use mathlib.Core.Path.{_≡_, refl, sym, ap, _∙_}
-use mathlib.Core.Bool.{true}
 use borrow.Author.Needs.{needs}
-use lib.ListN.{length, getD, take, drop, length-set}
+use lib.ListN.{length, getD, take, drop}
+use Rattle.flags.specs.FlagLaws.{raised-length}
 use Rattle.table.specs.PrefixTest.{claimAll}
 use Rattle.table.specs.LoopLaws.{take-next, take-none}
 use Rattle.table_prefix.proofs.claim_all.Statement.{statement}
@@ -19,14 +19,17 @@ abbrev μ-loop : tie.MeasureT-loop
 loop-holds : tie.Need-loop-holds Inv-loop μ-loop
 loop-holds c = (c .before .good .1 .0 .1 .0 .1, refl, refl)
 
-mul-claim : tie.Need-mul-claim Inv-loop μ-loop
-mul-claim c = search needs
+mul-raise : tie.Need-mul-raise Inv-loop μ-loop
+mul-raise c = search needs
 
-array-read-claim : tie.Need-array-read-claim Inv-loop μ-loop
-array-read-claim c = search needs
+array-read-raise : tie.Need-array-read-raise Inv-loop μ-loop
+array-read-raise c = search needs
 
-claim-requires : tie.Need-claim-requires Inv-loop μ-loop
-claim-requires c κs = search needs
+cast-raise : tie.Need-cast-raise Inv-loop μ-loop
+cast-raise c = search needs
+
+raise-requires : tie.Need-raise-requires Inv-loop μ-loop
+raise-requires c κs = search needs
 
 add-i : tie.Need-add-i Inv-loop μ-loop
 add-i c = search needs
@@ -39,9 +42,9 @@ loop-again c =
     let a = c .before .before .before .before .before .before .before .args in
     let l = c .before .before .before .before .before .loop in (
       l .inv .0,
-      ap length (c .before .before .claim .ensures) ∙ length-set (l .claimed) (getD (a .t2) (l .i) 0) true ∙ l .inv .1,
+      ap length (c .before .before .raise .ensures) ∙ raised-length (l .claimed) (getD (a .t2) (l .i) 0) ∙ l .inv .1,
       l .inv .2 ∙ ap (claimAll (l .claimed)) (take-next (a .t2) (a .n) (l .i) 0 (omega arith) (omega arith))
-          ∙ ap (λ m. claimAll m (drop (l .i + 1) (take (a .n) (a .t2)))) (sym (c .before .before .claim .ensures)),
+          ∙ ap (λ m. claimAll m (drop (l .i + 1) (take (a .n) (a .t2)))) (sym (c .before .before .raise .ensures)),
     )
 
 same-length : tie.Need-same-length Inv-loop μ-loop
@@ -60,9 +63,10 @@ claim-all-spec =
     Inv-loop
     μ-loop
     loop-holds
-    mul-claim
-    array-read-claim
-    claim-requires
+    mul-raise
+    array-read-raise
+    cast-raise
+    raise-requires
     add-i
     loop-less
     loop-again

@@ -1,4 +1,4 @@
-use Prim.Native.Nat.{_+_, _-_, _<_, _≤_}
+use Prim.Native.Nat.{suc, _+_, _-_, _<_, _≤_}
 use native.Mathlib.Omega.{arith}
 use mathlib.Core.Path.{_≡_, ap}
 use mathlib.Core.Bool.{true, false, not}
@@ -6,7 +6,8 @@ use borrow.Author.Needs.{needs}
 use borrow.Author.Tests.{le-leb, lt-leb}
 use lib.ListN.{length, List·getD-eq-default}
 use denote.Ref.{now}
-use Rattle.table.specs.LoopLaws.{getD-any}
+use Rattle.tree.specs.Trusted.Limits.{codeBase}
+use Rattle.lists.specs.ListLaws.{getD-any}
 use Rattle.table_rules.proofs.sourced.Statement.{statement}
 use Rattle.table_rules.proofs.sourced.Tie as tie
 
@@ -22,7 +23,7 @@ sub-t-2 c = search needs
 returns-2 : tie.Need-returns-2
 returns-2 c =
     let a = c .before .before .args in
-    let l : 1000 + a .count < a .x = omega arith in
+    let l : codeBase + a .count < a .x = omega arith in
     rw (lt-leb _ _ (c .before .if1 .left), lt-leb _ _ l)
 
 cast-at : tie.Need-cast-at
@@ -35,15 +36,15 @@ returns-3 : tie.Need-returns-3
 returns-3 c =
     let a = c .before .before .before .before .args in
     let d = now (a .drives) in
-    let l : a .x ≤ 1000 + a .count = omega arith in
-    let e : a .x - 1000 - 1 ≡ a .x - 1001 = omega arith in
-    rw (lt-leb _ _ (c .before .before .before .if1 .left), le-leb _ _ l, e) (ap not (getD-any d (a .x - 1001) false true (omega arith)))
+    let l : a .x ≤ codeBase + a .count = omega arith in
+    let e : a .x - codeBase - 1 ≡ a .x - suc codeBase = omega arith in
+    rw (lt-leb _ _ (c .before .before .before .if1 .left), le-leb _ _ l, e) (ap not (getD-any d (a .x - suc codeBase) false true (omega arith)))
 
 returns-4 : tie.Need-returns-4
 returns-4 c =
     let a = c .before .before .before .args in
-    let l : a .x ≤ 1000 + a .count = omega arith in
-    let h : length (now (a .drives)) ≤ a .x - 1001 = omega arith in
+    let l : a .x ≤ codeBase + a .count = omega arith in
+    let h : length (now (a .drives)) ≤ a .x - suc codeBase = omega arith in
     rw (lt-leb _ _ (c .before .before .if1 .left), le-leb _ _ l, List·getD-eq-default (now (a .drives)) true h)
 
 pub sourced-spec : {M : Type 1} → statement M
