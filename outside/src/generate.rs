@@ -210,7 +210,7 @@ fn input(k: usize, capacity: usize, sheets: &[Sheet]) -> Input {
 }
 
 fn fields(line: &str) -> Vec<i64> {
-    line.split_ascii_whitespace().map(|field| field.parse().unwrap()).collect()
+    line.as_bytes().chunks(6).map(|field| str::from_utf8(field).unwrap().trim_start().parse().unwrap()).collect()
 }
 
 /// A capacity for sheets that take `wanted` tables: just enough, ample, the most, or now and then too small.

@@ -50,8 +50,9 @@ impl Rng {
 
     /// So many of the items, each as likely as another, in any order.
     pub fn draw<T>(&mut self, mut items: Vec<T>, count: usize) -> Vec<T> {
+        let last = items.len() - 1;
         for i in 0..count {
-            items.swap(i, self.between(i, items.len() - 1));
+            items.swap(i, self.between(i, last));
         }
         items.truncate(count);
         items

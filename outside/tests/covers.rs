@@ -67,7 +67,7 @@ fn mark(marks: &mut u64) -> bool {
 }
 
 fn sheet(shape: &Shape, mut marks: u64) -> Sheet {
-    let mut sheet = Sheet { net: 999, inverted: mark(&mut marks), gates: Vec::new() };
+    let mut sheet = Sheet { net: 9999, inverted: mark(&mut marks), gates: Vec::new() };
     draw(shape, &mut sheet, &mut 0, &mut marks);
     sheet
 }
@@ -160,7 +160,7 @@ fn changes(tables: &[Table]) -> Vec<Vec<Table>> {
         }
         with(Table { truth: table.truth ^ ((1 << (1 << table.inputs.len())) - 1), ..table.clone() });
         for place in 0..table.inputs.len() {
-            for other in (1..=5).chain(1001..=1003) {
+            for other in (1..=5).chain(10001..=10003) {
                 let mut inputs = table.inputs.clone();
                 inputs[place] = other;
                 if inputs != table.inputs && inputs.is_sorted() {
@@ -168,7 +168,7 @@ fn changes(tables: &[Table]) -> Vec<Vec<Table>> {
                 }
             }
         }
-        with(Table { net: 998 - table.net.min(998), ..table.clone() });
+        with(Table { net: 9998 - table.net.min(9998), ..table.clone() });
         let mut fewer = tables.to_vec();
         fewer.remove(index);
         all.push(fewer);
@@ -188,7 +188,7 @@ fn inverted_twice_is_found() {
     ];
     let sheet = Sheet { net: 9, inverted: false, gates };
     let inner = |truth| Table { net: 0, inputs: vec![1, 2], truth };
-    let root = |truth| Table { net: 9, inputs: vec![3, 1001], truth };
+    let root = |truth| Table { net: 9, inputs: vec![3, 10001], truth };
     assert_eq!(sheet_tables(&sheet, 0, &[inner(8), root(8)]), Ok(()));
     assert!(sheet_tables(&sheet, 0, &[inner(7), root(2)]).is_err());
 }

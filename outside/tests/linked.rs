@@ -12,7 +12,7 @@ use outside::linked::{map, refusal, LONGEST};
 /// 01's example has one table for each sheet, so its list leaves nothing free.
 #[test]
 fn the_example() {
-    let input = text(&[&[4, 8], &[20, 3], &[2, 2, 1, 2], &[2, 2, 3, 4], &[1, 2, 1001, 1002], &[-21, 1], &[1, 2, 20, -5]]);
+    let input = text(&[&[4, 8], &[20, 3], &[2, 2, 1, 2], &[2, 2, 3, 4], &[1, 2, 10001, 10002], &[-21, 1], &[1, 2, 20, -5]]);
     let list = "     4     8     2
      1    20     4     1     2     3     4                61152
      2    21     2     5    20                   11

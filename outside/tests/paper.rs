@@ -34,7 +34,10 @@ fn the_example_in_old_codes() {
     let old = INPUT.replace(" 10001 10002", "  1001  1002");
     assert_ne!(old, INPUT);
     assert_eq!(refused(&old), Refusal::new(13, 1, 2));
-    assert_eq!(print(&input(2, 8, &one_gate(20, 1, &[1001, -1000])).into_bytes()), "     2     8     1\n     1    20     2  1000  1001                    4\n");
+    assert_eq!(
+        print(&input(2, 8, &one_gate(20, 1, &[1001, -1000])).into_bytes()),
+        "     2     8     1\n     1    20     2  1000  1001                    4\n"
+    );
 }
 
 /// Every other byte in place of any byte of the example's list, and every cut and every added byte, is found.

@@ -131,8 +131,8 @@ fn last_gate(fanins: &[i64]) -> String {
 
 #[test]
 fn the_257th_leaf() {
-    assert!(read(input(6, 800, &last_gate(&[1254, 500])).as_bytes()).is_ok());
-    refuses(&last_gate(&[1254, 500, 501]), 12, 256);
+    assert!(read(input(6, 800, &last_gate(&[10254, 500])).as_bytes()).is_ok());
+    refuses(&last_gate(&[10254, 500, 501]), 12, 256);
     refuses(&last_gate(&[500, 501, 0]), 12, 256);
     refuses(&last_gate(&[500, 0, 501]), 8, 256);
     refuses(&last_gate(&[500, 500]), 10, 256);
