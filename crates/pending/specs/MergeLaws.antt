@@ -18,7 +18,7 @@ use Rattle.lists.specs.Sequences.{Sorted}
 use Rattle.lists.specs.ListLaws.{inserted-length, permuted-refl, permuted-length}
 use Rattle.lists.specs.NumberLaws.{insert-inserted, insert-first, sorted-permuted, sorted-sorted, sorted-only}
 use Rattle.tree.specs.declared.Kind.{Kind}
-use Rattle.tree.specs.declared.Kind.the-variants.{And as and, Or as or}
+use Rattle.tree.specs.declared.Kind.the-variants.{And as and}
 use Rattle.tree.specs.Trusted.Tree.{turned, meet}
 use Rattle.cover.specs.Trusted.Bits.{bit, digit, truthOf, index, place}
 use Rattle.cover.specs.Trusted.Tables.{output, tabled}

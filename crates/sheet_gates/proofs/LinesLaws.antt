@@ -4,7 +4,6 @@ use native.Mathlib.Omega.{arith}
 use native.Mathlib.Nat.{add-zero}
 use native.Mathlib.Numerals.{add-one}
 use mathlib.Core.Path.{_≡_, refl, sym, ap, ap₂, _∙_, subst}
-use mathlib.Core.Bool.{Bool, true, false}
 use mathlib.Core.Option.{Option, none, some}
 use mathlib.Core.List.{List, [], _∷_, _++_, append-assoc, append-nil}
 use lib.ListN.{length, getD, take, drop, set, replicate, length-set, length-take, length-drop, length-map, List·getD-map, drop-of-length-le}
@@ -35,7 +34,7 @@ use Rattle.flags.specs.Flags.{raised}
 use Rattle.sheet_fanin.specs.Fanins.{flagWords, Marked, saw, faninStep, FaninRead}
 use Rattle.sheet_line.proofs.HeadLaws.{zeroValue}
 use Rattle.sheet_fanin.proofs.FaninLaws.{marked-start, marked-more}
-use Rattle.sheet_gates.proofs.StoreLaws.{readCount, read-none, read-most, read-more, Below, drawn-same, taken-more, drawn-more, below-more}
+use Rattle.sheet_gates.proofs.StoreLaws.{readCount, count-none, read-most, read-more, Below, drawn-same, taken-more, drawn-more, below-more}
 
 abbrev Gates : Type 0
 Gates = List DrawnGate × Seen × List ℕ
@@ -222,7 +221,7 @@ module _ (text : List ℕ) (start out count : ℕ) where
     room = r;
     wide = w;
     below = every-none _;
-    read = sym read-none;
+    read = sym count-none;
     seen = nothing;
     marked = marked-start;
     few = omega arith;

@@ -60,8 +60,8 @@ gateFlags words = drop codeBase (flagsOf flagCount words)
 abbrev pub readCount : List ℕ → ℕ → ℕ
 readCount words leaves = leaves + up (gateFlags words)
 
-pub read-none : readCount (replicate flagWords 0) 0 ≡ 0
-read-none =
+pub count-none : readCount (replicate flagWords 0) 0 ≡ 0
+count-none =
     let q : up (gateFlags (replicate flagWords 0)) ≡ 0 = ap (λ flags. up (drop codeBase flags)) (flags-none flagCount flagWords) ∙ up-none codeBase flagCount in
     omega (arith, q)
 

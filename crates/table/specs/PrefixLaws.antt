@@ -3,11 +3,12 @@ use Prim.Native.Nat.{ℕ, suc, _+_, _-_, _*_, _≤_, _<_}
 use native.Mathlib.Omega.{arith}
 use mathlib.Core.Path.{_≡_, refl, sym, ap, ap₂, _∙_}
 use mathlib.Core.Logic.{_≢_}
-use mathlib.Core.Bool.{Bool, true, false, not, _&&_, _||_}
+use mathlib.Core.Bool.{Bool, true, false, cond, not, _&&_, _||_}
 use mathlib.Core.List.{List, [], _∷_, _++_}
+use borrow.Author.Tests.{eq-eqb, ne-eqb}
 use lib.Dec.{leb, eqb}
-use lib.ListN.{length, getD, set, length-append, length-set, length-replicate, getD-replicate, List·getD-append, List·getD-eq-default}
-use lib.Seq.{getD-append-seam, getD-set-same, getD-set-other}
+use lib.ListN.{length, getD, length-append, length-replicate, List·getD-append, List·getD-eq-default}
+use lib.Seq.{getD-append-seam}
 use Rattle.lists.specs.Cases.{by-eqb, by-leb}
 use Rattle.lists.specs.Trusted.Tests.{all, elem}
 use Rattle.lists.specs.TestLaws.{reflects-lt, reflects-eq, reflects-same, reflects-true}
@@ -17,7 +18,7 @@ use Rattle.tree.specs.Trusted.Limits.{greatestNet, codeBase}
 use Rattle.table.specs.Trusted.Limits.{tableRoom}
 use Rattle.table.specs.Trusted.Records.{reads, blank}
 use Rattle.table.specs.Trusted.RecordTest.{isCode, isPadded, isSized, sourced, clear, unclaimed, keeps}
-use Rattle.table.specs.PrefixTest.{netWords, Stands, emptyPrefix, claimAll, prefixAfter, sourcedIn, unclaimedIn, keepsIn}
+use Rattle.table.specs.PrefixTest.{netWords, tableWords, Stands, emptyPrefix, claimAll, withDriver, prefixAfter, sourcedIn, unclaimedIn, keepsIn}
 use Rattle.table.specs.declared.Table.{Table}
 use Rattle.table.specs.declared.Prefix.{Prefix}
 
@@ -27,9 +28,9 @@ stands-none = record {
   room = omega arith;
   count = refl;
   nets = length-replicate {A = ℕ} netWords 0;
-  tables = length-replicate tableRoom false;
+  tables = length-replicate {A = ℕ} tableWords 0;
   claimed = λ n l. ap not (flag-none netWords n);
-  drives = λ t l. ap not (getD-replicate tableRoom t false true l);
+  drives = λ t l. ap not (flag-none tableWords t);
 }
 
 -- ---- one more record
@@ -72,7 +73,7 @@ none-of false false false = refl
 
 module _ (s : Prefix) (before : List Table) (r : Table) (h : Stands s before) (l : length before < tableRoom) where
   abbrev next : Prefix
-  next = record { count = s .count + 1; claimed = claimAll (s .claimed) (r .net ∷ reads r); drives = set (s .drives) (s .count) (not (eqb (r .net) 0)) }
+  next = record { count = s .count + 1; claimed = claimAll (s .claimed) (r .net ∷ reads r); drives = withDriver (s .drives) (r .net) (s .count) }
 
   next-claimed : (n : ℕ) → n ≤ greatestNet → not (flagAt (next .claimed) n) ≡ all (clear n) (before ++ r ∷ [])
   next-claimed n m =
@@ -80,10 +81,6 @@ module _ (s : Prefix) (before : List Table) (r : Table) (h : Stands s before) (l
       ∙ none-of (eqb n (r .net)) (elem n (reads r)) (flagAt (s .claimed) n)
       ∙ ap₂ (λ a b. a && ((not b && not (elem n (reads r))) && true)) (h .claimed n m) (eqb-swap n (r .net))
       ∙ sym (all-append (clear n) before (r ∷ []))
-
-  not-not : (b : Bool) → not (not b) ≡ b
-  not-not true = refl
-  not-not false = refl
 
   -- the record at t, of those before and this one: this one, one of those, or none
   same-at : (t : ℕ) → t ≢ length before → getD (before ++ r ∷ []) t blank ≡ getD before t blank
@@ -94,21 +91,35 @@ module _ (s : Prefix) (before : List Table) (r : Table) (h : Stands s before) (l
       let b : length before ≤ t = omega arith in
       List·getD-eq-default (before ++ r ∷ []) blank a ∙ sym (List·getD-eq-default before blank b))
 
-  next-drives : (t : ℕ) → t < tableRoom → not (getD (next .drives) t true) ≡ eqb ((getD (before ++ r ∷ []) t blank) .net) 0
+  abbrev flags : Bool → List ℕ
+  flags b = cond b (s .drives) (raised (s .drives) (s .count))
+
+  -- the record's own flag, and another's
+  own-flag : (t : ℕ) → t < tableRoom → t ≡ length before → not (flagAt (next .drives) t) ≡ eqb (r .net) 0
+  own-flag t m e =
+      let o : length before ≤ t = omega arith in
+      by-eqb (λ b. not (flagAt (flags b) t) ≡ b) (r .net) 0
+      (λ z. h .drives t m ∙ ap (λ q. eqb (q .net) 0) (List·getD-eq-default before blank {n = t} o))
+      (λ z. ap not (raised-flag (s .drives) (s .count) t (omega (arith, h .tables)) ∙ ap (λ b. b || flagAt (s .drives) t) (eq-eqb t (s .count) (e ∙ sym (h .count)))))
+
+  other-flag : (t : ℕ) → t < tableRoom → t ≢ length before → flagAt (next .drives) t ≡ flagAt (s .drives) t
+  other-flag t m d =
+      by-eqb (λ b. flagAt (flags b) t ≡ flagAt (s .drives) t) (r .net) 0
+      (λ z. refl)
+      (λ z. raised-flag (s .drives) (s .count) t (omega (arith, h .tables)) ∙ ap (λ b. b || flagAt (s .drives) t) (ne-eqb t (s .count) (λ e. d (e ∙ h .count))))
+
+  next-drives : (t : ℕ) → t < tableRoom → not (flagAt (next .drives) t) ≡ eqb ((getD (before ++ r ∷ []) t blank) .net) 0
   next-drives t m =
-      by-eqb (λ b. not (getD (next .drives) t true) ≡ eqb ((getD (before ++ r ∷ []) t blank) .net) 0) t (length before)
-      (λ e. let f : t ≡ s .count = e ∙ sym (h .count) in
-      ap (λ i. not (getD (next .drives) i true)) f ∙ ap not (getD-set-same (s .drives) (s .count) (not (eqb (r .net) 0)) true (omega (arith, h .count, h .tables)))
-      ∙ not-not (eqb (r .net) 0) ∙ sym (rw (e, getD-append-seam before r [] blank)))
-      (λ d. ap not (getD-set-other (s .drives) (s .count) t (not (eqb (r .net) 0)) true (λ e. d (e ∙ h .count)))
-      ∙ h .drives t m ∙ sym (ap (λ q. eqb (q .net) 0) (same-at t d)))
+      by-eqb (λ b. not (flagAt (next .drives) t) ≡ eqb ((getD (before ++ r ∷ []) t blank) .net) 0) t (length before)
+      (λ e. own-flag t m e ∙ sym (rw (e, getD-append-seam before r [] blank)))
+      (λ d. ap not (other-flag t m d) ∙ h .drives t m ∙ sym (ap (λ q. eqb (q .net) 0) (same-at t d)))
 
   stands-next : Stands next (before ++ r ∷ [])
   stands-next = record {
     room = simp length-append (omega arith);
     count = simp length-append (omega (arith, h .count));
     nets = claim-length (s .claimed) (r .net ∷ reads r) ∙ h .nets;
-    tables = length-set (s .drives) (s .count) (not (eqb (r .net) 0)) ∙ h .tables;
+    tables = by-eqb (λ b. length (flags b) ≡ tableWords) (r .net) 0 (λ z. h .tables) (λ z. raised-length (s .drives) (s .count) ∙ h .tables);
     claimed = next-claimed;
     drives = next-drives;
   }
@@ -123,9 +134,9 @@ module _ (s : Prefix) (before : List Table) (h : Stands s before) where
   source-stands : (x : ℕ) → sourcedIn (s .drives) (s .count) x ≡ sourced before x
   source-stands x =
       rw (h .count)
-      (by-leb (λ b. b || (leb x (codeBase + length before) && not (getD (s .drives) (x - suc codeBase) true)) ≡ b || (leb x (codeBase + length before) && eqb ((getD before (x - suc codeBase) blank) .net) 0)) x codeBase
+      (by-leb (λ b. b || (leb x (codeBase + length before) && not (flagAt (s .drives) (x - suc codeBase))) ≡ b || (leb x (codeBase + length before) && eqb ((getD before (x - suc codeBase) blank) .net) 0)) x codeBase
       (λ l. refl)
-      (λ l. by-leb (λ b. b && not (getD (s .drives) (x - suc codeBase) true) ≡ b && eqb ((getD before (x - suc codeBase) blank) .net) 0) x (codeBase + length before)
+      (λ l. by-leb (λ b. b && not (flagAt (s .drives) (x - suc codeBase)) ≡ b && eqb ((getD before (x - suc codeBase) blank) .net) 0) x (codeBase + length before)
       (λ m. h .drives (x - suc codeBase) (omega (arith, h .room)))
       (λ m. refl)))
 

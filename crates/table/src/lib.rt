@@ -9,8 +9,10 @@ pub const INPUT_ROOM: u32 = 6;
 
 pub const TABLE_ROOM: u32 = 800;
 
-// The words that hold a flag for each net.
+// The words that hold a flag for each net, and for each record.
 pub const NET_WORDS: usize = GREATEST_NET as usize / 64 + 1;
+
+pub const TABLE_WORDS: usize = TABLE_ROOM as usize / 64 + 1;
 
 // A lookup table of a part: the net that it drives (0 for none), how many inputs it has, the inputs, and its truth table.
 pub struct Table {
@@ -20,12 +22,12 @@ pub struct Table {
     pub truth: u64,
 }
 
-// What the rules need to know of the records so far: how many there are, which nets a record drives or reads, as flags packed into words,
-// and which of the records drive a net.
+// What the rules need to know of the records so far: how many there are, which nets a record drives or reads, and which of
+// the records drive a net, both as flags packed into words.
 pub struct Prefix {
     pub count: u16,
     pub claimed: [u64; NET_WORDS],
-    pub drives: [bool; 800],
+    pub drives: [u64; TABLE_WORDS],
 }
 
 // A record of zeros.

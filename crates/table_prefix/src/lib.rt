@@ -3,10 +3,11 @@
 ghost use mathlib.Core.Path.{_≡_};
 ghost use Prim.Native.Nat.{_≤_};
 ghost use lib.ListN.{take};
-ghost use Rattle.table.specs.PrefixTest.{claimAll, emptyPrefix, prefixAfter};
+ghost use Rattle.table.specs.PrefixTest.{claimAll, emptyPrefix, withDriver, prefixAfter};
 use flags::raise;
 use table::NET_WORDS;
 use table::Prefix;
+use table::TABLE_WORDS;
 use table::Table;
 use table::in_use;
 
@@ -17,7 +18,7 @@ pub fn empty_prefix() -> Prefix
     Prefix {
         count: 0,
         claimed: [0; NET_WORDS],
-        drives: [false; 800],
+        drives: [0; TABLE_WORDS],
     }
 }
 
@@ -30,6 +31,15 @@ fn claim_all(claimed: &mut [u64], inputs: [u16; 6], n: usize)
     while i < n {
         raise(claimed, inputs[i] as usize);
         i += 1;
+    }
+}
+
+// Record `at` drives the net; none where that is 0.
+fn mark_driver(drives: &mut [u64], net: u16, at: usize)
+    ensures { λ _. ⌜ now (drives .exit) ≡ withDriver (now (drives .entry)) net at ⌝ }
+{
+    if net != 0 {
+        raise(drives, at);
     }
 }
 
@@ -46,7 +56,7 @@ pub fn after(prefix: Prefix, r: Table) -> Prefix
     let inputs = r.inputs;
     raise(&mut claimed, r.net as usize);
     claim_all(&mut claimed, inputs, in_use(r.count));
-    drives[count as usize] = r.net != 0;
+    mark_driver(&mut drives, r.net, count as usize);
     Prefix {
         count: count + 1,
         claimed,

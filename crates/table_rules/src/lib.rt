@@ -16,7 +16,7 @@ use table_inputs::reads_net;
 use tree::CODE_BASE;
 
 // An input that names a table names one of the records before, and that one drives no net.
-fn sourced(drives: &[bool], count: u16, x: u16) -> bool
+fn sourced(drives: &[u64], count: u16, x: u16) -> bool
     ensures { λ b. ⌜ b ≡ sourcedIn (now (drives .entry)) count x ⌝ }
 {
     if x <= CODE_BASE {
@@ -26,16 +26,11 @@ fn sourced(drives: &[bool], count: u16, x: u16) -> bool
     if t >= count {
         return false;
     }
-    let at = t as usize;
-    if at < drives.len() {
-        !drives[at]
-    } else {
-        false
-    }
+    !flag(drives, t as usize)
 }
 
 // So for the first n inputs.
-fn all_sourced(drives: &[bool], count: u16, inputs: [u16; 6], n: usize) -> bool
+fn all_sourced(drives: &[u64], count: u16, inputs: [u16; 6], n: usize) -> bool
     requires { ⌜ n ≤ 6 ⌝ }
     ensures { λ b. ⌜ b ≡ all (sourcedIn (now (drives .entry)) count) (take n inputs) ⌝ }
 {

@@ -1,6 +1,5 @@
 -- `flags::flag` meets its contract. Assumes nothing.
 use Prim.Native.Nat.{_/_, _%_}
-use native.Mathlib.Omega.{arith}
 use mathlib.Core.Path.{sym, ap, _∙_}
 use borrow.Author.Needs.{needs}
 use lib.ListN.{getD, List·getD-eq-default}

@@ -4,14 +4,13 @@ use Prim.Native.Nat.{_+_, _-_, _≤_, _<_}
 use native.Mathlib.Omega.{arith}
 use borrow.Author.Needs.{needs}
 use mathlib.Core.Path.{_≡_, refl, sym, ap, subst}
-use lib.ListN.{length, getD, drop, replicate}
+use lib.ListN.{length, drop, replicate}
 use Rattle.sheet_line.specs.declared.GateLine.{GateLine}
 use Rattle.sheet_gates.specs.declared.Lines.{Lines}
 use Rattle.sheet.specs.Trusted.Limits.{mostGates, faninRoom}
 use Rattle.sheet.specs.Trusted.Read.{nothing, readLeft}
 use Rattle.sheet.specs.Trusted.Answers.{drawnGates, noFanins}
 use Rattle.sheet_gates.specs.Gates.{Comes, GatesHeld}
-use Rattle.sheet_line.proofs.HeadLaws.{zeroValue}
 use Rattle.sheet_gates.proofs.LinesLaws.{AtLine, AtFanin, at-start, line-refused, line-taken, lines-over, fanin-refused, fanin-room, fanin-taken, after-room, gate-taken}
 use Rattle.sheet_gates.proofs.gate_lines.Statement.{statement}
 use Rattle.sheet_gates.proofs.gate_lines.Tie as tie
