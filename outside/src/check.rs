@@ -243,7 +243,10 @@ fn all_settings(sheet: &Sheet, used: usize, tables: &[Table]) -> Result<(), Stri
 fn random_settings(accepted: &Accepted, part: &Part) -> Result<(), String> {
     let mut rng = Rng::new(part.tables.len() as u64);
     for _ in 0..4 {
-        let mut drawn: Vec<u64> = (0..=NETS).map(|_| biased(&mut rng)).collect();
+        let mut drawn = vec![0; NETS as usize + 1];
+        for net in accepted.sheets.iter().flat_map(Sheet::leaves) {
+            drawn[usize::from(net)] = biased(&mut rng);
+        }
         let mut listed = drawn.clone();
         listed.resize(CODES as usize + part.tables.len() + 1, 0);
         for sheet in &accepted.sheets {

@@ -8,7 +8,7 @@ use lib.ListN.{length}
 use Rattle.lists.specs.Trusted.Tests.{elem}
 use Rattle.lists.specs.Trusted.Checked.{Checked, passed, refused}
 use Rattle.tree.specs.Trusted.Limits.{codeBase}
-use Rattle.flags.specs.Flags.{flagAt}
+use Rattle.flags.specs.Flags.{flagAt, raised}
 use Rattle.sheet.specs.declared.Source.{Source}
 use Rattle.sheet.specs.declared.Source.the-variants.{Net as net, Gate as gate}
 use Rattle.sheet_fanin.specs.declared.Fanin.{Fanin}
@@ -45,6 +45,11 @@ sourceStep (BadFanin why) = none
 abbrev pub faninStep : ℕ → Seen → Fanin → Checked (Source × Seen)
 faninStep g seen (Reads source) = passed (source, saw seen source)
 faninStep g seen (BadFanin why) = refused (numberOf why) (suc g)
+
+-- the flags with that of a fanin that is written as n, where it is accepted
+abbrev pub flagsAfter : List ℕ → ℕ → Fanin → List ℕ
+flagsAfter words n (Reads source) = raised words n
+flagsAfter words n (BadFanin why) = words
 
 -- a fanin of gate g that is written as n
 pub record FaninRead (words : List ℕ) (leaves out g n : ℕ) (r : Fanin) : Type 0 where

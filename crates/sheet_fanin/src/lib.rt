@@ -5,8 +5,9 @@ ghost use lib.ListN.{length};
 ghost use Rattle.sheet.specs.Trusted.Read.{sourceOf};
 ghost use Rattle.sheet.specs.Trusted.Limits.{mostGates, mostLeaves};
 ghost use Rattle.sheet.specs.Trusted.Sheet.{netOf};
-ghost use Rattle.sheet_fanin.specs.Fanins.{sourceStep, FaninRead};
+ghost use Rattle.sheet_fanin.specs.Fanins.{sourceStep, flagsAfter, FaninRead};
 use flags::flag;
+use flags::raise;
 use lists::within;
 use sheet::MOST_GATES;
 use sheet::MOST_LEAVES;
@@ -41,7 +42,7 @@ fn source_of(gate: u16, code: u32) -> Fanin
 }
 
 // A fanin of a gate, where `seen` has a flag raised for each number that was a fanin before.
-pub fn read_fanin(seen: &[u64], leaves: u16, out: u16, gate: u16, code: u32) -> Fanin
+fn fanin_of(seen: &[u64], leaves: u16, out: u16, gate: u16, code: u32) -> Fanin
     requires { ⌜ gate ≤ mostGates ⌝ }
     ensures { λ r. ⌜ FaninRead (now (seen .entry)) leaves out gate code r ⌝ }
 {
@@ -68,6 +69,18 @@ pub fn read_fanin(seen: &[u64], leaves: u16, out: u16, gate: u16, code: u32) -> 
         }
     }
     Fanin::Reads(source)
+}
+
+// The same, and where it is accepted its flag is raised.
+pub fn read_fanin(seen: &mut [u64], leaves: u16, out: u16, gate: u16, code: u32) -> Fanin
+    requires { ⌜ gate ≤ mostGates ⌝ }
+    ensures { λ r. ⌜ FaninRead (now (seen .entry)) leaves out gate code r × (now (seen .exit) ≡ flagsAfter (now (seen .entry)) code r) ⌝ }
+{
+    let fanin = fanin_of(seen, leaves, out, gate, code);
+    if let Fanin::Reads(_) = fanin {
+        raise(seen, code as usize);
+    }
+    fanin
 }
 
 // The number of leaves with what one more fanin reads.

@@ -3,7 +3,7 @@ use Prim.Native.Nat.{ℕ, zero, suc, _+_, _-_, _≤_, _<_}
 use native.Mathlib.Omega.{arith}
 use native.Mathlib.Nat.{add-zero}
 use native.Mathlib.Numerals.{add-one}
-use mathlib.Core.Path.{_≡_, refl, sym, ap, ap₂, _∙_, subst}
+use mathlib.Core.Path.{_≡_, refl, sym, ap, ap₂, _∙_}
 use mathlib.Core.Option.{Option, none, some}
 use mathlib.Core.List.{List, [], _∷_, _++_, append-assoc, append-nil}
 use lib.ListN.{length, getD, take, drop, set, replicate, length-set, length-take, length-drop, length-map, List·getD-map, drop-of-length-le}
@@ -297,20 +297,20 @@ module _ (text : List ℕ) (start out count : ℕ) where
           omega (arith, q, read-next)
 
       pub fanin-taken : i < l .count → (f : Edge) → f ≡ record { inverted = valueOf number .negative; source = s } → (n : ℕ) → n ≡ leaves + length (netOf s) →
-          AtFanin gates (set fs (used + i) f) used (raised words (number .magnitude)) n answer g l (i + 1)
-      fanin-taken k f p n q = record {
+          (ws : List ℕ) → ws ≡ raised words (number .magnitude) → AtFanin gates (set fs (used + i) f) used ws n answer g l (i + 1)
+      fanin-taken k f p n q ws u = record {
         accepted = h .accepted;
         far = h .far;
         room = h .room;
         wide = simp length-set (h .wide);
         below = h .below;
-        read = read-next ∙ ap (readCount (raised words (number .magnitude))) (sym q);
+        read = read-next ∙ ap₂ readCount (sym u) (sym q);
         whole = h .whole;
         within = h .within;
         some-left = omega arith;
         ends = h .ends;
         seen = saw (h .seen) s;
-        marked = subst (λ m. Marked (raised words (number .magnitude)) m (saw (h .seen) s)) (sym q) (marked-more (g + 1) (number .magnitude) b (h .marked) s (d .source s e));
+        marked = rw (u, q) (marked-more (g + 1) (number .magnitude) b (h .marked) s (d .source s e));
         few = omega (arith, d .few s e (h .few));
         same =
             one-number k

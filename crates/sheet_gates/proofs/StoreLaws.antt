@@ -1,5 +1,5 @@
 -- Where the fanins of the gates are stored, one gate's after the other's: there is room for all, since each raises a flag of its own.
-use Prim.Native.Nat.{ℕ, zero, suc, _+_, _-_, _≤_, _<_}
+use Prim.Native.Nat.{ℕ, zero, suc, _+_, _-_, _*_, _≤_, _<_}
 use native.Mathlib.Omega.{arith}
 use native.Mathlib.Numerals.{add-one}
 use mathlib.Core.Path.{_≡_, refl, sym, ap, ap₂, _∙_, subst}
@@ -49,50 +49,53 @@ up-none k zero = ap up (drop-nil k)
 up-none zero (suc n) = up-none zero n
 up-none (suc k) (suc n) = up-none k n
 
--- the flags of all numbers that a fanin may be written as
-abbrev flagCount : ℕ
-flagCount = codeBase + mostGates + 1
+-- of the flags below `size` those from `base` on: at the start, and with one more raised, below the base or from it on
+module _ (base size : ℕ) where
+  abbrev upFrom : List ℕ → ℕ
+  upFrom words = up (drop base (flagsOf size words))
 
-abbrev gateFlags : List ℕ → List Bool
-gateFlags words = drop codeBase (flagsOf flagCount words)
+  up-start : (k : ℕ) → upFrom (replicate k 0) ≡ 0
+  up-start k = ap (λ flags. up (drop base flags)) (flags-none size k) ∙ up-none base size
+
+  up-from-most : (words : List ℕ) → upFrom words ≤ size - base
+  up-from-most words = omega (arith, up-most (drop base (flagsOf size words)), length-drop base (flagsOf size words), flags-length size words)
+
+  module _ (words : List ℕ) (fit : size ≤ 64 * length words) where
+    up-below : (n : ℕ) → n < base → upFrom (raised words n) ≡ upFrom words
+    up-below n l = ap (λ flags. up (drop base flags)) (raised-flags size words n fit) ∙ ap up (drop-set-lt base (flagsOf size words) n true l)
+
+    up-above : (j : ℕ) → base + j < size → flagAt words (base + j) ≡ false → upFrom (raised words (base + j)) ≡ suc (upFrom words)
+    up-above j l f =
+        ap (λ flags. up (drop base flags)) (raised-flags size words (base + j) fit)
+        ∙ (ap up (drop-set-add base (flagsOf size words) j true)
+        ∙ up-more (drop base (flagsOf size words)) j (omega (arith, length-drop base (flagsOf size words), flags-length size words))
+        (getD-drop base (flagsOf size words) j false ∙ (flags-at size words (base + j) l ∙ f)))
 
 -- how many fanins were read: so many leaves, and as many gates as have their flag up
-abbrev pub readCount : List ℕ → ℕ → ℕ
-readCount words leaves = leaves + up (gateFlags words)
+unfoldable pub readCount : List ℕ → ℕ → ℕ
+readCount words leaves = leaves + upFrom codeBase (codeBase + mostGates + 1) words
 
 pub count-none : readCount (replicate flagWords 0) 0 ≡ 0
-count-none =
-    let q : up (gateFlags (replicate flagWords 0)) ≡ 0 = ap (λ flags. up (drop codeBase flags)) (flags-none flagCount flagWords) ∙ up-none codeBase flagCount in
-    omega (arith, q)
+unfolding readCount
+count-none = omega (arith, up-start codeBase (codeBase + mostGates + 1) flagWords)
 
-module _ (words : List ℕ) where
-  gates-length : length (gateFlags words) ≡ mostGates + 1
-  gates-length = omega (arith, length-drop codeBase (flagsOf flagCount words), flags-length flagCount words)
+pub read-most : (words : List ℕ) (leaves : ℕ) → leaves ≤ mostLeaves → readCount words leaves ≤ faninRoom
+unfolding readCount
+read-most words leaves l = omega (arith, up-from-most codeBase (codeBase + mostGates + 1) words)
 
-  pub read-most : (leaves : ℕ) → leaves ≤ mostLeaves → readCount words leaves ≤ faninRoom
-  read-most leaves l = omega (arith, up-most (gateFlags words), gates-length)
-
-  -- one fanin more, which was not read before
-  pub read-more : length words ≡ flagWords → (g n leaves : ℕ) → g ≤ mostGates → (s : Source) → sourceOf g n ≡ some s → flagAt words n ≡ false →
-      readCount (raised words n) (leaves + length (netOf s)) ≡ suc (readCount words leaves)
-  read-more whole g n leaves few (net m) e f =
-      let d = source-named g n (net m) e in
-      let k = every-head (d .is-net) in
-      let r = raised-flags flagCount words n (omega (arith, whole)) in
-      let q = ap (λ flags. up (drop codeBase flags)) r ∙ ap up (drop-set-lt codeBase (flagsOf flagCount words) n true (omega (arith, d .code))) in
-      omega (arith, q)
-  read-more whole g n leaves few (gate j) e f =
-      let d = source-named g n (gate j) e in
-      let k = every-head (d .is-before) in
-      let flags = flagsOf flagCount words in
-      let r = raised-flags flagCount words n (omega (arith, whole)) in
-      let down : getD (gateFlags words) j false ≡ false =
-      getD-drop codeBase flags j false ∙ (ap (λ i. getD flags i false) (d .code) ∙ (flags-at flagCount words n (omega (arith, d .code)) ∙ f)) in
-      let q : up (gateFlags (raised words n)) ≡ suc (up (gateFlags words)) =
-      ap (λ bs. up (drop codeBase bs)) r
-      ∙ (ap (λ i. up (drop codeBase (set flags i true))) (sym (d .code))
-      ∙ (ap up (drop-set-add codeBase flags j true) ∙ up-more (gateFlags words) j (omega (arith, gates-length)) down)) in
-      omega (arith, q)
+-- one fanin more, which was not read before
+pub read-more : (words : List ℕ) → length words ≡ flagWords → (g n leaves : ℕ) → g ≤ mostGates → (s : Source) → sourceOf g n ≡ some s → flagAt words n ≡ false →
+    readCount (raised words n) (leaves + length (netOf s)) ≡ suc (readCount words leaves)
+unfolding readCount
+read-more words whole g n leaves few (net m) e f =
+    let d = source-named g n (net m) e in
+    let k = every-head (d .is-net) in
+    omega (arith, up-below codeBase (codeBase + mostGates + 1) words (omega (arith, whole)) n (omega (arith, d .code)))
+read-more words whole g n leaves few (gate j) e f =
+    let d = source-named g n (gate j) e in
+    let k = every-head (d .is-before) in
+    let q = up-above codeBase (codeBase + mostGates + 1) words (omega (arith, whole)) j (omega arith) (ap (flagAt words) (d .code) ∙ f) in
+    subst (λ i. readCount (raised words i) (leaves + 0) ≡ suc (readCount words leaves)) (d .code) (omega (arith, q))
 
 -- ---- the fanins of the gates
 

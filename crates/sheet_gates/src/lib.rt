@@ -5,7 +5,6 @@ ghost use lib.ListN.{length};
 ghost use Rattle.sheet.specs.Trusted.Answers.{noFanins};
 ghost use Rattle.sheet_gates.specs.Gates.{GatesRead, UnreadFound};
 use flags::flag;
-use flags::raise;
 use sheet::Edge;
 use sheet::FANIN_ROOM;
 use sheet::Gate;
@@ -92,7 +91,7 @@ pub fn gate_lines(text: &[u8], start: usize, out: u16, count: u8) -> Lines
         }
         for i in 0..line.count as usize {
             let x = line.numbers[i + 2];
-            match read_fanin(&seen, leaves, out, gate, x.magnitude) {
+            match read_fanin(&mut seen, leaves, out, gate, x.magnitude) {
                 Fanin::Bad(why) => {
                     answer = ReadAnswer::Refused(why, gate + 1);
                     break 'lines;
@@ -101,7 +100,6 @@ pub fn gate_lines(text: &[u8], start: usize, out: u16, count: u8) -> Lines
                     let at = used + i;
                     fanins[at] = edge_of(x.sign != 0, source);
                     leaves = with_leaf(leaves, source);
-                    raise(&mut seen, x.magnitude as usize);
                 }
             }
         }

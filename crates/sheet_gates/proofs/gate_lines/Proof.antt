@@ -3,13 +3,14 @@
 use Prim.Native.Nat.{_+_, _-_, _≤_, _<_}
 use native.Mathlib.Omega.{arith}
 use borrow.Author.Needs.{needs}
-use mathlib.Core.Path.{_≡_, refl, sym, ap, subst}
+use mathlib.Core.Path.{_≡_, refl, sym, ap, _∙_, subst}
 use lib.ListN.{length, drop, replicate}
 use Rattle.sheet_line.specs.declared.GateLine.{GateLine}
 use Rattle.sheet_gates.specs.declared.Lines.{Lines}
 use Rattle.sheet.specs.Trusted.Limits.{mostGates, faninRoom}
 use Rattle.sheet.specs.Trusted.Read.{nothing, readLeft}
 use Rattle.sheet.specs.Trusted.Answers.{drawnGates, noFanins}
+use Rattle.sheet_fanin.specs.Fanins.{flagsAfter}
 use Rattle.sheet_gates.specs.Gates.{Comes, GatesHeld}
 use Rattle.sheet_gates.proofs.LinesLaws.{AtLine, AtFanin, at-start, line-refused, line-taken, lines-over, fanin-refused, fanin-room, fanin-taken, after-room, gate-taken}
 use Rattle.sheet_gates.proofs.gate_lines.Statement.{statement}
@@ -39,15 +40,15 @@ abbrev line-of : tie.At-loop Inv-loop μ-loop Inv-lines μ-lines → GateLine
 line-of c = c .before .before .before .read-gate-line .result
 
 abbrev loop-of : tie.After-known-told3 Inv-loop μ-loop Inv-lines μ-lines → tie.At-loop Inv-loop μ-loop Inv-lines μ-lines
-loop-of c = c .before .before .before .before .before .before .before
+loop-of c = c .before .before .before .before .before .before .before .before
 
 -- there is room for an accepted fanin
 room-left : (c : tie.After-known-told3 Inv-loop μ-loop Inv-lines μ-lines) → let b = loop-of c in lines-of b .lines .used + b .loop .i < faninRoom
 room-left c =
-    let f = c .before .before .before in
+    let f = c .before .before .before .before in
     let b = loop-of c in
     let a = lines-of b .before .before .before .before in
-    fanin-room (a .args .text .now) (a .args .start) (a .args .out) (a .args .count) (b .loop .inv) (omega (arith, a .fits)) (f .read-fanin .result) (f .read-fanin .ensures)
+    fanin-room (a .args .text .now) (a .args .start) (a .args .out) (a .args .count) (b .loop .inv) (omega (arith, a .fits)) (f .read-fanin .result) (f .read-fanin .ensures .0)
     (c .before .source .given .0 .0) (c .before .source .given .1)
 
 -- and for all of a line
@@ -138,15 +139,6 @@ array-set-from-fanins c = omega (arith, room-left (c .before .before), loop-of (
 with-leaf-requires : tie.Need-with-leaf-requires Inv-loop μ-loop Inv-lines μ-lines
 with-leaf-requires c κs = search needs
 
-slice-aggregate-raise : tie.Need-slice-aggregate-raise Inv-loop μ-loop Inv-lines μ-lines
-slice-aggregate-raise c = search needs
-
-cast-raise : tie.Need-cast-raise Inv-loop μ-loop Inv-lines μ-lines
-cast-raise c = search needs
-
-raise-requires : tie.Need-raise-requires Inv-loop μ-loop Inv-lines μ-lines
-raise-requires c κs = search needs
-
 add-i : tie.Need-add-i Inv-loop μ-loop Inv-lines μ-lines
 add-i c = search needs
 
@@ -155,15 +147,14 @@ loop-less c = search needs
 
 loop-again : tie.Need-loop-again Inv-loop μ-loop Inv-lines μ-lines
 loop-again c =
-    let w = c .before .before .before .before in
-    let e = w .before in
+    let e = c .before in
     let d = e .before .before in
-    let f = d .before .before .before in
+    let f = d .before .before .before .before .read-fanin in
     let b = loop-of d in
     let a = lines-of b .before .before .before .before in
-    rw (c .before .raise .ensures)
-    (fanin-taken (a .args .text .now) (a .args .start) (a .args .out) (a .args .count) (b .loop .inv) (omega (arith, a .fits)) (f .read-fanin .result) (f .read-fanin .ensures)
-    (d .before .source .given .0 .0) (d .before .source .given .1) (omega arith) (e .edge-of .result) (e .edge-of .ensures) (w .with-leaf .result) (w .with-leaf .ensures))
+    fanin-taken (a .args .text .now) (a .args .start) (a .args .out) (a .args .count) (b .loop .inv) (omega (arith, a .fits)) (f .result) (f .ensures .0)
+    (d .before .source .given .0 .0) (d .before .source .given .1) (omega (arith, d .before .before .before .before .before .before .before .loop-test .taken)) (e .edge-of .result) (e .edge-of .ensures) (c .with-leaf .result) (c .with-leaf .ensures)
+    (f .last .0) (f .ensures .1 ∙ ap (flagsAfter (b .loop .seen) _) (d .before .source .given .1))
 
 cast-gate-of : tie.Need-cast-gate-of Inv-loop μ-loop Inv-lines μ-lines
 cast-gate-of c = omega (arith, room-after (c .before) (omega arith))
@@ -216,10 +207,10 @@ returns-2 c =
 
 returns-3 : tie.Need-returns-3 Inv-loop μ-loop Inv-lines μ-lines
 returns-3 c =
-    let f = c .before .before .before in
+    let f = c .before .before .before .before in
     let b = f .before .before .before .before in
     let a = lines-of b .before .before .before .before .args in
-    fanin-refused (a .text .now) (a .start) (a .out) (a .count) (b .loop .inv) (omega arith) (f .read-fanin .result) (f .read-fanin .ensures)
+    fanin-refused (a .text .now) (a .start) (a .out) (a .count) (b .loop .inv) (omega arith) (f .read-fanin .result) (f .read-fanin .ensures .0)
     (c .before .why .given .0 .0) (c .before .why .given .1)
 
 pub gate-lines-spec : {M : Type 1} → statement M
@@ -254,9 +245,6 @@ gate-lines-spec =
     mul-fanins
     array-set-from-fanins
     with-leaf-requires
-    slice-aggregate-raise
-    cast-raise
-    raise-requires
     add-i
     loop-less
     loop-again
