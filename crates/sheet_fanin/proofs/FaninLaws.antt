@@ -4,7 +4,7 @@ use native.Mathlib.Omega.{arith}
 use native.Mathlib.Nat.{add-zero}
 use mathlib.Core.Path.{_≡_, refl, sym, ap, ap₂, _∙_, subst}
 use mathlib.Core.Logic.{_≢_}
-use mathlib.Core.Bool.{Bool, true, false, _||_, or-assoc, or-false}
+use mathlib.Core.Bool.{true, false, _||_, or-assoc, or-false, or-comm}
 use mathlib.Core.Option.{none, some}
 use mathlib.Core.List.{List, [], _∷_, _++_}
 use lib.Dec.{eqb, ltb}
@@ -71,13 +71,7 @@ flag-in : (base size : ℕ) (words : List ℕ) (xs : List ℕ) (i : ℕ) → bas
 flag-in base size words xs i l h n k =
     raised-flag words (base + i) (base + n) (omega arith)
     ∙ (ap₂ _||_ (reflects-same (reflects-eq (base + n) (base + i)) (reflects-eq n i) (λ e. omega arith) (ap (λ m. base + m))) (h n k)
-    ∙ (or-swap (eqb n i) (elem n xs) ∙ sym (elem-end n xs i)))
-  where
-    or-swap : (a b : Bool) → (a || b) ≡ (b || a)
-    or-swap true true = refl
-    or-swap true false = refl
-    or-swap false true = refl
-    or-swap false false = refl
+    ∙ (or-comm (eqb n i) (elem n xs) ∙ sym (elem-end n xs i)))
 
 -- and one that is raised elsewhere says nothing
 flag-out : (base size : ℕ) (words : List ℕ) (xs : List ℕ) (i : ℕ) → base + size ≤ 64 * length words → ((n : ℕ) → n < size → base + n ≢ i) →
