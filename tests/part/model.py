@@ -1,5 +1,6 @@
-"""The expected output of the program part_test: the user's scope paper (01), sections "Part", "List" and the tables of refusals,
-with the nets and codes of request 102, written down once more from the papers alone, with nothing shared with crates/. CASES.md has the answers worked out by hand.
+"""The expected output of the program part_test: the user's scope paper (01), sections "Part", "List" and the tables of refusals, with the
+nets and codes of request 102, written down once more from the papers alone, with nothing shared with crates/. CASES.md has the answers
+worked out by hand.
 
 An add reads its sheet by tests/sheet/model.py, and has its least number of tables from tests/cover/exhaustive.py.
 

@@ -71,17 +71,21 @@ module _ (base size : ℕ) where
         ∙ up-more (drop base (flagsOf size words)) j (omega (arith, length-drop base (flagsOf size words), flags-length size words))
         (getD-drop base (flagsOf size words) j false ∙ (flags-at size words (base + j) l ∙ f)))
 
+-- how many numbers a fanin may be written as, with those below
+abbrev codeCount : ℕ
+codeCount = codeBase + mostGates + 1
+
 -- how many fanins were read: so many leaves, and as many gates as have their flag up
 unfoldable pub readCount : List ℕ → ℕ → ℕ
-readCount words leaves = leaves + upFrom codeBase (codeBase + mostGates + 1) words
+readCount words leaves = leaves + upFrom codeBase codeCount words
 
 pub count-none : readCount (replicate flagWords 0) 0 ≡ 0
 unfolding readCount
-count-none = omega (arith, up-start codeBase (codeBase + mostGates + 1) flagWords)
+count-none = omega (arith, up-start codeBase codeCount flagWords)
 
 pub read-most : (words : List ℕ) (leaves : ℕ) → leaves ≤ mostLeaves → readCount words leaves ≤ faninRoom
 unfolding readCount
-read-most words leaves l = omega (arith, up-from-most codeBase (codeBase + mostGates + 1) words)
+read-most words leaves l = omega (arith, up-from-most codeBase codeCount words)
 
 -- one fanin more, which was not read before
 pub read-more : (words : List ℕ) → length words ≡ flagWords → (g n leaves : ℕ) → g ≤ mostGates → (s : Source) → sourceOf g n ≡ some s → flagAt words n ≡ false →
@@ -90,11 +94,11 @@ unfolding readCount
 read-more words whole g n leaves few (net m) e f =
     let d = source-named g n (net m) e in
     let k = every-head (d .is-net) in
-    omega (arith, up-below codeBase (codeBase + mostGates + 1) words (omega (arith, whole)) n (omega (arith, d .code)))
+    omega (arith, up-below codeBase codeCount words (omega (arith, whole)) n (omega (arith, d .code)))
 read-more words whole g n leaves few (gate j) e f =
     let d = source-named g n (gate j) e in
     let k = every-head (d .is-before) in
-    let q = up-above codeBase (codeBase + mostGates + 1) words (omega (arith, whole)) j (omega arith) (ap (flagAt words) (d .code) ∙ f) in
+    let q = up-above codeBase codeCount words (omega (arith, whole)) j (omega arith) (ap (flagAt words) (d .code) ∙ f) in
     subst (λ i. readCount (raised words i) (leaves + 0) ≡ suc (readCount words leaves)) (d .code) (omega (arith, q))
 
 -- ---- the fanins of the gates
