@@ -1,10 +1,10 @@
 -- A decimal number in the columns of a field (01, "Sheet"): blanks, an optional minus sign, then digits without leading zeros;
 -- "-0" is no number. -- Definitions only.
-use Prim.Native.Nat.{ℕ, _+_, _-_, _*_}
+use Prim.Native.Nat.{ℕ, _+_, _-_, _*_, _^_}
 use mathlib.Core.Bool.{Bool, true, false, cond, _&&_}
 use mathlib.Core.Option.{Option, none, some}
 use mathlib.Core.List.{List, [], _∷_}
-use lib.Dec.{leb, eqb}
+use lib.Dec.{leb, ltb, eqb}
 use lib.ListN.{length}
 
 -- the sign is kept apart: on a net or a fanin it says that the value is inverted
@@ -53,3 +53,19 @@ columns = 6
 -- a field fills its columns
 abbrev pub fieldNumber : List ℕ → Option Number
 fieldNumber bs = cond (eqb (length bs) columns) (number bs) none
+
+-- ---- in a list (02, #101)
+
+-- below 2^64
+abbrev pub inWord : Option ℕ → Option ℕ
+inWord none = none
+inWord (some n) = cond (ltb n (2 ^ 64)) (some n) none
+
+-- without a minus sign
+abbrev pub upright : Option Number → Option ℕ
+upright none = none
+upright (some n) = cond (n .negative) none (some (n .magnitude))
+
+-- the number in columns, without a minus sign and below 2^64; six columns hold none that is not below
+abbrev pub wordNumber : List ℕ → Option ℕ
+wordNumber bs = inWord (upright (number bs))

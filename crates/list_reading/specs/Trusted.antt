@@ -1,0 +1,2 @@
+pub mod ReadList
+pub mod ListAnswers
