@@ -18,7 +18,7 @@ abbrev pub Given : {A : Type 0} → (A → Type 0) → Option A → Type 0
 Given P none = Unit {0}
 Given P (some a) = P a
 
-given-map : {A : Type 0} {P Q : A → Type 0} → ((a : A) → P a → Q a) → (o : Option A) → Given P o → Given Q o
+pub given-map : {A : Type 0} {P Q : A → Type 0} → ((a : A) → P a → Q a) → (o : Option A) → Given P o → Given Q o
 given-map f none h = tt
 given-map f (some a) h = f a h
 

@@ -1,1 +1,4 @@
 pub mod Trusted
+pub mod Assumed
+pub mod FieldLaws
+pub mod LayoutLaws

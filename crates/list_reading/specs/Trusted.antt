@@ -1,2 +1,3 @@
 pub mod ReadList
 pub mod ListAnswers
+pub mod ListConditions
