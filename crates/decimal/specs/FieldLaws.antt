@@ -4,7 +4,7 @@ use native.Mathlib.Nat.{pow-suc, pow-le-pow-right, div-one, div-eq-of-lt, le-div
 use native.Mathlib.Omega.{arith}
 use mathlib.Core.Path.{_≡_, refl, sym, ap, ap₂, _∙_}
 use mathlib.Core.Bool.{Bool, true, false, not, cond, _&&_}
-use mathlib.Core.Option.{none, some}
+use mathlib.Core.Option.{some}
 use mathlib.Core.List.{List, _∷_}
 use lib.ListN.{length}
 use borrow.Author.Tests.{ne-eqb, le-leb}
@@ -12,7 +12,7 @@ use Rattle.lists.specs.Cases.{by-leb}
 use Rattle.lists.specs.TestLaws.{reflects-true, by-reflects}
 use Rattle.decimal.specs.Trusted.Number.{Number, digits, natural, unsigned, negated, number, columns, fieldNumber}
 use Rattle.decimal.specs.Inside.{Within}
-use Rattle.decimal.specs.NumberLaws.{negated-more}
+use Rattle.decimal.specs.NumberLaws.{natural-digits, negated-more}
 use Rattle.decimal.specs.Trusted.Columns.{room, column, fieldOf, signedColumn, signedFieldOf}
 use Rattle.decimal.specs.ColumnLaws.{reflects-room, ten-pos, div-more}
 
@@ -44,14 +44,14 @@ no-room j n h e = by-leb (λ b. 10 ^ j ≤ n) (10 ^ j) n (λ l. l) (λ l. let no
     differ e = let no : _≡_ {A = ℕ} 0 1 = cc in omega arith
 
 -- a column that would not be blank has a digit
-column-shows : (n j : ℕ) → room j n ≡ false → column n j ≡ 48 + (n / 10 ^ j) % 10
+pub column-shows : (n j : ℕ) → room j n ≡ false → column n j ≡ 48 + (n / 10 ^ j) % 10
 column-shows n j e = ap (λ b. cond b 32 (48 + (n / 10 ^ j) % 10)) e
 
-blank-column : (n j : ℕ) → room j n ≡ true → column n j ≡ 32
+pub blank-column : (n j : ℕ) → room j n ≡ true → column n j ≡ 32
 blank-column n j e = ap (λ b. cond b 32 (48 + (n / 10 ^ j) % 10)) e
 
 -- fewer columns have no more room
-room-less : (n j k : ℕ) → j ≤ k → room k n ≡ false → room j n ≡ false
+pub room-less : (n j k : ℕ) → j ≤ k → room k n ≡ false → room j n ≡ false
 room-less n j k h e =
     by-reflects (λ b. b ≡ false) (reflects-room j n)
     (λ r. sym (reflects-true (reflects-room k n) (omega arith, omega (arith, r .1, pow-le-pow-right {n = 10} (omega arith) {i = j} {j = k} h))) ∙ e)
@@ -88,15 +88,14 @@ natural-field (suc width) n e h =
     let shows = column-shows n (suc width) e in
     let first = first-digit (suc width) n (no-room (suc width) n (omega arith) e) h in
     let other : column n (suc width) ≡ 48 → ⊥ = λ f. omega arith in
-    ap (λ b. cond b none (digits 0 (fieldOf (suc (suc width)) n))) (ne-eqb (column n (suc width)) 48 other)
-    ∙ digits-whole (suc width) n e h
+    natural-digits (column n (suc width)) (fieldOf (suc width) n) other ∙ digits-whole (suc width) n e h
 
 -- ---- a number after blanks
 
 digit-number : (d : ℕ) (bs : List ℕ) → number ((48 + d) ∷ bs) ≡ unsigned (natural ((48 + d) ∷ bs))
 digit-number d bs = rw (ne-eqb (48 + d) 32 (λ e. omega arith), ne-eqb (48 + d) 45 (λ e. omega arith))
 
-number-field : (width n : ℕ) → 0 < width → n < 10 ^ width → number (fieldOf width n) ≡ some (record { negative = false; magnitude = n })
+pub number-field : (width n : ℕ) → 0 < width → n < 10 ^ width → number (fieldOf width n) ≡ some (record { negative = false; magnitude = n })
 number-field zero n p h = absurd (omega arith)
 number-field (suc width) n p h =
     by-room width n

@@ -4,5 +4,6 @@ pub mod NumberLaws
 pub mod ReadingLaws
 pub mod ColumnLaws
 pub mod FieldLaws
+pub mod WordLaws
 pub mod WritingLaws
 pub mod Examples

@@ -2,7 +2,7 @@
 use Prim.Native.Nat.{ℕ, suc, _+_, _*_, _-_, _^_, _≤_, _<_}
 use native.Mathlib.Nat.{pow-suc, add-suc, suc-add, add-zero, zero-add}
 use native.Mathlib.Omega.{arith}
-use mathlib.Core.Path.{_≡_, subst}
+use mathlib.Core.Path.{_≡_, refl, subst}
 use mathlib.Core.Bool.{true, cond}
 use mathlib.Core.Option.{Option, none, some}
 use mathlib.Core.List.{List, [], _∷_}
@@ -41,6 +41,11 @@ digits-given (b ∷ bs) n k h =
 
 digits-all : (bs : List ℕ) → Given (λ m. m < 10 ^ length bs) (digits 0 bs)
 digits-all bs = rw zero-add at (digits-given bs 0 0 (omega arith))
+
+-- where the first digit is not "0"
+pub natural-digits : (b : ℕ) (bs : List ℕ) → (b ≡ 48 → ⊥) → natural (b ∷ bs) ≡ digits 0 (b ∷ bs)
+natural-digits b [] h = refl
+natural-digits b (d ∷ bs) h = rw (ne-eqb b 48 h)
 
 natural-given : (bs : List ℕ) → Given (λ m. m < 10 ^ length bs) (natural bs)
 natural-given [] = tt
