@@ -17,7 +17,7 @@ use Rattle.decimal.specs.Trusted.Columns.{fieldOf, fieldsOf}
 use Rattle.decimal.specs.ColumnLaws.{field-length}
 use Rattle.decimal.specs.NumberLaws.{Given, given-some}
 use Rattle.table.specs.ResultLaws.{says-true}
-use Rattle.list_layout.specs.Assumed.{word-field, word-bytes}
+use Rattle.decimal.specs.WordLaws.{word-field, word-bytes}
 use Rattle.list_layout.specs.Trusted.Layout.{takeNumber, takeNumbers, takeLineFeed}
 use Rattle.list_layout.specs.Trusted.LineSays.{FieldFits}
 

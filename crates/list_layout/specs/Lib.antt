@@ -1,4 +1,3 @@
 pub mod Trusted
-pub mod Assumed
 pub mod FieldLaws
 pub mod LayoutLaws
