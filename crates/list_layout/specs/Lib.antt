@@ -1,3 +1,6 @@
 pub mod Trusted
 pub mod FieldLaws
 pub mod LayoutLaws
+pub mod Taken
+pub mod TakenLaws
+pub mod NarrowLaws

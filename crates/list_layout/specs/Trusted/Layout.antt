@@ -12,10 +12,14 @@ use Rattle.table.specs.Trusted.Limits.{inputRoom}
 use Rattle.table.specs.Trusted.Records.{recordOf}
 use Rattle.table.specs.declared.Table.{Table}
 
--- the number in the first so many columns, and the bytes after them
+-- the number in the first so many columns
+abbrev pub firstNumber : ℕ → List ℕ → Option ℕ
+firstNumber width text = cond (leb width (length text)) (wordNumber (take width text)) none
+
+-- the number, and the bytes after its columns
 abbrev pub takeNumber : ℕ → List ℕ → Option (ℕ × List ℕ)
 takeNumber width text = do
-  n ← cond (leb width (length text)) (wordNumber (take width text)) none
+  n ← firstNumber width text
   some (n, drop width text)
 
 -- so many numbers, each in a field
