@@ -2,22 +2,15 @@
 use Prim.Native.Nat.{ℕ, _+_, _-_, _%_, _^_, _≤_, _<_}
 use mathlib.Core.Path.{_≡_}
 use mathlib.Core.Bool.{Bool, true, not, cond, _&&_}
-use mathlib.Core.Option.{Option, none, some}
 use mathlib.Core.List.{List}
 use lib.Dec.{eqb}
 use lib.ListN.{length, drop}
 use Rattle.decimal.specs.Trusted.Number.{Number, signed, number}
-use Rattle.decimal.specs.declared.Parsed.{Parsed}
-use Rattle.decimal.specs.declared.Parsed.the-variants.{Natural, Nothing}
 
 -- what can stand in so many columns; a minus sign takes one
 pub record Within (width : ℕ) (n : Number) : Type 0 where
   pub size : n .magnitude < 10 ^ width
   pub sign : n .negative ≡ true → (0 < n .magnitude) × (n .magnitude < 10 ^ (width - 1))
-
-abbrev pub parsed : Option ℕ → Parsed
-parsed none = Nothing
-parsed (some n) = Natural n
 
 -- so many blanks stand first
 pub record Skipped (bs : List ℕ) (at : ℕ) : Type 0 where

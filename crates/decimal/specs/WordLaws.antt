@@ -7,7 +7,7 @@ use mathlib.Core.Bool.{true, false, cond}
 use mathlib.Core.Option.{Option, none, some}
 use mathlib.Core.List.{List, [], _∷_}
 use lib.ListN.{length}
-use borrow.Author.Tests.{lt-leb, lt-ltb}
+use borrow.Author.Tests.{lt-leb, lt-ltb, le-ltb}
 use Rattle.lists.specs.Cases.{by-eqb}
 use Rattle.lists.specs.TestLaws.{reflects-lt, reflects-within, reflects-true, by-reflects}
 use Rattle.decimal.specs.Trusted.Number.{digits, natural, unsigned, negated, signed, number, inWord, upright, wordNumber}
@@ -19,10 +19,27 @@ use Rattle.decimal.specs.FieldLaws.{column-shows, blank-column, room-les
 none-some : {A : Type 0} {a : A} → none ≡ some a → ⊥
 none-some e = let no : _≡_ {A = ℕ} 0 1 = cc in omega arith
 
+-- ---- below 2^64
+
+pub below-word : (n : ℕ) → n < 2 ^ 64 → inWord (some n) ≡ some n
+below-word n l = ap (λ b. cond b (some n) none) (lt-ltb n (2 ^ 64) l)
+
+pub whole-word : (o : Option ℕ) → ((n : ℕ) → o ≡ some n → n < 2 ^ 64) → inWord o ≡ o
+whole-word none h = refl
+whole-word (some n) h = below-word n (h n refl)
+
+-- digits that follow make no number smaller
+pub past-word : (n : ℕ) (bs : List ℕ) → 2 ^ 64 ≤ n → inWord (digits n bs) ≡ none
+past-word n [] h = ap (λ b. cond b (some n) none) (le-ltb n (2 ^ 64) h)
+past-word n (b ∷ bs) h =
+    by-reflects (λ t. inWord (cond t (digits (10 * n + (b - 48)) bs) none) ≡ none) (reflects-within 48 57 b)
+    (λ l. past-word (10 * n + (b - 48)) bs (omega arith))
+    (λ l. refl)
+
 -- ---- what is written of a number is read as it
 
 pub word-field : (width n : ℕ) → 0 < width → n < 10 ^ width → n < 2 ^ 64 → wordNumber (fieldOf width n) ≡ some n
-word-field width n p h l = ap (λ o. inWord (upright o)) (number-field width n p h) ∙ ap (λ b. cond b (some n) none) (lt-ltb n (2 ^ 64) l)
+word-field width n p h l = ap (λ o. inWord (upright o)) (number-field width n p h) ∙ below-word n l
 
 -- ---- digits
 

@@ -18,9 +18,9 @@ pub enum Written {
     TooWide,
 }
 
-// What digits make.
+// What digits make: a number below 2^64, or none.
 pub enum Parsed {
-    Natural(u32),
+    Natural(u64),
     Nothing,
 }
 

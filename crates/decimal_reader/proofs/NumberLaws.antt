@@ -1,20 +1,22 @@
 -- Reading a number byte by byte: what one byte at an index makes of it.
-use Prim.Native.Nat.{ℕ, suc, _+_, _*_, _-_, _^_, _≤_, _<_}
+use Prim.Native.Nat.{ℕ, suc, _+_, _*_, _-_, _≤_, _<_}
 use native.Mathlib.Nat.{pow-le-pow-right}
 use native.Mathlib.Numerals.{add-one}
 use native.Mathlib.Omega.{arith}
-use mathlib.Core.Path.{_≡_, refl}
+use mathlib.Core.Path.{_≡_, refl, sym, ap, _∙_}
 use mathlib.Core.Option.{Option, none, some}
-use mathlib.Core.List.{List, [], _∷_}
+use mathlib.Core.List.{List}
 use lib.IntN.{pos}
 use lib.ListN.{length, getD, drop, length-drop, drop-of-length-le}
 use lib.Seq.{drop-cons}
 use mir.Syntax.{w32}
 use mir.Val.{SFits}
 use borrow.Author.Tests.{eq-eqb, ne-eqb, le-leb, lt-leb}
-use Rattle.decimal.specs.Trusted.Number.{digits, natural, unsigned, negated, signed, number, fieldNumber}
-use Rattle.decimal.specs.NumberLaws.{natural-below}
-use Rattle.decimal.specs.Inside.{parsed, Skipped}
+use Rattle.decimal.specs.Trusted.Number.{digits, natural, unsigned, negated, signed, number, fieldNumber, inWord}
+use Rattle.decimal.specs.NumberLaws.{natural-digits, natural-below}
+use Rattle.decimal.specs.WordLaws.{whole-word}
+use Rattle.decimal.specs.Trusted.Reading.{parsed}
+use Rattle.decimal.specs.Inside.{Skipped}
 use Rattle.decimal.specs.declared.Parsed.the-variants.{Natural, Nothing}
 
 -- ---- blanks
@@ -37,9 +39,6 @@ digits-low bs i n h l = rw (drop-cons bs i 0, lt-leb 48 (getD bs i 0) l)
 pub digits-high : (bs : List ℕ) (i n : ℕ) → i < length bs → 57 < getD bs i 0 → digits n (drop i bs) ≡ none
 digits-high bs i n h l = rw (drop-cons bs i 0, le-leb 48 (getD bs i 0) (omega arith), lt-leb (getD bs i 0) 57 l)
 
-pub below-five : (n k : ℕ) → n < 10 ^ k → k ≤ 5 → n < 100000
-below-five n k h l = omega (arith, pow-le-pow-right {n = 10} (omega arith) {i = k} {j = 5} l)
-
 -- ---- a natural number
 
 pub natural-none : (bs : List ℕ) (i : ℕ) → length bs ≤ i → natural (drop i bs) ≡ none
@@ -55,12 +54,8 @@ natural-zero bs i h e =
     let m : suc i < length bs = omega arith in
     rw (drop-cons bs i 0 l, drop-cons bs (suc i) 0 m, eq-eqb (getD bs i 0) 48 e)
 
-not-zero : (b : ℕ) (bs : List ℕ) → (b ≡ 48 → ⊥) → natural (b ∷ bs) ≡ digits 0 (b ∷ bs)
-not-zero b [] n = refl
-not-zero b (d ∷ bs) n = rw (ne-eqb b 48 n)
-
 pub natural-first : (bs : List ℕ) (i : ℕ) → i < length bs → (getD bs i 0 ≡ 48 → ⊥) → natural (drop i bs) ≡ digits 0 (drop i bs)
-natural-first bs i h n = rw (drop-cons bs i 0) (not-zero (getD bs i 0) (drop (suc i) bs) n)
+natural-first bs i h n = rw (drop-cons bs i 0) (natural-digits (getD bs i 0) (drop (suc i) bs) n)
 
 -- ---- with a sign
 
@@ -84,16 +79,28 @@ field-signed bs i e h = rw (eq-eqb (length bs) 6 e) (h .same)
 pub field-other : (bs : List ℕ) → (length bs ≡ 6 → ⊥) → fieldNumber bs ≡ none
 field-other bs n = rw (ne-eqb (length bs) 6 n)
 
-pub parsed-some : (o : Option ℕ) {n : ℕ} → parsed o ≡ Natural n → o ≡ some n
+parsed-some : (o : Option ℕ) {n : ℕ} → parsed o ≡ Natural n → o ≡ some n
 parsed-some none e = let no : _≡_ {A = ℕ} 0 1 = cc in absurd (omega arith)
 parsed-some (some m) e = cc
 
-pub parsed-none : (o : Option ℕ) → parsed o ≡ Nothing → o ≡ none
+parsed-none : (o : Option ℕ) → parsed o ≡ Nothing → o ≡ none
 parsed-none none e = refl
 parsed-none (some m) e = let no : _≡_ {A = ℕ} 0 1 = cc in absurd (omega arith)
 
--- what six columns hold fits 32 bits
-pub natural-fits : (bs : List ℕ) (i n : ℕ) → length bs ≤ 6 → natural (drop i bs) ≡ some n → SFits w32 (pos n)
-natural-fits bs i n e h =
+-- what six columns hold is below 2^64, and fits 32 bits
+six-below : (bs : List ℕ) (i n : ℕ) → length bs ≤ 6 → natural (drop i bs) ≡ some n → n < 1000000
+six-below bs i n e h =
     let l : length (drop i bs) ≤ 6 = simp length-drop (omega arith) in
-    record { sfits = omega (arith, natural-below (drop i bs) h, pow-le-pow-right {n = 10} (omega arith) {i = length (drop i bs)} {j = 6} l) }
+    omega (arith, natural-below (drop i bs) h, pow-le-pow-right {n = 10} (omega arith) {i = length (drop i bs)} {j = 6} l)
+
+natural-word : (bs : List ℕ) (i : ℕ) → length bs ≤ 6 → inWord (natural (drop i bs)) ≡ natural (drop i bs)
+natural-word bs i e = whole-word (natural (drop i bs)) (λ n h. omega (arith, six-below bs i n e h))
+
+pub natural-fits : (bs : List ℕ) (i n : ℕ) → length bs ≤ 6 → natural (drop i bs) ≡ some n → SFits w32 (pos n)
+natural-fits bs i n e h = record { sfits = omega (arith, six-below bs i n e h) }
+
+pub six-some : (bs : List ℕ) (i : ℕ) {n : ℕ} → length bs ≤ 6 → parsed (inWord (natural (drop i bs))) ≡ Natural n → natural (drop i bs) ≡ some n
+six-some bs i e h = parsed-some (natural (drop i bs)) (sym (ap parsed (natural-word bs i e)) ∙ h)
+
+pub six-none : (bs : List ℕ) (i : ℕ) → length bs ≤ 6 → parsed (inWord (natural (drop i bs))) ≡ Nothing → natural (drop i bs) ≡ none
+six-none bs i e h = parsed-none (natural (drop i bs)) (sym (ap parsed (natural-word bs i e)) ∙ h)

@@ -1,13 +1,17 @@
-// The reader of a field: the decimal number in its six columns.
+// The reader of a field: the decimal number in its six columns, or in any number of columns where it has no minus sign.
 ghost use mathlib.Core.Path.{_≡_};
-ghost use Prim.Native.Nat.{_+_, _≤_};
+ghost use Prim.Native.Nat.{_+_, _*_, _^_, _≤_};
+ghost use lib.Dec.{leb};
 ghost use lib.ListN.{length, drop};
-ghost use Rattle.decimal.specs.Trusted.Number.{columns, digits, natural, signed};
-ghost use Rattle.decimal.specs.Trusted.Reading.{fieldAnswer, fieldRead};
-ghost use Rattle.decimal.specs.Inside.{parsed, Skipped};
+ghost use Rattle.decimal.specs.Trusted.Number.{columns, digits, natural, signed, inWord};
+ghost use Rattle.decimal.specs.Trusted.Reading.{fieldAnswer, fieldRead, parsed, wordRead};
+ghost use Rattle.decimal.specs.Inside.{Skipped};
 use decimal::COLUMNS;
 use decimal::Field;
 use decimal::Parsed;
+
+// A tenth of 2^64, rounded down.
+const TENTH: u64 = 1844674407370955161;
 
 // The number in the six columns of a field. A slice that is not six bytes long holds no number.
 pub fn read(s: &[u8]) -> Field
@@ -17,6 +21,13 @@ pub fn read(s: &[u8]) -> Field
         return Field::NoNumber;
     }
     signed(s, blanks(s))
+}
+
+// The number in the columns, without a minus sign and below 2^64.
+pub fn read_word(s: &[u8]) -> Parsed
+    ensures { λ r. ⌜ r ≡ wordRead (now (s .entry)) ⌝ }
+{
+    natural(s, blanks(s))
 }
 
 // How many blanks stand before the first byte that is none.
@@ -60,10 +71,9 @@ fn signed(s: &[u8], at: usize) -> Field
     }
 }
 
-// The number that the bytes from an index on make: one digit or more, with no leading zero.
+// The number that the bytes from an index on make, below 2^64: one digit or more, with no leading zero.
 fn natural(s: &[u8], at: usize) -> Parsed
-    requires { ⌜ (at ≤ length (now s)) × (length (now s) ≤ at + columns) ⌝ }
-    ensures { λ r. ⌜ r ≡ parsed (natural (drop at (now (s .entry)))) ⌝ }
+    ensures { λ r. ⌜ r ≡ parsed (inWord (natural (drop at (now (s .entry))))) ⌝ }
 {
     if s.len() <= at {
         return Parsed::Nothing;
@@ -76,12 +86,11 @@ fn natural(s: &[u8], at: usize) -> Parsed
     digits(s, at)
 }
 
-// The number that the bytes from an index on make, if each is a digit.
+// The number that the bytes from an index on make, below 2^64, if each is a digit.
 fn digits(s: &[u8], at: usize) -> Parsed
-    requires { ⌜ (at ≤ length (now s)) × (length (now s) ≤ at + columns) ⌝ }
-    ensures { λ r. ⌜ r ≡ parsed (digits 0 (drop at (now (s .entry)))) ⌝ }
+    ensures { λ r. ⌜ r ≡ parsed (inWord (digits 0 (drop at (now (s .entry))))) ⌝ }
 {
-    let mut n: u32 = 0;
+    let mut n: u64 = 0;
     let mut i = at;
     while i < s.len() {
         let b = s[i];
@@ -91,8 +100,26 @@ fn digits(s: &[u8], at: usize) -> Parsed
         if b'9' < b {
             return Parsed::Nothing;
         }
-        n = 10 * n + ((b - b'0') as u32);
+        let d = (b - b'0') as u64;
+        if past(n, d) {
+            return Parsed::Nothing;
+        }
+        n = 10 * n + d;
         i += 1;
     }
     Parsed::Natural(n)
+}
+
+// Whether n with one digit more is 2^64 or more.
+fn past(n: u64, d: u64) -> bool
+    requires { ⌜ d ≤ 9 ⌝ }
+    ensures { λ r. ⌜ r ≡ leb (2 ^ 64) (10 * n + d) ⌝ }
+{
+    if n < TENTH {
+        return false;
+    }
+    if TENTH < n {
+        return true;
+    }
+    5 < d
 }
