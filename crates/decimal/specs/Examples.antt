@@ -1,4 +1,4 @@
--- Worked examples of the definitions, by computation: what six columns read as, and what columns a number is written as.
+-- Worked examples of the definitions, by computation: what columns read as, and what columns a number is written as.
 use Prim.Native.Nat.{ℕ, _-_, _^_}
 use mathlib.Core.Path.{_≡_, refl}
 use mathlib.Core.Bool.{true, false}
@@ -6,7 +6,7 @@ use mathlib.Core.Option.{Option, none, some}
 use mathlib.Core.List.{[], _∷_, map}
 use lib.IntN.{pos, negsuc}
 use lib.ListN.{replicate}
-use Rattle.decimal.specs.Trusted.Number.{Number, fieldNumber}
+use Rattle.decimal.specs.Trusted.Number.{Number, fieldNumber, wordNumber}
 use Rattle.decimal.specs.Trusted.Columns.{fieldOf, signedRoom, signedFieldOf}
 use Rattle.decimal.specs.Trusted.Reading.{numberOfInt}
 
@@ -46,6 +46,29 @@ no-numbers :
     [])
     ≡ replicate 10 none
 no-numbers = refl
+
+-- the greatest of 64 bits in 21 columns, "0", "  120"
+words-read :
+    map wordNumber (
+    (32 ∷ 49 ∷ 56 ∷ 52 ∷ 52 ∷ 54 ∷ 55 ∷ 52 ∷ 52 ∷ 48 ∷ 55 ∷ 51 ∷ 55 ∷ 48 ∷ 57 ∷ 53 ∷ 53 ∷ 49 ∷ 54 ∷ 49 ∷ 53 ∷ []) ∷
+    (48 ∷ []) ∷
+    (32 ∷ 32 ∷ 49 ∷ 50 ∷ 48 ∷ []) ∷
+    [])
+    ≡ some (2 ^ 64 - 1) ∷ some 0 ∷ some 120 ∷ []
+words-read = refl
+
+-- one more than the greatest, the least of 21 digits, "-1", " 07", blanks alone, no column
+no-words :
+    map wordNumber (
+    (32 ∷ 49 ∷ 56 ∷ 52 ∷ 52 ∷ 54 ∷ 55 ∷ 52 ∷ 52 ∷ 48 ∷ 55 ∷ 51 ∷ 55 ∷ 48 ∷ 57 ∷ 53 ∷ 53 ∷ 49 ∷ 54 ∷ 49 ∷ 54 ∷ []) ∷
+    (49 ∷ 48 ∷ 48 ∷ 48 ∷ 48 ∷ 48 ∷ 48 ∷ 48 ∷ 48 ∷ 48 ∷ 48 ∷ 48 ∷ 48 ∷ 48 ∷ 48 ∷ 48 ∷ 48 ∷ 48 ∷ 48 ∷ 48 ∷ 48 ∷ []) ∷
+    (45 ∷ 49 ∷ []) ∷
+    (32 ∷ 48 ∷ 55 ∷ []) ∷
+    (32 ∷ 32 ∷ 32 ∷ []) ∷
+    [] ∷
+    [])
+    ≡ replicate 6 none
+no-words = refl
 
 -- 0 and 120 in four columns, the greatest of 64 bits in 21
 fields-written :

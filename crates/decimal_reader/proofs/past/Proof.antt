@@ -20,7 +20,7 @@ returns-2 c =
 returns-3 : tie.Need-returns-3
 returns-3 c =
     let a = c .before .before .args in
-    reflects-same (reflects-lt 5 (a .d)) (reflects-le (2 ^ 64) (10 * a .n + a .d)) (λ l. omega arith) (λ l. omega arith)
+    reflects-same (reflects-lt _ (a .d)) (reflects-le (2 ^ 64) (10 * a .n + a .d)) (λ l. omega arith) (λ l. omega arith)
 
 pub past-spec : {M : Type 1} → statement M
 past-spec = tie.close (tie.spec returns returns-2 returns-3)
