@@ -1,6 +1,7 @@
-// Reads each line of a file as a field and prints what it holds. Then writes numbers into a field of a line of dots, from the
+// Reads each line of a file as a field and as a number without a minus sign, and prints what it holds. Then writes numbers into a field of a line of dots, from the
 // second byte on, and prints the line and the answer.
 use decimal::Field;
+use decimal::Parsed;
 use decimal::Written;
 use libc::STDOUT_FILENO;
 
@@ -60,9 +61,16 @@ fn print_field(s: &[u8]) {
                 print(b"minus ");
             }
             io::print_decimal(STDOUT_FILENO, decimal::magnitude(v) as u64);
+        }
+        Field::NoNumber => print(b"no number"),
+    }
+    match decimal_reader::read_word(s) {
+        Parsed::Natural(n) => {
+            print(b", word ");
+            io::print_decimal(STDOUT_FILENO, n);
             print(b"\n");
         }
-        Field::NoNumber => print(b"no number\n"),
+        Parsed::Nothing => print(b", no word\n"),
     }
 }
 
