@@ -14,8 +14,9 @@ use Rattle.decimal.specs.Inside.{Within}
 use Rattle.decimal.specs.NumberLaws.{Given, field-given, field-within}
 use Rattle.decimal.specs.Trusted.Columns.{fieldOf, signedFieldOf}
 use Rattle.decimal.specs.FieldLaws.{field-read, signed-read}
-use Rattle.decimal.specs.Trusted.Reading.{intOf, numberOfInt, fieldAnswer, fieldRead}
+use Rattle.decimal.specs.Trusted.Reading.{intOf, numberOfInt, fieldAnswer, fieldRead, parsed}
 use Rattle.decimal.specs.declared.Field.the-variants.{Value, NoNumber}
+use Rattle.decimal.specs.declared.Parsed.the-variants.{Natural, Nothing}
 
 back : (b : Bool) (m : ℕ) → (b ≡ true → 0 < m) → numberOfInt (cond b (negℤ (pos m)) (pos m)) ≡ record { negative = b; magnitude = m }
 back false m h = refl
@@ -67,3 +68,13 @@ read-field n h = ap fieldAnswer (field-read n h)
 
 pub read-signed : (v : ℤ) → Within columns (numberOfInt v) → fieldRead (signedFieldOf columns (numberOfInt v)) ≡ Value v
 read-signed v h = ap fieldAnswer (signed-read (numberOfInt v) h) ∙ ap Value (number-value v)
+
+-- ---- without a minus sign
+
+pub parsed-some : (o : Option ℕ) {n : ℕ} → parsed o ≡ Natural n → o ≡ some n
+parsed-some none e = let no : _≡_ {A = ℕ} 0 1 = cc in absurd (omega arith)
+parsed-some (some m) e = cc
+
+pub parsed-none : (o : Option ℕ) → parsed o ≡ Nothing → o ≡ none
+parsed-none none e = refl
+parsed-none (some m) e = let no : _≡_ {A = ℕ} 0 1 = cc in absurd (omega arith)

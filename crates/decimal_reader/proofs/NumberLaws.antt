@@ -16,6 +16,7 @@ use Rattle.decimal.specs.Trusted.Number.{digits, natural, unsigned, negated, si
 use Rattle.decimal.specs.NumberLaws.{natural-digits, natural-below}
 use Rattle.decimal.specs.WordLaws.{whole-word}
 use Rattle.decimal.specs.Trusted.Reading.{parsed}
+use Rattle.decimal.specs.ReadingLaws.{parsed-some, parsed-none}
 use Rattle.decimal.specs.Inside.{Skipped}
 use Rattle.decimal.specs.declared.Parsed.the-variants.{Natural, Nothing}
 
@@ -78,14 +79,6 @@ field-signed bs i e h = rw (eq-eqb (length bs) 6 e) (h .same)
 
 pub field-other : (bs : List ℕ) → (length bs ≡ 6 → ⊥) → fieldNumber bs ≡ none
 field-other bs n = rw (ne-eqb (length bs) 6 n)
-
-parsed-some : (o : Option ℕ) {n : ℕ} → parsed o ≡ Natural n → o ≡ some n
-parsed-some none e = let no : _≡_ {A = ℕ} 0 1 = cc in absurd (omega arith)
-parsed-some (some m) e = cc
-
-parsed-none : (o : Option ℕ) → parsed o ≡ Nothing → o ≡ none
-parsed-none none e = refl
-parsed-none (some m) e = let no : _≡_ {A = ℕ} 0 1 = cc in absurd (omega arith)
 
 -- what six columns hold is below 2^64, and fits 32 bits
 six-below : (bs : List ℕ) (i n : ℕ) → length bs ≤ 6 → natural (drop i bs) ≡ some n → n < 1000000
