@@ -44,14 +44,14 @@ no-room j n h e = by-leb (λ b. 10 ^ j ≤ n) (10 ^ j) n (λ l. l) (λ l. let no
     differ e = let no : _≡_ {A = ℕ} 0 1 = cc in omega arith
 
 -- a column that would not be blank has a digit
-pub column-shows : (n j : ℕ) → room j n ≡ false → column n j ≡ 48 + (n / 10 ^ j) % 10
+column-shows : (n j : ℕ) → room j n ≡ false → column n j ≡ 48 + (n / 10 ^ j) % 10
 column-shows n j e = ap (λ b. cond b 32 (48 + (n / 10 ^ j) % 10)) e
 
-pub blank-column : (n j : ℕ) → room j n ≡ true → column n j ≡ 32
+blank-column : (n j : ℕ) → room j n ≡ true → column n j ≡ 32
 blank-column n j e = ap (λ b. cond b 32 (48 + (n / 10 ^ j) % 10)) e
 
 -- fewer columns have no more room
-pub room-less : (n j k : ℕ) → j ≤ k → room k n ≡ false → room j n ≡ false
+room-less : (n j k : ℕ) → j ≤ k → room k n ≡ false → room j n ≡ false
 room-less n j k h e =
     by-reflects (λ b. b ≡ false) (reflects-room j n)
     (λ r. sym (reflects-true (reflects-room k n) (omega arith, omega (arith, r .1, pow-le-pow-right {n = 10} (omega arith) {i = j} {j = k} h))) ∙ e)

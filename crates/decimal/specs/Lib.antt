@@ -4,6 +4,7 @@ pub mod NumberLaws
 pub mod ReadingLaws
 pub mod ColumnLaws
 pub mod FieldLaws
+pub mod FieldText
 pub mod WordLaws
 pub mod WritingLaws
 pub mod Examples

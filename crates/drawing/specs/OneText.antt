@@ -25,7 +25,7 @@ use Rattle.sheet.specs.NumberLaws.{by-test, counts-holds}
 use Rattle.sheet.specs.ReadLaws.{source-named, read-formed}
 use Rattle.sheet.specs.CutLaws.{line-cut, empty-is}
 use Rattle.drawing.specs.Trusted.Written.{signedNumber, plainNumber, fieldsText, lineText, kindNumber, faninNumber, gateNumbers, gateText, written}
-use Rattle.drawing.specs.FieldText.{no-some, field-text}
+use Rattle.decimal.specs.FieldText.{no-some, field-text}
 use Rattle.drawing.specs.RoundTrip.{read-written}
 
 -- ---- a line

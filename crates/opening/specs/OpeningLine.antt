@@ -14,7 +14,7 @@ use Rattle.decimal.specs.Trusted.Columns.{signedFieldOf}
 use Rattle.decimal.specs.NumberLaws.{field-within}
 use Rattle.sheet.specs.Trusted.Line.{line, with, fields}
 use Rattle.drawing.specs.Trusted.Written.{fieldsText, lineText}
-use Rattle.drawing.specs.FieldText.{no-some, field-text}
+use Rattle.decimal.specs.FieldText.{no-some, field-text}
 use Rattle.drawing.specs.LineLaws.{line-written, fields-written}
 use Rattle.drawing.specs.OneText.{fields-text, line-text}
 use Rattle.opening.specs.Trusted.Opening.{both, openingNumbers}

@@ -10,18 +10,18 @@ use lib.Dec.{T}
 use lib.ListN.{length}
 use Rattle.lists.specs.Cases.{by-eqb, by-leb}
 use Rattle.lists.specs.TestLaws.{reflects-within, reflects-true, by-reflects}
 use Rattle.decimal.specs.Trusted.Number.{Number, digits, natural, unsigned, negated, signed, number, columns, fieldNumber}
 use Rattle.decimal.specs.NumberLaws.{natural-below}
 use Rattle.decimal.specs.Trusted.Columns.{room, column, fieldOf, signedColumn, signedFieldOf}
 use Rattle.decimal.specs.ColumnLaws.{reflects-room, div-more}
 use Rattle.decimal.specs.FieldLaws.{plain-field, minus-digits}
 
 pub no-some : {A : Type 0} {a : A} {C : Type 0} → _≡_ {A = Option A} none (some a) → C
 no-some e = let z : _≡_ {A = ℕ} 0 1 = cc in absurd (omega arith)
 
 -- ---- room
 
-room-is : (w n : ℕ) → room w n ≡ true → (0 < w) × (n < 10 ^ w)
+pub room-is : (w n : ℕ) → room w n ≡ true → (0 < w) × (n < 10 ^ w)
 room-is w n e = reflects-room w n .to (subst T (sym e) tt)
 
 room-more : (w n : ℕ) → room w n ≡ true → room (suc w) n ≡ true
@@ -101,10 +101,10 @@ digits-room bs m e = reflects-true (reflects-room (length bs) m) (natural-text b
 -- ---- with a sign, after blanks
 
 -- `bs` is the writing of x, for which one column more would be blank
-record Text (bs : List ℕ) (x : Number) : Type 0 where
-  text : bs ≡ signedFieldOf (length bs) x
-  whole : room (length bs) (x .magnitude) ≡ true
-  minus : x .negative ≡ true → room (length bs - 1) (x .magnitude) ≡ true
+pub record Text (bs : List ℕ) (x : Number) : Type 0 where
+  pub text : bs ≡ signedFieldOf (length bs) x
+  pub whole : room (length bs) (x .magnitude) ≡ true
+  pub minus : x .negative ≡ true → room (length bs - 1) (x .magnitude) ≡ true
 
 minus-one : (k : ℕ) → suc k - 1 ≡ k
 minus-one k = omega arith
@@ -163,7 +163,7 @@ blank-column x w e f = of (x .negative) f
     of false f = ap (λ r. shown r (room (w - 1) (x .magnitude)) false) e
     of true f = ap₂ (λ r q. shown r q true) e (f refl)
 
-number-text : (bs : List ℕ) {x : Number} → number bs ≡ some x → Text bs x
+pub number-text : (bs : List ℕ) {x : Number} → number bs ≡ some x → Text bs x
 number-text [] e = no-some e
 number-text (b ∷ bs) {x} e =
     by-eqb (λ t. cond t (number bs) (signed (b ∷ bs)) ≡ some x → Text (b ∷ bs) x) b 32
