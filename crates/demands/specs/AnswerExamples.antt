@@ -12,7 +12,7 @@ use Rattle.part.specs.Trusted.SoundTest.{sound}
 use Rattle.part.specs.Trusted.Answers.{Answer, accepted, refused}
 use Rattle.demands.specs.Determined.{leastNumber, answerOf}
 use Rattle.part.specs.Trusted.Reading.{readOf}
-use Rattle.demands.specs.PartExamples.{part}
+use Rattle.list_reading.specs.PartExamples.{part}
 use Rattle.part.specs.declared.Part.{Part}
 
 -- the part of 01's list, which drives 20 and 21 and reads 1 to 5 and 20, with another capacity and used count

@@ -21,7 +21,7 @@ use Rattle.part.specs.Trusted.Reading.{readOf}
 use Rattle.part.specs.Trusted.Answers.{accepted, Result}
 use Rattle.part.specs.Trusted.Add.{opened, extended, Add}
 use Rattle.demands.specs.Trusted.Calls.{add, final, Chain, call}
-use Rattle.demands.specs.PartExamples.{part}
+use Rattle.list_reading.specs.PartExamples.{part}
 use Rattle.part.specs.declared.Part.{Part}
 use Rattle.demands.specs.Trusted.Calls as calls
 use Rattle.demands.specs.Trusted.Demands as Demands

@@ -22,7 +22,8 @@ use Rattle.part.specs.SoundLaws.{sound-reflects}
 use Rattle.part.specs.Trusted.Reading.{readOf}
 use Rattle.part.specs.Trusted.Answers.{Answer, accepted, refused}
 use Rattle.part.specs.Trusted.Add.{opened, isDriven, isRead, Add}
-use Rattle.demands.specs.AddLaws.{driven-reflects, read-reflects, opened-cases, AddCase, unsound, misread, driven, read, full, taken, add-case, not-refused, refused-stays}
+use Rattle.part.specs.OpenLaws.{opened-cases}
+use Rattle.demands.specs.AddLaws.{driven-reflects, read-reflects, AddCase, unsound, misread, driven, read, full, taken, add-case, not-refused, refused-stays}
 use Rattle.demands.specs.Determined as Determined
 use Rattle.demands.specs.Determined.{leastNumber, answerOf}
 use Rattle.demands.specs.ReadingLaws.{reads-right}

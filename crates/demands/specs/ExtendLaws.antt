@@ -7,7 +7,7 @@ use mathlib.Core.List.{List, [], _∷_, _++_, map, Memᴰ·append-right}
 use lib.ListN.{length, take, drop, replicate, length-append, length-map, length-drop, length-replicate}
 use lib.Seq.{drop-append-seam, take-at, drop-at, drop-drop}
 use Rattle.lists.specs.Trusted.Lists.{_∈_, first, later, Every}
-use Rattle.lists.specs.ListLaws.{every-none, every-cons, every-head, every-tail, every-append}
+use Rattle.lists.specs.ListLaws.{every-none, every-cons, every-head, every-tail, every-append, every-take, every-drop}
 use Rattle.tree.specs.Trusted.Limits.{codeBase}
 use Rattle.cover.specs.Trusted.Tables.{LookupTable, Placed, numbered}
 use Rattle.cover.specs.Eval.{numbered-is}
@@ -30,20 +30,6 @@ use Rattle.part.specs.declared.Part.{Part}
 -- ---- lists
 
 module _ {A : Type 0} where
-  pub every-take : {P : A → Type 0} (n : ℕ) (xs : List A) → Every P xs → Every P (take n xs)
-  every-take zero xs h = every-none _
-  every-take (suc n) [] h = every-none _
-  every-take (suc n) (x ∷ xs) h = every-cons (every-head h) (every-take n xs (every-tail h))
-
-  pub every-drop : {P : A → Type 0} (n : ℕ) (xs : List A) → Every P xs → Every P (drop n xs)
-  every-drop zero xs h = h
-  every-drop (suc n) [] h = every-none _
-  every-drop (suc n) (x ∷ xs) h = every-drop n xs (every-tail h)
-
-  pub every-replicate : (P : A → Type 0) (n : ℕ) (x : A) → P x → Every P (replicate n x)
-  every-replicate P zero x h = every-none _
-  every-replicate P (suc n) x h = every-cons h (every-replicate P n x h)
-
   pub every-map : {B : Type 0} (P : A → Type 0) (f : B → A) (xs : List B) → Every (λ x. P (f x)) xs → Every P (map f xs)
   every-map P f [] h = every-none _
   every-map P f (x ∷ xs) h = every-cons (every-head h) (every-map P f xs (every-tail h))

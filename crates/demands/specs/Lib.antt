@@ -8,10 +8,8 @@ pub mod ValueLaws
 pub mod LeafLaws
 pub mod PossibleLaws
 pub mod FreeLaws
-pub mod ListingLaws
 pub mod ConditionLaws
 pub mod Theorems
-pub mod PartExamples
 pub mod ChainExample
 pub mod AnswerExamples
 pub mod Determined

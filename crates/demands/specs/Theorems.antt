@@ -17,12 +17,12 @@ use Rattle.part.specs.declared.Part.{Part}
 use Rattle.part.specs.declared.Added.{Added}
 use Rattle.demands.specs.Trusted.Calls.{Call, add, Chain, done, call, acceptedIn}
 use Rattle.demands.specs.Trusted.Demands.{Demand1, lastPart, Demand2, Total, Demand3}
-use Rattle.demands.specs.AddLaws.{opened-empty, opened-shaped, opened-sound}
+use Rattle.part.specs.OpenLaws.{opened-empty, opened-shaped, opened-sound}
 use Rattle.demands.specs.ConditionLaws.{opening-told, add-told, line-told, list-told}
 use Rattle.demands.specs.CountLaws.{call-kept, chain-kept, counted}
 use Rattle.demands.specs.ValueLaws.{sound-narrow, unsound-stays, opened-served}
 use Rattle.demands.specs.FreeLaws.{values-by-free-nets}
-use Rattle.demands.specs.ListingLaws.{list-says-all, same-lines}
+use Rattle.list_reading.specs.ListingLaws.{list-says-all, same-lines}
 use Rattle.demands.specs.DeterminedLaws.{alike-refl, answers-determined}
 use Rattle.demands.specs.PossibleLaws.{chain-possible}
 

@@ -19,7 +19,7 @@ use Rattle.list_layout.specs.Trusted.LineSays.{FieldFits}
 use Rattle.list_layout.specs.Taken.{NumbersTaken}
 
 module _ {A B : Type 0} where
-  bind-cong : (o : Option A) {f g : A → Option B} → ((a : A) → f a ≡ g a) → bind o f ≡ bind o g
+  pub bind-cong : (o : Option A) {f g : A → Option B} → ((a : A) → f a ≡ g a) → bind o f ≡ bind o g
   unfolding bind
   bind-cong none h = refl
   bind-cong (some a) h = h a
@@ -28,7 +28,7 @@ module _ {A B : Type 0} where
   unfolding bind
   bind-none o f e = ap (λ p. bind p f) e
 
-  bind-assoc : {C : Type 0} (o : Option A) (f : A → Option B) (g : B → Option C) → bind (bind o f) g ≡ bind o (λ a. bind (f a) g)
+  pub bind-assoc : {C : Type 0} (o : Option A) (f : A → Option B) (g : B → Option C) → bind (bind o f) g ≡ bind o (λ a. bind (f a) g)
   unfolding bind
   bind-assoc none f g = refl
   bind-assoc (some a) f g = refl

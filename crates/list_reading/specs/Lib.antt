@@ -1,1 +1,7 @@
 pub mod Trusted
+pub mod ListingLaws
+pub mod StepLaws
+pub mod ReadLaws
+pub mod ToldLaws
+pub mod PartExamples
+pub mod Examples

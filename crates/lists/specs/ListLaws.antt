@@ -5,7 +5,7 @@ use native.Mathlib.Omega.{arith}
 use mathlib.Core.Path.{_≡_, refl, sym, ap, ap₂, _∙_, subst}
 use mathlib.Core.Logic.{_≢_, ⊎-elim}
 use mathlib.Core.List.{List, [], _∷_, _++_, append-assoc, map, List·Memᴰ·not-nil, List·Memᴰ·append-cases, Memᴰ·append-left, Memᴰ·append-right}
-use lib.ListN.{length, getD, drop}
+use lib.ListN.{length, getD, take, drop, replicate}
 use lib.Seq.{drop-nil}
 use Rattle.lists.specs.Trusted.Lists.{_∈_, first, later, Every, Inserted, here, there, Permuted, empty, more, gather}
 
@@ -36,6 +36,20 @@ module _ {A : Type 0} where
 
   pub every-append : {P : A → Type 0} (xs ys : List A) → Every P xs → Every P ys → Every P (xs ++ ys)
   every-append xs ys f g a m = ⊎-elim (f a) (g a) (List·Memᴰ·append-cases xs m)
+
+  pub every-take : {P : A → Type 0} (n : ℕ) (xs : List A) → Every P xs → Every P (take n xs)
+  every-take zero xs h = every-none _
+  every-take (suc n) [] h = every-none _
+  every-take (suc n) (x ∷ xs) h = every-cons (every-head h) (every-take n xs (every-tail h))
+
+  pub every-drop : {P : A → Type 0} (n : ℕ) (xs : List A) → Every P xs → Every P (drop n xs)
+  every-drop zero xs h = h
+  every-drop (suc n) [] h = every-none _
+  every-drop (suc n) (x ∷ xs) h = every-drop n xs (every-tail h)
+
+  pub every-replicate : (P : A → Type 0) (n : ℕ) (x : A) → P x → Every P (replicate n x)
+  every-replicate P zero x h = every-none _
+  every-replicate P (suc n) x h = every-cons h (every-replicate P n x h)
 
   pub every-left : {P : A → Type 0} (xs ys : List A) → Every P (xs ++ ys) → Every P xs
   every-left xs ys h a m = h a (Memᴰ·append-left ys m)

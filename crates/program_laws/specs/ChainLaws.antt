@@ -8,7 +8,7 @@ use lib.ListN.{length, drop}
 use Rattle.decimal.specs.Trusted.Number.{Number}
 use Rattle.part.specs.Trusted.Answers.{accepted, refused, Result}
 use Rattle.part.specs.Trusted.Add.{opened}
-use Rattle.demands.specs.AddLaws.{opened-shaped}
+use Rattle.part.specs.OpenLaws.{opened-shaped}
 use Rattle.demands.specs.Trusted.Calls.{Call, Chain, done, call}
 use Rattle.demands.specs.Theorems.{demand-2, demand-3}
 use Rattle.part.specs.declared.Part.{Part}

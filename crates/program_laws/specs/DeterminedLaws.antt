@@ -15,7 +15,8 @@ use Rattle.part.specs.Trusted.Parts.{Shaped}
 use Rattle.part.specs.Trusted.Sound.{Sound}
 use Rattle.part.specs.Trusted.Answers.{Answer, accepted, refused, Result}
 use Rattle.part.specs.Trusted.Add.{opened, Add}
-use Rattle.demands.specs.AddLaws.{kept, add-case, opened-shaped, opened-sound, not-refused}
+use Rattle.part.specs.OpenLaws.{opened-shaped, opened-sound}
+use Rattle.demands.specs.AddLaws.{kept, add-case, not-refused}
 use Rattle.demands.specs.Trusted.Calls.{Call, add, final, Chain, done, call}
 use Rattle.demands.specs.CountLaws.{call-kept}
 use Rattle.listing.specs.Trusted.Listing.{listOf}

@@ -1,5 +1,5 @@
 -- When a list is refused, told by the writer's lines and by the rules: the condition of each number and place. Definitions only: that a
--- reading refuses exactly under them is `list-told` in ToldLaws.
+-- reading refuses exactly under them is `reading-told` in ToldLaws.
 use Prim.Native.Nat.{ℕ, suc, _≤_, _<_}
 use mathlib.Core.Path.{_≡_}
 use mathlib.Core.Logic.{_↔_, _≢_}

@@ -10,7 +10,7 @@ use lib.Seq.{getD-take, ext-getD, length-take-le}
 use Rattle.lists.specs.NumberLaws.{from-one}
 use Rattle.lists.specs.Trusted.Lists.{_∈_, first, later, Every, gather}
 use Rattle.lists.specs.Sequences.{upto}
-use Rattle.lists.specs.ListLaws.{every-none, every-at, every-cons, every-head, every-tail}
+use Rattle.lists.specs.ListLaws.{every-none, every-at, every-cons, every-head, every-tail, every-take, every-drop}
 use Rattle.tree.specs.Trusted.Limits.{greatestNet}
 use Rattle.decimal.specs.Trusted.Columns.{fieldOf, fieldsOf}
 use Rattle.decimal.specs.ColumnLaws.{field-only, fields-only}
@@ -22,7 +22,6 @@ use Rattle.table.specs.RuleLaws.{old-place, record-placed}
 use Rattle.part.specs.Trusted.Parts.{inUse, Shaped}
 use Rattle.part.specs.Trusted.Sound.{Sound}
 use Rattle.part.specs.SoundLaws.{used-count}
-use Rattle.demands.specs.ExtendLaws.{every-take, every-drop}
 use Rattle.list_line.specs.Trusted.TableLine.{tableLine}
 use Rattle.listing.specs.Trusted.Listing.{lineOf, listOf}
 use Rattle.table.specs.declared.Table.{Table}
@@ -56,11 +55,15 @@ reads-length r s =
     let l : r .count ≤ length (r .inputs) = omega (arith, s .room, s .count) in
     length-take-le (r .count) (r .inputs) l
 
-truth-small : (r : Table) → Small r → r .truth < 10 ^ 21
-truth-small r s =
-    let a : 2 ^ r .count ≤ 64 = pow-le-pow-right (omega arith) {i = r .count} {j = 6} (s .count) in
+-- the truth table of at most six inputs is below 2^64
+pub truth-word : (r : Table) → r .count ≤ inputRoom → r .truth < 2 ^ (2 ^ r .count) → r .truth < 2 ^ 64
+truth-word r l t =
+    let a : 2 ^ r .count ≤ 64 = pow-le-pow-right (omega arith) {i = r .count} {j = 6} l in
     let b : 2 ^ (2 ^ r .count) ≤ 2 ^ 64 = pow-le-pow-right (omega arith) {i = 2 ^ r .count} {j = 64} a in
-    omega (arith, s .truth, b)
+    omega (arith, t, b)
+
+truth-small : (r : Table) → Small r → r .truth < 10 ^ 21
+truth-small r s = omega (arith, truth-word r (s .count) (s .truth))
 
 inputs-same : (r s : Table) → Small r → Small s → r .count ≡ s .count → reads r ≡ reads s → r .inputs ≡ s .inputs
 inputs-same r s f g c e =
@@ -101,7 +104,7 @@ table-line-only t r s xs ys l f g e = (same-record r s (b .0) (c .0) (inputs-sam
 -- ---- a part in its lines
 
 -- a net or the name of a table fits the columns of a field
-inputs-small : (p : Part) → Sound p → Every (λ r. Every (λ x. x < 10 ^ 6) (reads r)) (inUse p)
+pub inputs-small : (p : Part) → Sound p → Every (λ r. Every (λ x. x < 10 ^ 6) (reads r)) (inUse p)
 inputs-small p h r m x i = ⊎-elim (λ n. omega (arith, n .1)) named (h .rules .coded r m .1 x i)
   where
     o : (q : Placed) × (q ∈ places (inUse p)) × (q .1 ≡ tableOf r)
