@@ -162,10 +162,12 @@ pub fn read_table(text: &[u8], at: usize, t: u16) -> TableRead
         return not_laid();
     }
     let numbers = head.numbers;
+    let wide = inputs.numbers;
+    let held = narrow_all(wide);
     let table = Table {
         net: narrow(numbers[1]),
         count: n as u8,
-        inputs: narrow_all(inputs.numbers),
+        inputs: held,
         truth,
     };
     TableRead {
