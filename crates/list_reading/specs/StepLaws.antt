@@ -46,11 +46,11 @@ module _ {A B : Type 0} (number place : ℕ) (f : A → Checked B) where
   by-given Q none g h = g refl
   by-given Q (some a) g h = h a refl
 
-  given-on : {o : Option A} {a : A} → o ≡ some a → (given o number place >>= f) ≡ f a
+  pub given-on : {o : Option A} {a : A} → o ≡ some a → (given o number place >>= f) ≡ f a
   unfolding _>>=_ given
   given-on e = ap (λ o. given o number place >>= f) e
 
-  given-off : {o : Option A} → o ≡ none → (given o number place >>= f) ≡ refused number place
+  pub given-off : {o : Option A} → o ≡ none → (given o number place >>= f) ≡ refused number place
   unfolding _>>=_ given
   given-off e = ap (λ o. given o number place >>= f) e
 
@@ -59,10 +59,10 @@ module _ {B : Type 0} {b : Bool} {P : Type 0} (number place : ℕ) (f : Unit {0}
   unfolding _>>=_ require
   by-require Q g h = by-reflects (λ c. Q (require c number place >>= f)) r g h
 
-  require-on : P → (require b number place >>= f) ≡ f tt
+  pub require-on : P → (require b number place >>= f) ≡ f tt
   require-on h = by-require (λ c. c ≡ f tt) (λ x. refl) (λ n. absurd (n h))
 
-  require-off : ¬ P → (require b number place >>= f) ≡ refused number place
+  pub require-off : ¬ P → (require b number place >>= f) ≡ refused number place
   require-off n = by-require (λ c. c ≡ refused number place) (λ h. absurd (n h)) (λ x. refl)
 
 is-none : {A : Type 0} (o : Option A) → ((a : A) → o ≢ some a) → o ≡ none
@@ -72,7 +72,7 @@ is-none (some a) h = absurd (h a refl)
 none-some : {A : Type 0} {a : A} → none ≡ some a → ⊥
 none-some e = let z : _≡_ {A = ℕ} 0 1 = cc in omega arith
 
-nil-reflects : (bs : List ℕ) → Reflects (isNil bs) (bs ≡ [])
+pub nil-reflects : (bs : List ℕ) → Reflects (isNil bs) (bs ≡ [])
 nil-reflects [] = record { to = λ t. refl; from = λ e. tt }
 nil-reflects (b ∷ bs) = record { to = λ t. absurd t; from = λ e. let z : _≡_ {A = ℕ} 0 1 = cc in absurd (omega arith) }
 

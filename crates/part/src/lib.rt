@@ -51,7 +51,7 @@ pub struct Added {
 }
 
 // A part with this K and this capacity that holds no table.
-fn empty(k: u8, capacity: u16) -> Part
+pub fn empty(k: u8, capacity: u16) -> Part
     ensures { λ r. ⌜ r ≡ emptyPart k capacity ⌝ }
 {
     Part {
