@@ -1,4 +1,4 @@
-//! What the tools share: reading standard input, and how they end.
+//! What the tools share: reading standard input, options of a run of cases, failing cases, and how they end.
 
 use std::io::{Read, Write};
 use std::process::ExitCode;
@@ -25,6 +25,71 @@ pub fn finish(tool: &str, result: Result<String, String>) -> ExitCode {
         Err(error) => {
             eprintln!("{tool}: {error}");
             ExitCode::FAILURE
+        }
+    }
+}
+
+/// A run of cases: which, and where failing ones are saved.
+pub struct Options {
+    pub count: u64,
+    pub seed: u64,
+    pub first: u64,
+    pub save: String,
+    /// What stands besides options.
+    pub words: Vec<String>,
+}
+
+impl Options {
+    /// The options that the program was called with: `[--count N] [--seed S] [--first I] [--save FOLDER]`, and other words.
+    pub fn read(count: u64) -> Result<Options, String> {
+        let mut options = Options { count, seed: 1, first: 0, save: ".".into(), words: Vec::new() };
+        let mut arguments = std::env::args().skip(1);
+        while let Some(name) = arguments.next() {
+            let mut value = || arguments.next().ok_or(format!("{name} needs a value"));
+            let number = |text: String| text.parse::<u64>().map_err(|_| format!("{text:?} is no number"));
+            match &name[..] {
+                "--count" => options.count = number(value()?)?,
+                "--seed" => options.seed = number(value()?)?,
+                "--first" => options.first = number(value()?)?,
+                "--save" => options.save = value()?,
+                _ => options.words.push(name),
+            }
+        }
+        Ok(options)
+    }
+}
+
+/// The cases of a run that failed: each is printed and saved.
+pub struct Failures<'a> {
+    options: &'a Options,
+    pub count: usize,
+}
+
+impl Failures<'_> {
+    pub fn none(options: &Options) -> Failures<'_> {
+        Failures { options, count: 0 }
+    }
+
+    /// Takes the case of this index, made as `name`, if it failed. Whether the run goes on: it ends with ten of them.
+    pub fn take(&mut self, index: &str, name: &str, text: &[u8], tested: Result<(), String>) -> Result<bool, String> {
+        if let Err(fault) = tested {
+            self.count += 1;
+            let Options { seed, save, .. } = self.options;
+            println!("seed {seed} case {index} ({name}): {fault}");
+            write_file(&format!("{save}/case-{seed}-{index}"), text)?;
+        }
+        Ok(self.count < 10)
+    }
+}
+
+/// Ends a run of cases: well where none failed.
+pub fn finish_run(tool: &str, failed: Result<usize, String>) -> ExitCode {
+    match failed {
+        Ok(0) => ExitCode::SUCCESS,
+        Ok(_) => ExitCode::FAILURE,
+        Err(error) => {
+            eprintln!("{tool}: {error}");
+            ExitCode::from(2)
         }
     }
 }

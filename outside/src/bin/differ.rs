@@ -12,15 +12,7 @@ use std::process::{Command, ExitCode, Stdio};
 use outside::check::check_answer;
 use outside::generate::case;
 use outside::program;
-use outside::tool::write_file;
-
-struct Options {
-    count: u64,
-    seed: u64,
-    first: u64,
-    save: String,
-    mapper: Mapper,
-}
+use outside::tool::{finish_run, Failures, Options};
 
 enum Mapper {
     Own,
@@ -30,15 +22,15 @@ enum Mapper {
 }
 
 impl Mapper {
-    fn of(name: &str, arguments: &mut impl Iterator<Item = String>) -> Result<Mapper, String> {
-        match name {
-            "own" => Ok(Mapper::Own),
+    fn of(words: &[String]) -> Result<Mapper, String> {
+        match &words.iter().map(String::as_str).collect::<Vec<&str>>()[..] {
+            ["own"] | [] => Ok(Mapper::Own),
             #[cfg(feature = "linked")]
-            "linked" => Ok(Mapper::Linked(vec![0; outside::linked::LONGEST])),
+            ["linked"] => Ok(Mapper::Linked(vec![0; outside::linked::LONGEST])),
             #[cfg(not(feature = "linked"))]
-            "linked" => Err("built without the feature `linked`".into()),
-            "command" => Ok(Mapper::Command(arguments.next().ok_or("which program?")?)),
-            _ => Err(format!("{name:?} is no option or mapper")),
+            ["linked"] => Err("built without the feature `linked`".into()),
+            ["command", program] => Ok(Mapper::Command((*program).into())),
+            words => Err(format!("{words:?} is no option or mapper")),
         }
     }
 
@@ -70,37 +62,17 @@ fn run(program: &str, input: &[u8]) -> std::io::Result<Vec<u8>> {
     }
 }
 
-fn options() -> Result<Options, String> {
-    let mut options = Options { count: 2000, seed: 1, first: 0, save: ".".into(), mapper: Mapper::Own };
-    let mut arguments = std::env::args().skip(1);
-    while let Some(name) = arguments.next() {
-        let mut value = || arguments.next().ok_or(format!("{name} needs a value"));
-        let number = |text: String| text.parse::<u64>().map_err(|_| format!("{text:?} is no number"));
-        match &name[..] {
-            "--count" => options.count = number(value()?)?,
-            "--seed" => options.seed = number(value()?)?,
-            "--first" => options.first = number(value()?)?,
-            "--save" => options.save = value()?,
-            _ => options.mapper = Mapper::of(&name, &mut arguments)?,
-        }
-    }
-    Ok(options)
-}
-
-fn run_cases(options: &mut Options) -> Result<usize, String> {
+fn run_cases() -> Result<usize, String> {
+    let options = Options::read(2000)?;
+    let mut mapper = Mapper::of(&options.words)?;
     let mut outcomes: BTreeMap<u32, usize> = BTreeMap::new();
-    let mut failed = 0;
+    let mut failures = Failures::none(&options);
     for index in options.first..options.first + options.count {
         let case = case(options.seed, index);
         let answer = program::read(&case.input);
         *outcomes.entry(answer.as_ref().map_or_else(|refusal| refusal.number, |_| 0)).or_default() += 1;
-        let checked = options.mapper.map(&case.input).and_then(|printed| check_answer(&answer, &printed));
-        let Err(fault) = checked else { continue };
-        failed += 1;
-        println!("seed {} case {index} ({}): {fault}", options.seed, case.name);
-        let file = format!("{}/case-{}-{index}", options.save, options.seed);
-        write_file(&file, &case.input)?;
-        if failed == 10 {
+        let checked = mapper.map(&case.input).and_then(|printed| check_answer(&answer, &printed));
+        if !failures.take(&index.to_string(), case.name, &case.input, checked)? {
             break;
         }
     }
@@ -108,17 +80,10 @@ fn run_cases(options: &mut Options) -> Result<usize, String> {
         let outcome = if *number == 0 { "accepted".into() } else { format!("refusal {number}") };
         println!("{count:>8} {outcome}");
     }
-    println!("seed {}: {} cases, {failed} failed", options.seed, outcomes.values().sum::<usize>());
-    Ok(failed)
+    println!("seed {}: {} cases, {} failed", options.seed, outcomes.values().sum::<usize>(), failures.count);
+    Ok(failures.count)
 }
 
 fn main() -> ExitCode {
-    match options().and_then(|mut options| run_cases(&mut options)) {
-        Ok(0) => ExitCode::SUCCESS,
-        Ok(_) => ExitCode::FAILURE,
-        Err(error) => {
-            eprintln!("differ: {error}");
-            ExitCode::from(2)
-        }
-    }
+    finish_run("differ", run_cases())
 }
