@@ -2,7 +2,8 @@
 
 use std::fmt::Write;
 
-use crate::part::{read_list, Table};
+use crate::list;
+use crate::part::Table;
 use crate::program;
 use crate::sheet::{Kind, Sheet, Source};
 use crate::{CODES, NETS};
@@ -10,7 +11,7 @@ use crate::{CODES, NETS};
 /// The network as drawn and the network as mapped, with the same inputs (the free nets) and outputs (the nets driven).
 pub fn networks(input: &[u8], list: &[u8]) -> Result<(String, String), String> {
     let accepted = program::read(input).map_err(|refusal| format!("the input is refused: {}", refusal.number))?;
-    let part = read_list(list)?;
+    let part = list::read(list).map_err(|fault| fault.to_string())?;
     let mut read = vec![false; NETS as usize + 1];
     for net in accepted.sheets.iter().flat_map(Sheet::leaves) {
         read[usize::from(net)] = true;

@@ -1,10 +1,11 @@
 //! The checker of lists: whether a list is one that the mapping program may print for an input.
 //!
-//! 01 leaves free which least cover is taken and the order of its tables, inputs before readers. So the list is read, its part is
-//! tested for soundness, its tables are dealt to the sheets by their least numbers, and each sheet's tables are tested to be those
+//! 01 leaves free which least cover is taken and the order of its tables, inputs before readers. So the list is read as that of a sound
+//! part, its tables are dealt to the sheets by their least numbers, and each sheet's tables are tested to be those
 //! of a cover of that sheet (`sheet_tables`), which settles them up to what is free. The values are then run as a second test.
 
-use crate::part::{read_list, Part, Table};
+use crate::list;
+use crate::part::{Part, Table};
 use crate::program::{self, Accepted};
 use crate::refusal::Refusal;
 use crate::rng::Rng;
@@ -38,11 +39,7 @@ fn start(printed: &[u8]) -> String {
 }
 
 fn check_accepted(accepted: &Accepted, list: &[u8]) -> Result<(), String> {
-    let part = read_list(list).map_err(|fault| format!("{fault} in {:?}", start(list)))?;
-    part.sound()?;
-    if part.list().as_bytes() != list {
-        return Err("the list is not as its numbers are written".into());
-    }
+    let part = list::read(list).map_err(|fault| format!("{fault} in {:?}", start(list)))?;
     if (part.k, part.capacity) != (accepted.k, accepted.capacity) {
         return Err(format!("K {} and capacity {} in line 0", part.k, part.capacity));
     }

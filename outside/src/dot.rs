@@ -2,14 +2,15 @@
 
 use std::fmt::Write;
 
-use crate::part::{read_list, Part};
+use crate::list;
+use crate::part::Part;
 use crate::program;
 use crate::sheet::{Edge, Kind, Sheet, Source};
 use crate::CODES;
 
 /// The drawing of a list, or of an input that is accepted.
 pub fn draw(text: &[u8]) -> Result<String, String> {
-    let body = match (read_list(text), program::read(text)) {
+    let body = match (list::read(text), program::read(text)) {
         (Ok(part), _) => tables(&part),
         (_, Ok(accepted)) => accepted.sheets.iter().enumerate().map(|(index, sheet)| gates(index + 1, sheet)).collect(),
         (Err(fault), Err(refusal)) => return Err(format!("no list ({fault}), and no accepted input (refusal {})", refusal.number)),

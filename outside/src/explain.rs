@@ -1,5 +1,6 @@
 //! A refusal line and the input it was printed for, as a sentence with the line shown.
 
+use crate::list;
 use crate::program;
 use crate::refusal::Refusal;
 use crate::text;
@@ -7,8 +8,9 @@ use crate::text;
 /// The sentence for what a mapping program printed for `input`, and the line concerned.
 pub fn explain(input: &[u8], printed: &[u8]) -> Result<String, String> {
     let Some(refusal) = read_refusal(printed) else {
-        return crate::part::read_list(printed)
-            .map(|part| format!("Accepted: {} of {} tables are used.\n", part.tables.len(), part.capacity));
+        return list::read(printed)
+            .map(|part| format!("Accepted: {} of {} tables are used.\n", part.tables.len(), part.capacity))
+            .map_err(|fault| fault.to_string());
     };
     if program::read(input).err() != Some(refusal) {
         return Err("this line is not what the input gives".into());
@@ -50,7 +52,7 @@ fn line_number(input: &[u8], refusal: &Refusal) -> usize {
     first + refusal.place.saturating_sub(1)
 }
 
-/// What a refusal's number says (01, "Turned down because of the input" and "of the part"); the words are those of crates/refusals.
+/// What a refusal's number says (01, "Turned down because of the input" and "of the part"; 02); the words are those of crates/refusals.
 pub fn reason(number: u32) -> Option<&'static str> {
     Some(match number {
         1 => {
@@ -74,6 +76,8 @@ pub fn reason(number: u32) -> Option<&'static str> {
         21 => "the output net is already driven",
         22 => "a table already reads the output net",
         23 => "the sheet needs more tables than the part has left",
+        31 => "a line of the list is missing, left over, or not laid out as the list has it",
+        32 => "a rule of a sound part is broken at this line of the list, or the used count is above the capacity",
         _ => return None,
     })
 }

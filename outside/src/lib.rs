@@ -16,6 +16,9 @@ pub mod generate;
 pub mod least;
 #[cfg(feature = "linked")]
 pub mod linked;
+pub mod list;
+pub mod list_cases;
+pub mod list_check;
 pub mod part;
 pub mod program;
 pub mod refusal;

@@ -10,6 +10,13 @@ extern "C" {
     /// Writes what the refusal `number` means to `output`, which has room for `output_len` bytes, and gives how many bytes it wrote: none
     /// where the room is too small, or the number is no refusal.
     fn pailinstant_refusal(number: u32, output: *mut u8, output_len: usize) -> c_ulong;
+
+    /// Reads the `text_len` bytes at `text` as a list, and gives 0 where they are one, else 65536 × the refusal's number + the line.
+    fn pailinstant_check_list(text: *const u8, text_len: usize) -> u32;
+
+    /// The same, and writes the list's numbers to `numbers`, which has room for `numbers_len` of them: 3, and 9 for each table. It gives
+    /// 65536 × 14 where the text is a list and the room is too small, which `NUMBERS` never are. A refused call writes nothing.
+    fn pailinstant_read_list(text: *const u8, text_len: usize, numbers: *mut u64, numbers_len: usize) -> u32;
 }
 
 /// The bytes of the longest list: line 0 of three fields, and 800 lines of nine fields, 21 columns and a line feed. No input has more
@@ -30,4 +37,36 @@ pub fn refusal(number: u32, output: &mut [u8]) -> &[u8] {
     // SAFETY: the pointer is to bytes that are ours for the whole call, as many as the length says.
     let count = unsafe { pailinstant_refusal(number, output.as_mut_ptr(), output.len()) };
     &output[..count as usize]
+}
+
+/// The numbers of the longest list: K, capacity and used, and nine for each of 800 tables.
+pub const NUMBERS: usize = 7_203;
+
+/// A list that is turned away: 2, 3, 31 or 32 with the line, from 0, or 14 with line 0.
+#[derive(Clone, Copy, Debug, PartialEq, Eq)]
+pub struct Refused {
+    pub number: u32,
+    pub line: u32,
+}
+
+/// An answer of the archive: 0, or a refusal's number and line.
+fn accepted(answer: u32) -> Result<(), Refused> {
+    match answer {
+        0 => Ok(()),
+        _ => Err(Refused { number: answer >> 16, line: answer & 0xffff }),
+    }
+}
+
+/// Whether `text` is the list of a sound part.
+pub fn check_list(text: &[u8]) -> Result<(), Refused> {
+    // SAFETY: the pointer is to bytes that are ours for the whole call, as many as the length says.
+    accepted(unsafe { pailinstant_check_list(text.as_ptr(), text.len()) })
+}
+
+/// The numbers of the part whose list `text` is, written to the front of `numbers`: K, capacity, used, then nine for each table: net,
+/// u, six inputs (unused ones 0) and truth table. Where the text is refused, or `numbers` has too little room, it is left as it is.
+pub fn read_list<'a>(text: &[u8], numbers: &'a mut [u64]) -> Result<&'a [u64], Refused> {
+    // SAFETY: both pointers are to memory that is ours for the whole call, as much as the lengths say, and the two do not overlap.
+    accepted(unsafe { pailinstant_read_list(text.as_ptr(), text.len(), numbers.as_mut_ptr(), numbers.len()) })?;
+    Ok(&numbers[..3 + 9 * numbers[2] as usize])
 }

@@ -1,7 +1,7 @@
 //! Parts and their lists (01, "Part" and "List").
 
 use crate::text;
-use crate::{CODES, INPUTS, NETS, TABLES};
+use crate::{CODES, INPUTS, NETS};
 
 /// One table: the net it drives (0 for none), its inputs in rising order, and its truth table.
 #[derive(Clone, Debug, PartialEq, Eq)]
@@ -55,131 +55,107 @@ impl Part {
         }
         list
     }
+}
 
-    /// The five points of soundness, or what breaks them.
-    pub fn sound(&self) -> Result<(), String> {
-        if !(2..=INPUTS).contains(&self.k) {
-            return Err(format!("K is {}", self.k));
+/// A rule of a sound part that a table can break.
+#[derive(Clone, Copy, Debug, PartialEq, Eq, PartialOrd, Ord)]
+pub enum Rule {
+    Net,
+    InputCount,
+    Rising,
+    Truth,
+    Input,
+    Undriven,
+    DrivenOnce,
+    DrivenFirst,
+}
+
+impl Rule {
+    pub const ALL: [Rule; 8] =
+        [Rule::Net, Rule::InputCount, Rule::Rising, Rule::Truth, Rule::Input, Rule::Undriven, Rule::DrivenOnce, Rule::DrivenFirst];
+
+    /// How the rule is broken, in words.
+    pub fn broken(self) -> &'static str {
+        match self {
+            Rule::Net => "it drives what is no net",
+            Rule::InputCount => "its input count is not from 2 to K",
+            Rule::Rising => "its inputs are not rising",
+            Rule::Truth => "its truth table has bits from 2^u up",
+            Rule::Input => "an input is neither a net nor an earlier table",
+            Rule::Undriven => "an input names a table that drives a net",
+            Rule::DrivenOnce => "an earlier table drives its net",
+            Rule::DrivenFirst => "an earlier table or this one reads the net that it drives",
         }
-        if !(1..=TABLES).contains(&self.capacity) {
-            return Err(format!("the capacity is {}", self.capacity));
-        }
-        if self.tables.len() > self.capacity {
-            return Err(format!("{} tables are above the capacity", self.tables.len()));
-        }
-        let mut seen = Seen { driven: vec![false; NETS as usize + 1], read: vec![false; NETS as usize + 1] };
-        for (index, table) in self.tables.iter().enumerate() {
-            let fault = |fault| format!("table {}: {fault}", index + 1);
-            own_rules(self.k, table).map_err(fault)?;
-            input_rules(&self.tables[..index], table).map_err(fault)?;
-            seen.net_rules(table).map_err(fault)?;
-        }
-        Ok(())
     }
 }
 
-/// What a record must be by itself.
-fn own_rules(k: usize, table: &Table) -> Result<(), String> {
-    let u = table.inputs.len();
-    if i64::from(table.net) > NETS {
-        return Err(format!("drives net {}", table.net));
-    }
-    if !(2..=k).contains(&u) {
-        return Err(format!("{u} inputs"));
-    }
-    if table.inputs.windows(2).any(|pair| pair[0] >= pair[1]) {
-        return Err("inputs not rising".into());
-    }
-    if u < INPUTS && table.truth >> (1 << u) != 0 {
-        return Err(format!("truth table {} of {u} inputs", table.truth));
-    }
-    Ok(())
-}
-
-/// Each input is a net, or an earlier table that drives none.
-fn input_rules(before: &[Table], table: &Table) -> Result<(), String> {
-    for &input in &table.inputs {
-        let code = i64::from(input);
-        if (1..=NETS).contains(&code) {
-            continue;
-        }
-        let number = usize::try_from(code - CODES).unwrap_or(0);
-        match number.checked_sub(1).and_then(|index| before.get(index)) {
-            None => return Err(format!("input {input} is neither a net nor an earlier table")),
-            Some(other) if other.net != 0 => return Err(format!("input {input} names a table that drives a net")),
-            Some(_) => (),
-        }
-    }
-    Ok(())
-}
-
-/// The nets driven and read so far, by number.
-struct Seen {
+/// The rules of a sound part's tables, tested one table after another: all that is known of the tables before.
+pub struct Rules {
+    k: usize,
+    /// The net that each table drives, or 0.
+    nets: Vec<u16>,
+    /// By a net's number: whether a table drives it, and whether one reads it.
     driven: Vec<bool>,
     read: Vec<bool>,
 }
 
-impl Seen {
-    /// No net is driven twice, and a driven net is read only by tables after its driver.
-    fn net_rules(&mut self, table: &Table) -> Result<(), String> {
-        for &net in table.inputs.iter().filter(|&&input| i64::from(input) <= NETS) {
-            self.read[usize::from(net)] = true;
+impl Rules {
+    pub fn new(k: usize) -> Rules {
+        let none = vec![false; NETS as usize + 1];
+        Rules { k, nets: Vec::new(), driven: none.clone(), read: none }
+    }
+
+    /// Takes the next table, or gives a rule that it breaks.
+    pub fn add(&mut self, table: &Table) -> Result<(), Rule> {
+        own_rules(self.k, table)?;
+        self.input_rules(table)?;
+        self.net_rules(table)
+    }
+
+    /// Each input is a net, or an earlier table that drives none.
+    fn input_rules(&mut self, table: &Table) -> Result<(), Rule> {
+        for &input in &table.inputs {
+            if (1..=NETS).contains(&i64::from(input)) {
+                self.read[usize::from(input)] = true;
+                continue;
+            }
+            let index = usize::from(input).checked_sub(CODES as usize + 1).ok_or(Rule::Input)?;
+            if *self.nets.get(index).ok_or(Rule::Input)? != 0 {
+                return Err(Rule::Undriven);
+            }
         }
+        Ok(())
+    }
+
+    /// No net is driven twice, and a driven net is read only by tables after its driver.
+    fn net_rules(&mut self, table: &Table) -> Result<(), Rule> {
         let net = usize::from(table.net);
         if net != 0 && self.driven[net] {
-            return Err(format!("net {net} is driven twice"));
+            return Err(Rule::DrivenOnce);
         }
         if net != 0 && self.read[net] {
-            return Err(format!("net {net} is read before it is driven"));
+            return Err(Rule::DrivenFirst);
         }
         self.driven[net] = true;
+        self.nets.push(table.net);
         Ok(())
     }
 }
 
-/// Reads a list strictly: each line has its own layout, and nothing follows the last.
-pub fn read_list(text: &[u8]) -> Result<Part, String> {
-    let (head, mut rest) = text::split_line(text).ok_or("no line 0")?;
-    let &[k, capacity, used] = &numbers(head, 6)?[..] else { return Err("line 0 has not three fields".into()) };
-    let mut tables = Vec::new();
-    for number in 1..=used {
-        let (line, after) = text::split_line(rest).ok_or(format!("no line {number}"))?;
-        rest = after;
-        tables.push(read_table(line, number).map_err(|fault| format!("line {number}: {fault}"))?);
+/// What a table must be by itself.
+fn own_rules(k: usize, table: &Table) -> Result<(), Rule> {
+    let u = table.inputs.len();
+    if i64::from(table.net) > NETS {
+        return Err(Rule::Net);
     }
-    if !rest.is_empty() {
-        return Err(format!("bytes after line {used}"));
+    if !(2..=k).contains(&u) {
+        return Err(Rule::InputCount);
     }
-    Ok(Part { k: k as usize, capacity: capacity as usize, tables })
-}
-
-/// Line t: t, net driven, u, the u inputs in fields of six, then the truth table in 21 columns.
-fn read_table(line: &[u8], number: u64) -> Result<Table, String> {
-    let columns = line.len().checked_sub(21).ok_or("too short")?;
-    let fields = numbers(&line[..columns], 6)?;
-    let truth = numbers(&line[columns..], 21)?[0];
-    let &[t, net, u, ref inputs @ ..] = &fields[..] else { return Err("too few fields".into()) };
-    if t != number {
-        return Err(format!("it says {t}"));
+    if table.inputs.windows(2).any(|pair| pair[0] >= pair[1]) {
+        return Err(Rule::Rising);
     }
-    if u != inputs.len() as u64 {
-        return Err(format!("{} inputs where u is {u}", inputs.len()));
+    if u < INPUTS && table.truth >> (1 << u) != 0 {
+        return Err(Rule::Truth);
     }
-    let code = |field: u64| u16::try_from(field).map_err(|_| format!("{field} is no code"));
-    let inputs = inputs.iter().map(|&input| code(input)).collect::<Result<Vec<u16>, String>>()?;
-    Ok(Table { net: code(net)?, inputs, truth })
-}
-
-/// The numbers, 0 or above, of fields of `width` columns.
-fn numbers(line: &[u8], width: usize) -> Result<Vec<u64>, String> {
-    if line.is_empty() || !line.len().is_multiple_of(width) {
-        return Err(format!("{} columns in fields of {width}", line.len()));
-    }
-    line.chunks(width).map(|columns| unsigned(columns).ok_or("not a number".into())).collect()
-}
-
-fn unsigned(columns: &[u8]) -> Option<u64> {
-    let text = std::str::from_utf8(columns).ok()?.trim_start_matches(' ');
-    let number = text.parse::<u64>().ok()?;
-    (number.to_string() == text).then_some(number)
+    Ok(())
 }

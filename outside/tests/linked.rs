@@ -7,17 +7,42 @@ use common::text;
 use outside::check::check_output;
 use outside::explain::reason;
 use outside::generate::case;
-use outside::linked::{map, refusal, LONGEST};
+use outside::linked::{check_list, map, read_list, refusal, Refused, LONGEST, NUMBERS};
+use outside::program::read;
 
-/// 01's example has one table for each sheet, so its list leaves nothing free.
-#[test]
-fn the_example() {
-    let input = text(&[&[4, 8], &[20, 3], &[2, 2, 1, 2], &[2, 2, 3, 4], &[1, 2, 10001, 10002], &[-21, 1], &[1, 2, 20, -5]]);
-    let list = "     4     8     2
+/// The list of 01's example, which has one table for each sheet, so that nothing is left free.
+const LIST: &str = "     4     8     2
      1    20     4     1     2     3     4                61152
      2    21     2     5    20                   11
 ";
-    assert_eq!(map(input.as_bytes(), &mut vec![0; LONGEST]), list.as_bytes());
+
+#[test]
+fn the_example() {
+    let input = text(&[&[4, 8], &[20, 3], &[2, 2, 1, 2], &[2, 2, 3, 4], &[1, 2, 10001, 10002], &[-21, 1], &[1, 2, 20, -5]]);
+    assert_eq!(map(input.as_bytes(), &mut vec![0; LONGEST]), LIST.as_bytes());
+}
+
+#[test]
+fn the_example_read_back() {
+    let numbers = [4, 8, 2, 20, 4, 1, 2, 3, 4, 0, 0, 61152, 21, 2, 5, 20, 0, 0, 0, 0, 11];
+    assert_eq!(read_list(LIST.as_bytes(), &mut [0; NUMBERS]), Ok(&numbers[..]));
+    assert_eq!(read_list(LIST.as_bytes(), &mut [0; 21]), Ok(&numbers[..]));
+    assert_eq!(read_list(LIST.as_bytes(), &mut [0; 20]), Err(Refused { number: 14, line: 0 }));
+    assert_eq!(check_list(LIST.as_bytes()), Ok(()));
+    assert_eq!(check_list(&LIST.as_bytes()[..100]), Err(Refused { number: 31, line: 2 }));
+}
+
+/// What the mapper prints is read back: the longest list, and those of generated inputs.
+#[test]
+fn lists_read_back() {
+    let mut output = vec![0; LONGEST];
+    let mut numbers = [0; NUMBERS];
+    let inputs = (0..1000).map(|index| case(2, index).input).chain([outside::samples::full_part().into_bytes()]);
+    for input in inputs.filter(|input| read(input).is_ok()) {
+        let list = map(&input, &mut output);
+        let part = outside::list::read(list).expect("a list");
+        assert_eq!(read_list(list, &mut numbers), Ok(&outside::list_check::numbers(&part)[..]));
+    }
 }
 
 #[test]
@@ -35,14 +60,14 @@ fn the_longest_list() {
     assert_eq!(check_output(input.as_bytes(), map(input.as_bytes(), &mut vec![0; LONGEST])), Ok(()));
 }
 
-/// Each of 01's numbers has a sentence, the one that `explain` prints; no other number has one.
+/// Each number of 01 and of 02's requests so far has a sentence, the one that `explain` prints; no other number has one.
 #[test]
 fn the_refusals() {
     for number in (0..=1000).chain([65536 + 1, u32::MAX]) {
         let mut output = [b'.'; 200];
         let sentence = String::from_utf8(refusal(number, &mut output).to_vec()).expect("plain words");
         assert_eq!(sentence, reason(number).unwrap_or(""));
-        assert_eq!(sentence.is_empty(), !matches!(number, 1..=15 | 20..=23), "{number}");
+        assert_eq!(sentence.is_empty(), !matches!(number, 1..=15 | 20..=23 | 31 | 32), "{number}");
         assert!(sentence.len() <= 128 && output[sentence.len()..].iter().all(|&byte| byte == b'.'));
     }
 }
