@@ -162,7 +162,7 @@ impl Draft {
         Case { name, text: self.text(), wanted: self.wanted() }
     }
 
-    /// The right answer for the text of these numbers. No number is wider than its field.
+    /// The right answer for the text of these numbers. A number is no wider than its field, but where its line is in a wrong place.
     fn wanted(&self) -> Answer<()> {
         let &[k, capacity, used] = &self.0[0][..] else { return Err((31, 0)) };
         if !(2..=6).contains(&k) {
