@@ -2,13 +2,12 @@
 use Prim.Native.Nat.{ℕ, _+_, _-_, _≤_, _<_}
 use native.Mathlib.Omega.{arith}
 use mathlib.Core.Path.{_≡_, refl, sym, subst}
-use mathlib.Core.Bool.{cond}
 use mathlib.Core.List.{List}
 use lib.Dec.{eqb}
-use lib.ListN.{length, length-replicate}
+use lib.ListN.{length}
 use Rattle.lists.specs.Trusted.Lists.{Every}
-use Rattle.lists.specs.Trusted.Tests.{elem, within}
-use Rattle.lists.specs.TestLaws.{reflects-le, reflects-eq, reflects-any, reflects-elem, reflects-within, by-reflects, by-either}
+use Rattle.lists.specs.Trusted.Tests.{elem}
+use Rattle.lists.specs.TestLaws.{reflects-le, reflects-eq, reflects-any, reflects-elem, by-either}
 use Rattle.lists.specs.Trusted.Tests.{Reflects}
 use Rattle.tree.specs.Trusted.Limits.{codeBase}
 use Rattle.lists.specs.Trusted.Checked.{Checked, passed, refused as unread}
@@ -17,17 +16,14 @@ use Rattle.plan.specs.Least.{least-unique}
 use Rattle.cover.specs.Trusted.Tables.{LookupTable}
 use Rattle.cover.specs.Trusted.CoverTables.{Circuit, Fresh}
 use Rattle.cover.specs.CoverTableLaws.{added-sized}
-use Rattle.table.specs.Trusted.Limits.{inputRoom, tableRoom, KRange, CapacityRange}
-use Rattle.table.specs.Trusted.Records.{blank}
-use Rattle.table.specs.Trusted.Rules.{Blank}
-use Rattle.table.specs.TestedLaws.{no-records}
-use Rattle.part.specs.Trusted.Parts.{blanks, tablesOf, Shaped}
+use Rattle.table.specs.Trusted.Limits.{inputRoom}
+use Rattle.part.specs.Trusted.Parts.{tablesOf, Shaped}
 use Rattle.part.specs.Trusted.Sound.{Sound}
 use Rattle.part.specs.Trusted.SoundTest.{sound}
 use Rattle.part.specs.SoundLaws.{sound-reflects}
 use Rattle.part.specs.Trusted.Reading.{readOf}
-use Rattle.part.specs.Trusted.Answers.{Answer, accepted, refused, Result, empty}
-use Rattle.part.specs.Trusted.Add.{opened, isDriven, isRead, Refused, Accepted, Take, Add}
+use Rattle.part.specs.Trusted.Answers.{Answer, accepted, refused}
+use Rattle.part.specs.Trusted.Add.{isDriven, isRead, Refused, Accepted, Take, Add}
 use Rattle.demands.specs.Trusted.Nets.{Driven, Read}
 use Rattle.demands.specs.ReadingLaws.{reads-right}
 use Rattle.demands.specs.ExtendLaws.{every-numbered, extended-shaped, extended-sound}

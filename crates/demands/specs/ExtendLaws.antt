@@ -4,10 +4,10 @@ use native.Mathlib.Omega.{arith}
 use mathlib.Core.Path.{_≡_, refl, sym, ap, ap₂, _∙_, subst}
 use mathlib.Core.Logic.{_⊎_, inl, inr, _≢_, ⊎-elim}
 use mathlib.Core.List.{List, [], _∷_, _++_, map, Memᴰ·append-right}
-use lib.ListN.{length, take, drop, replicate, length-append, length-map, length-drop, length-replicate}
+use lib.ListN.{length, drop, length-append, length-map, length-drop, length-replicate}
 use lib.Seq.{drop-append-seam, take-at, drop-at, drop-drop}
 use Rattle.lists.specs.Trusted.Lists.{_∈_, first, later, Every}
-use Rattle.lists.specs.ListLaws.{every-none, every-cons, every-head, every-tail, every-append, every-take, every-drop}
+use Rattle.lists.specs.ListLaws.{every-none, every-cons, every-head, every-tail, every-append, every-take, every-drop, every-replicate}
 use Rattle.tree.specs.Trusted.Limits.{codeBase}
 use Rattle.cover.specs.Trusted.Tables.{LookupTable, Placed, numbered}
 use Rattle.cover.specs.Eval.{numbered-is}

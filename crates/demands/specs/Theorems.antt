@@ -3,7 +3,7 @@
 -- before handed back, are a `Chain` (`called`). `Shaped` says of a part what its type does.
 use Prim.Native.Nat.{ℕ, _≤_}
 use native.Mathlib.Omega.{arith}
-use mathlib.Core.Path.{_≡_, ap, _∙_, subst}
+use mathlib.Core.Path.{_≡_, refl, ap, _∙_, subst}
 use mathlib.Core.List.{List, _∷_, map}
 use lib.ListN.{length}
 use Rattle.lists.specs.Trusted.Lists.{Every}
@@ -22,14 +22,18 @@ use Rattle.demands.specs.ConditionLaws.{opening-told, add-told, line-tol
 use Rattle.demands.specs.CountLaws.{call-kept, chain-kept, counted}
 use Rattle.demands.specs.ValueLaws.{sound-narrow, unsound-stays, opened-served}
 use Rattle.demands.specs.FreeLaws.{values-by-free-nets}
+use Rattle.listing.specs.Trusted.Listing.{listOf}
+use Rattle.list_reading.specs.Trusted.ReadList.{readResult}
 use Rattle.list_reading.specs.ListingLaws.{list-says-all, same-lines}
+use Rattle.list_reading.specs.ReadLaws.{list-exactly}
+use Rattle.list_reading.specs.ToldLaws.{reading-told}
 use Rattle.demands.specs.DeterminedLaws.{alike-refl, answers-determined}
 use Rattle.demands.specs.PossibleLaws.{chain-possible}
 
 -- ---- the demands
 
 pub demand-1 : Demand1
-demand-1 = record { opening = opening-told; adding = add-told; line = line-told; list = list-told }
+demand-1 = record { opening = opening-told; adding = add-told; line = line-told; list = list-told; reading = reading-told }
 
 pub demand-2 : (k capacity : ℕ) → (opened k capacity) .answer ≡ accepted → (cs : List Call) (rs : List Result) →
     Chain ((opened k capacity) .part) cs rs → Demand2 k capacity cs rs
@@ -42,6 +46,7 @@ demand-2 k capacity a cs rs h =
       free = values-by-free-nets last s;
       each = opened-served k capacity a cs rs h;
       sound = s;
+      back = ap readResult (list-exactly (listOf last) last (g .shaped) .1 (s, refl));
       list = λ q f i. list-says-all last q (g .shaped) f s i;
       lines = λ q f i. same-lines last q (g .shaped) f s i;
     }

@@ -1,11 +1,11 @@
 -- A number, several numbers and a line feed are taken off a text exactly as they are written.
-use Prim.Native.Nat.{ℕ, zero, suc, _^_, _≤_, _<_}
+use Prim.Native.Nat.{ℕ, zero, suc, _^_, _<_}
 use native.Mathlib.Omega.{arith}
-use mathlib.Core.Path.{_≡_, refl, sym, ap, ap₂, _∙_, subst}
+use mathlib.Core.Path.{_≡_, refl, sym, ap, _∙_, subst}
 use mathlib.Core.Bool.{Bool, true, false, cond}
 use mathlib.Core.Option.{Option, none, some, bind}
 use mathlib.Core.List.{List, [], _∷_, _++_, append-assoc}
-use borrow.Author.Tests.{le-leb, eq-eqb}
+use borrow.Author.Tests.{le-leb}
 use lib.Dec.{leb, eqb}
 use lib.ListN.{length, take, drop, length-append, take-append-drop}
 use lib.Seq.{take-at, drop-at, length-take-le}
@@ -15,7 +15,7 @@ use Rattle.lists.specs.TestLaws.{reflects-le, reflects-eq}
 use Rattle.decimal.specs.Trusted.Number.{columns, wordNumber}
 use Rattle.decimal.specs.Trusted.Columns.{fieldOf, fieldsOf}
 use Rattle.decimal.specs.ColumnLaws.{field-length}
-use Rattle.decimal.specs.NumberLaws.{Given, given-some}
+use Rattle.decimal.specs.NumberLaws.{Given}
 use Rattle.table.specs.ResultLaws.{says-true}
 use Rattle.decimal.specs.WordLaws.{word-field, word-bytes}
 use Rattle.list_layout.specs.Trusted.Layout.{takeNumber, takeNumbers, takeLineFeed}
@@ -58,8 +58,8 @@ module _ (width : ℕ) where
     pub word : q .0 < 2 ^ 64
     pub same : text ≡ fieldOf width (q .0) ++ q .1
 
-  pub number-text : (text : List ℕ) → Given (NumberText text) (takeNumber width text)
-  number-text text =
+  pub number-found : (text : List ℕ) → Given (NumberText text) (takeNumber width text)
+  number-found text =
       given-bind (NumberText text) (cond (leb width (length text)) (wordNumber (take width text)) none) (λ n. some (n, drop width text))
       (given-cond (λ n. NumberText text (n, drop width text)) (leb width (length text)) (wordNumber (take width text)) (λ room. found room (wordNumber (take width text)) (given-self (wordNumber (take width text)))))
       (λ n h. h)
@@ -99,7 +99,7 @@ pub record NumbersText (n : ℕ) (text : List ℕ) (q : List ℕ × List ℕ) : 
 pub numbers-text : (count : ℕ) (text : List ℕ) → Given (NumbersText count text) (takeNumbers count text)
 numbers-text zero text = record { count = refl; fits = every-none _; same = refl }
 numbers-text (suc count) text =
-    given-bind (NumbersText (suc count) text) _ _ (number-text columns text)
+    given-bind (NumbersText (suc count) text) _ _ (number-found columns text)
     (λ x h. given-bind (NumbersText (suc count) text) _ _ (numbers-text count (x .1))
     (λ xs g. record {
       count = ap suc (g .count);

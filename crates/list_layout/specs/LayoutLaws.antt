@@ -3,12 +3,12 @@
 use Prim.Native.Nat.{ℕ, zero, suc, _-_, _^_, _≤_, _<_}
 use native.Mathlib.Omega.{arith}
 use mathlib.Core.Path.{_≡_, refl, sym, ap, ap₂, _∙_, subst}
-use mathlib.Core.Bool.{true, cond}
-use mathlib.Core.Option.{Option, some, none, bind}
+use mathlib.Core.Bool.{cond}
+use mathlib.Core.Option.{some, none}
 use mathlib.Core.List.{List, [], _∷_, _++_, append-assoc, append-nil}
 use borrow.Author.Tests.{eq-eqb}
 use lib.Dec.{eqb}
-use lib.ListN.{length, take, drop, replicate, length-append, length-drop, length-replicate, take-append-drop}
+use lib.ListN.{length, drop, replicate, length-append, length-drop, length-replicate, take-append-drop}
 use lib.Seq.{length-take-le, take-append-seam, drop-append-seam}
 use Rattle.lists.specs.Trusted.Lists.{Every}
 use Rattle.lists.specs.ListLaws.{every-none, every-cons, every-head, every-tail}
@@ -26,7 +26,7 @@ use Rattle.table.specs.declared.Table.{Table}
 use Rattle.list_line.specs.Trusted.TableLine.{tableLine}
 use Rattle.list_layout.specs.Trusted.Layout.{takeNumber, takeNumbers, takeTop, takeTable}
 use Rattle.list_layout.specs.Trusted.LineSays.{FieldFits, LineSays}
-use Rattle.list_layout.specs.FieldLaws.{bind-some, given-bind, given-cond, number-taken, number-text, field-word, numbers-taken, NumbersText, numbers-text, line-feed-text}
+use Rattle.list_layout.specs.FieldLaws.{bind-some, given-bind, given-cond, number-taken, number-found, field-word, numbers-taken, NumbersText, numbers-text, line-feed-text}
 
 -- a number in a field
 field-taken : (n : ℕ) (rest : List ℕ) → FieldFits n → takeNumber columns (fieldOf columns n ++ rest) ≡ some (n, rest)
@@ -55,9 +55,9 @@ TopText text (k, capacity, used, more) = FieldFits k × FieldFits capacity × Fi
 
 top-given : (text : List ℕ) → Given (TopText text) (takeTop text)
 top-given text =
-    given-bind (TopText text) _ _ (number-text columns text) (λ k hk.
-    given-bind (TopText text) _ _ (number-text columns (k .1)) (λ c hc.
-    given-bind (TopText text) _ _ (number-text columns (c .1)) (λ u hu.
+    given-bind (TopText text) _ _ (number-found columns text) (λ k hk.
+    given-bind (TopText text) _ _ (number-found columns (k .1)) (λ c hc.
+    given-bind (TopText text) _ _ (number-found columns (c .1)) (λ u hu.
     given-bind (TopText text) _ _ (line-feed-text (u .1)) (λ more e.
     (hk .fits, hc .fits, hu .fits, three-found (fieldOf columns (k .0)) (fieldOf columns (c .0)) (fieldOf columns (u .0)) (hk .same) (hc .same) (hu .same) e)))))
 
@@ -143,13 +143,13 @@ module _ (t : ℕ) where
 
   table-given : (text : List ℕ) → Given (TableText text) (takeTable t text)
   table-given text =
-      given-bind (TableText text) _ _ (number-text columns text) (λ n hn.
-      given-bind (TableText text) _ _ (number-text columns (n .1)) (λ o ho.
-      given-bind (TableText text) _ _ (number-text columns (o .1)) (λ u hu.
+      given-bind (TableText text) _ _ (number-found columns text) (λ n hn.
+      given-bind (TableText text) _ _ (number-found columns (n .1)) (λ o ho.
+      given-bind (TableText text) _ _ (number-found columns (o .1)) (λ u hu.
       given-bind (TableText text) _ _ (given-cond (λ q. (n .0 ≡ t) × (2 ≤ u .0) × (u .0 ≤ inputRoom) × NumbersText (u .0) (u .1) q) (eqb (n .0) t) _ (λ en.
       given-cond (λ q. (n .0 ≡ t) × (2 ≤ u .0) × (u .0 ≤ inputRoom) × NumbersText (u .0) (u .1) q) (within 2 inputRoom (u .0)) _ (λ w.
       given-map (λ q h. let l = says-true (reflects-within 2 inputRoom (u .0)) w in (says-true (reflects-eq (n .0) t) en, l .0, l .1, h)) (takeNumbers (u .0) (u .1)) (numbers-text (u .0) (u .1))))) (λ i hi.
-      given-bind (TableText text) _ _ (number-text 21 (i .1)) (λ b hb.
+      given-bind (TableText text) _ _ (number-found 21 (i .1)) (λ b hb.
       given-bind (TableText text) _ _ (line-feed-text (b .1)) (λ rest e. (
         subst FieldFits (hi .0) (hn .fits),
         record-says (record { drives = o .0; inputs = i .0; truth = b .0 }) (rw (hi .3 .count) (hi .1)) (rw (hi .3 .count) (hi .2)) (every-cons (ho .fits) (hi .3 .fits)) (hb .word),

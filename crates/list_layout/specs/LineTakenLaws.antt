@@ -1,5 +1,5 @@
 -- The lines by the numbers of their fields, as a reader has them.
-use Prim.Native.Nat.{ℕ, zero, suc, _+_, _-_, _*_, _≤_, _<_}
+use Prim.Native.Nat.{ℕ, suc, _+_, _-_, _*_, _≤_, _<_}
 use native.Mathlib.Numerals.{add-one}
 use native.Mathlib.Omega.{arith}
 use mathlib.Core.Path.{_≡_, refl, sym, ap, ap₂, _∙_}
@@ -18,11 +18,10 @@ use Rattle.table.specs.Trusted.Records.{blank, recordOf}
 use Rattle.table.specs.ResultLaws.{says-true}
 use Rattle.table.specs.declared.Table.{Table}
 use Rattle.list_layout.specs.declared.FieldNumbers.{FieldNumbers}
-use Rattle.list_layout.specs.declared.TopRead.{TopRead}
 use Rattle.list_layout.specs.declared.TableRead.{TableRead}
-use Rattle.list_layout.specs.Trusted.Layout.{firstNumber, takeNumber, takeNumbers, takeLineFeed, takeTop, takeTable}
+use Rattle.list_layout.specs.Trusted.Layout.{firstNumber, takeNumber, takeNumbers, takeLineFeed, takeTable}
 use Rattle.list_layout.specs.FieldLaws.{bind-some}
-use Rattle.list_layout.specs.Taken.{narrow, narrowed, inputCount, notLaid, NumbersTaken, LineFeedTaken, TopTaken, TableTaken}
+use Rattle.list_layout.specs.Taken.{narrow, inputCount, notLaid, NumbersTaken, LineFeedTaken, TopTaken, TableTaken}
 use Rattle.list_layout.specs.TakenLaws.{bind-none, bind-cong, bind-assoc, number-there, number-missing}
 
 never : false ≡ true → ⊥
@@ -198,9 +197,9 @@ module _ (text : List ℕ) (at t : ℕ) (head : FieldNumbers) (h : NumbersTaken 
         pub feed-not : LineFeedTaken text (place + 21) false → TableTaken text at t notLaid
         feed-not l = not-taken text at t (line-is false l)
 
-        pub line-taken : length (inputs .numbers) ≡ inputRoom → LineFeedTaken text (place + 21) true → (r : TableRead) → r .laid ≡ true → r .end ≡ place + 21 + 1 →
+        pub table-there : length (inputs .numbers) ≡ inputRoom → LineFeedTaken text (place + 21) true → (r : TableRead) → r .laid ≡ true → r .end ≡ place + 21 + 1 →
             r .table ≡ record { net = narrow net; count = n; inputs = map narrow (inputs .numbers); truth = truth } → TableTaken text at t r
-        line-taken w l r a b c = record {
+        table-there w l r a b c = record {
           says = said;
           same = line-is true l ∙ sym (ap₂ (λ b n. cond b (some (said, drop n text)) none) a b);
           held = λ d. c ∙ ap₂ (λ m xs. record { net = narrow net; count = m; inputs = map narrow xs; truth = truth }) (sym count) (sym whole);

@@ -1,10 +1,10 @@
 -- A record keeps the rules where it does so as it is held, and is then held as it is: 65535 is no net, and names no table.
 use Prim.Native.Nat.{ℕ, _+_, _≤_}
 use native.Mathlib.Omega.{arith}
-use mathlib.Core.Path.{_≡_, refl, sym, ap, ap₂, _∙_, subst}
+use mathlib.Core.Path.{_≡_, refl, sym, ap₂, subst}
 use mathlib.Core.Logic.{⊎-elim}
 use mathlib.Core.Bool.{true}
-use mathlib.Core.List.{List, [], _∷_, _++_, map}
+use mathlib.Core.List.{List, [], _∷_, map}
 use lib.ListN.{length, take, drop, take-append-drop}
 use Rattle.lists.specs.Trusted.Lists.{Every}
 use Rattle.lists.specs.ListLaws.{every-none, every-cons, every-head, every-tail, every-append}
@@ -60,5 +60,5 @@ module _ (k : ℕ) (before : List Table) (room : length before ≤ tableRoom) wh
         (λ h. subst (Keeps k before) (held-kept h) h)
         (λ h. subst (Keeps k before) (sym (kept-held h)) h)
 
-    pub held-same : keeps k before r ≡ true → narrowed r ≡ r
-    held-same e = kept-held (says-true (keeps-reflects k before r) e)
+    pub kept-same : keeps k before r ≡ true → narrowed r ≡ r
+    kept-same e = kept-held (says-true (keeps-reflects k before r) e)

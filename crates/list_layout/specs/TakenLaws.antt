@@ -14,7 +14,7 @@ use Rattle.decimal.specs.Trusted.Number.{columns, wordNumber}
 use Rattle.decimal.specs.NumberLaws.{given-some}
 use Rattle.table.specs.Trusted.Limits.{inputRoom}
 use Rattle.list_layout.specs.Trusted.Layout.{firstNumber, takeNumber, takeNumbers}
-use Rattle.list_layout.specs.FieldLaws.{bind-some, NumberText, number-text}
+use Rattle.list_layout.specs.FieldLaws.{bind-some, NumberText, number-found}
 use Rattle.list_layout.specs.Trusted.LineSays.{FieldFits}
 use Rattle.list_layout.specs.Taken.{NumbersTaken}
 
@@ -88,7 +88,7 @@ module _ (width at : ℕ) (text : List ℕ) where
 
 -- a number in a field is below 10^6
 pub first-fits : (text : List ℕ) {n : ℕ} → firstNumber columns text ≡ some n → FieldFits n
-first-fits text {n} e = given-some (NumberText columns text) (number-text columns text) (bind-some _ _ e) .fits
+first-fits text {n} e = given-some (NumberText columns text) (number-found columns text) (bind-some _ _ e) .fits
 
 -- ---- the numbers of fields, in a loop
 
@@ -101,12 +101,12 @@ pub record NumbersSoFar (text : List ℕ) (at i : ℕ) (numbers : List ℕ) (pla
   pub ends : 0 < i → place ≤ length text
 
 module _ (text : List ℕ) (at : ℕ) where
-  pub so-far-none : NumbersSoFar text at 0 (replicate inputRoom 0) at
-  so-far-none = record { next = omega arith; taken = refl; zeros = refl; whole = refl; ends = λ h. absurd (omega arith) }
+  pub numbers-none : NumbersSoFar text at 0 (replicate inputRoom 0) at
+  numbers-none = record { next = omega arith; taken = refl; zeros = refl; whole = refl; ends = λ h. absurd (omega arith) }
 
   module _ {i : ℕ} {numbers : List ℕ} {place : ℕ} (h : NumbersSoFar text at i numbers place) where
-    pub so-far-more : {x : ℕ} → i < inputRoom → firstNumber columns (drop place text) ≡ some x → NumbersSoFar text at (i + 1) (set numbers i x) (place + columns)
-    so-far-more {x} l e = record {
+    pub numbers-more : {x : ℕ} → i < inputRoom → firstNumber columns (drop place text) ≡ some x → NumbersSoFar text at (i + 1) (set numbers i x) (place + columns)
+    numbers-more {x} l e = record {
       next = omega (arith, h .next);
       taken = ap (λ n. takeNumbers n (drop at text)) (add-one i) ∙ one-more i (drop at text) (h .taken) (number-there columns place text e)
           ∙ ap (λ xs. some (xs, drop (place + columns) text)) (sym (ap (λ n. take n (set numbers i x)) (add-one i) ∙ take-suc-set numbers i x (rw (h .whole) l)));
@@ -119,15 +119,15 @@ module _ (text : List ℕ) (at : ℕ) where
         rest zero p = absurd (omega arith)
         rest (suc n) p = let e : suc n - 1 ≡ n = omega arith in rw e
 
-    pub so-far-all : NumbersTaken text at i (record { laid = true; numbers = numbers })
-    so-far-all = record {
+    pub numbers-all : NumbersTaken text at i (record { laid = true; numbers = numbers })
+    numbers-all = record {
       same = h .taken ∙ ap (λ p. some (take i numbers, drop p text)) (h .next);
       padded = λ e. h .zeros;
       ends = λ e p. let l = h .ends p in omega (arith, l, h .next);
     }
 
-    pub so-far-missing : (n : ℕ) → i < n → firstNumber columns (drop place text) ≡ none → NumbersTaken text at n (record { laid = false; numbers = numbers })
-    so-far-missing n l e = record {
+    pub numbers-missing : (n : ℕ) → i < n → firstNumber columns (drop place text) ≡ none → NumbersTaken text at n (record { laid = false; numbers = numbers })
+    numbers-missing n l e = record {
       same = none-more i n (drop at text) (h .taken) (number-missing columns place text e) l;
       padded = λ f. absurd (never f);
       ends = λ f. absurd (never f);

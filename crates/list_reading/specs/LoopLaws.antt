@@ -2,7 +2,7 @@
 use Prim.Native.Nat.{ℕ, suc, _+_, _-_, _≤_, _<_}
 use native.Mathlib.Numerals.{add-one}
 use native.Mathlib.Omega.{arith}
-use mathlib.Core.Path.{_≡_, refl, sym, ap, ap₂, _∙_, subst}
+use mathlib.Core.Path.{_≡_, refl, sym, ap, _∙_}
 use mathlib.Core.Bool.{Bool, true, false, cond}
 use mathlib.Core.Option.{none, some}
 use mathlib.Core.List.{List, [], _∷_, _++_}
@@ -21,9 +21,8 @@ use Rattle.list_layout.specs.declared.TableRead.{TableRead}
 use Rattle.list_layout.specs.declared.TopRead.{TopRead}
 use Rattle.list_layout.specs.Trusted.Layout.{takeTable}
 use Rattle.list_layout.specs.Taken.{TopTaken, TableTaken}
-use Rattle.list_layout.specs.NarrowLaws.{keeps-held, held-same}
+use Rattle.list_layout.specs.NarrowLaws.{keeps-held, kept-same}
 use Rattle.part.specs.Trusted.Parts.{blanks}
-use Rattle.part.specs.Trusted.Answers.{empty}
 use Rattle.part.specs.declared.Part.{Part}
 use Rattle.list_reading.specs.Trusted.ReadList.{readTables, readList}
 use Rattle.list_reading.specs.StepLaws.{zeros-shaped, given-on, given-off, require-on, require-off, nil-reflects, finish}
@@ -43,8 +42,8 @@ pub record LinesSoFar (text : List ℕ) (k used : ℕ) (tables : List Table) (pr
   pub same : readTables k used [] (drop 19 text) ≡ readTables k (used - t) (take t tables) (drop at text)
 
 module _ (text : List ℕ) (k used : ℕ) where
-  pub lines-start : used ≤ tableRoom → 19 ≤ length text → LinesSoFar text k used blanks emptyPrefix 19 0
-  lines-start r l = record {
+  pub lines-none : used ≤ tableRoom → 19 ≤ length text → LinesSoFar text k used blanks emptyPrefix 19 0
+  lines-none r l = record {
     count = omega arith;
     room = r;
     whole = zeros-shaped .records;
@@ -98,7 +97,7 @@ module _ (text : List ℕ) (k used : ℕ) where
         pub line-good : keepsIn k prefix (r .table) ≡ true → LinesSoFar text k used (set tables t (r .table)) (prefixAfter prefix (r .table)) (r .end) (t + 1)
         unfolding _>>=_ require
         line-good f =
-            let same : r .table ≡ g .says = g .held e ∙ held-same k before (h .stands .room) (g .says) (sym kept ∙ f) in
+            let same : r .table ≡ g .says = g .held e ∙ kept-same k before (h .stands .room) (g .says) (sym kept ∙ f) in
             let next : take (t + 1) (set tables t (r .table)) ≡ before ++ r .table ∷ [] = ap (λ n. take n (set tables t (r .table))) (add-one t) ∙ take-suc-set tables t (r .table) (omega (arith, h .whole, h .room)) in
             record {
               count = omega arith;

@@ -1,6 +1,7 @@
 -- THE USER'S THREE DEMANDS, in the user's order and words, as statements about what the contracts say of the code: `Part::open` gives
 -- `opened`, `Part::add` keeps `Add` (part/specs/Trusted/Add), `write_line` and `write_list` give `lineWritten` and `listWritten`
--- (listing/specs/Lines). Definitions only: that they hold is `demand-1`, `demand-2` and `demand-3` in Theorems.
+-- (listing/specs/Lines), `read_list` gives `readList` (list_reading/specs/Trusted/ReadList). Definitions only: that they hold is `demand-1`,
+-- `demand-2` and `demand-3` in Theorems.
 use Prim.Native.Nat.{ℕ, _+_, _-_, _≤_, _<_}
 use mathlib.Core.Path.{_≡_}
 use mathlib.Core.Logic.{_↔_}
@@ -28,6 +29,8 @@ use Rattle.listing.specs.Trusted.Listing.{lineOf, listOf}
 use Rattle.part.specs.declared.Part.{Part}
 use Rattle.list_line.specs.Trusted.Writes.{WriteOutcome, pasted}
 use Rattle.listing.specs.Lines.{lineWritten, listWritten}
+use Rattle.list_reading.specs.Trusted.ReadList.{readList, readResult}
+use Rattle.list_reading.specs.Trusted.ListConditions.{ListTold}
 use Rattle.demands.specs.Trusted.Nets.{Driven, Read}
 use Rattle.demands.specs.Trusted.Calls.{Call, add, final, acceptedIn, Link}
 
@@ -80,12 +83,14 @@ pub record WriteTold (p : Part) (There : Type 0) (old : List ℕ) (at : ℕ) (ne
   pub stays : (number place : ℕ) → o .result ≡ unwritten number place → o .bytes ≡ old
   pub bytes : (count : ℕ) → o .result ≡ passed count → o .bytes ≡ pasted old at new
 
--- DEMAND 1, of every entry point that can turn something down, whatever it is handed; the list is always there
+-- DEMAND 1, of every entry point that can turn something down, whatever it is handed; the list of a part is always there
 pub record Demand1 : Type 0 where
   pub opening : (k capacity : ℕ) → OpeningTold k capacity (opened k capacity)
   pub adding : (p : Part) (text : List ℕ) (q : Part) (a : Answer) → Add p text q a → AddTold p text q a
   pub line : (p : Part) (old : List ℕ) (at line : ℕ) → WriteTold p (line ≤ p .used) old at (lineOf p line) (lineWritten p line old at)
   pub list : (p : Part) (old : List ℕ) (at : ℕ) → WriteTold p (Unit {0}) old at (listOf p) (listWritten p old at)
+  -- reading a list back (02, #101): the conditions are in list_reading/specs/Trusted/ListConditions
+  pub reading : (text : List ℕ) → ListTold text (readResult (readList text))
 
 -- ---- DEMAND 2. "On a part opened and passed on untouched: each table has at most K inputs, and at every setting of the free nets each
 -- ---- accepted sheet's output net has the value its gates give. The list's lines say exactly those tables."
@@ -120,9 +125,10 @@ pub record Demand2 (k capacity : ℕ) (cs : List Call) (rs : List Result) : Type
   -- "each accepted sheet's output net has the value its gates give"
   pub each : (ss : List Circuit) (o : Part) (c : Call) (r : Result) → Link ((opened k capacity) .part) cs rs ss o c r →
       CallServed (lastPart k capacity rs) o c r
-  -- "The list's lines say exactly those tables": the part is sound, so that demand 1 has its list written, and no other sound part has the
-  -- same list, or the same lines
+  -- "The list's lines say exactly those tables": the part is sound, so that demand 1 has its list written and read back as the same part, and
+  -- no other sound part has the same list, or the same lines
   pub sound : Sound (lastPart k capacity rs)
+  pub back : readResult (readList (listOf (lastPart k capacity rs))) ≡ record { part = lastPart k capacity rs; answer = accepted }
   pub list : (q : Part) → Shaped q → Sound q → listOf (lastPart k capacity rs) ≡ listOf q → lastPart k capacity rs ≡ q
   pub lines : (q : Part) → Shaped q → Sound q → ((t : ℕ) → t ≤ (lastPart k capacity rs) .used → lineOf (lastPart k capacity rs) t ≡ lineOf q t) →
       lastPart k capacity rs ≡ q

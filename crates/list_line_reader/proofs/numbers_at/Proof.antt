@@ -11,7 +11,7 @@ use Rattle.decimal.specs.Trusted.Number.{columns}
 use Rattle.decimal.specs.ReadingLaws.{parsed-some, parsed-none}
 use Rattle.list_layout.specs.Trusted.Layout.{firstNumber}
 use Rattle.list_layout.specs.Taken.{NumbersTaken}
-use Rattle.list_layout.specs.TakenLaws.{first-fits, first-ends, NumbersSoFar, so-far-none, so-far-more, so-far-all, so-far-missing}
+use Rattle.list_layout.specs.TakenLaws.{first-fits, first-ends, NumbersSoFar, numbers-none, numbers-more, numbers-all, numbers-missing}
 use Rattle.list_line_reader.proofs.numbers_at.Statement.{statement}
 use Rattle.list_line_reader.proofs.numbers_at.Tie as tie
 
@@ -22,7 +22,7 @@ abbrev μ-loop : tie.MeasureT-loop
 μ-loop text at n numbers₀ place₀ i₀ numbers place i = n - i
 
 loop-holds : tie.Need-loop-holds Inv-loop μ-loop
-loop-holds c = (omega arith, so-far-none (c .before .args .text .now) (c .before .args .at))
+loop-holds c = (omega arith, numbers-none (c .before .args .text .now) (c .before .args .at))
 
 number-at-requires : tie.Need-number-at-requires Inv-loop μ-loop
 number-at-requires c κs = search needs
@@ -37,7 +37,7 @@ returns : tie.Need-returns Inv-loop μ-loop
 returns c =
     let l = c .before .before .before .before in
     let a = l .before .before .args in
-    so-far-missing (a .text .now) (a .at) (l .loop .inv .1) (a .n) (omega arith)
+    numbers-missing (a .text .now) (a .at) (l .loop .inv .1) (a .n) (omega arith)
     (parsed-none (firstNumber columns (drop (l .loop .place) (a .text .now))) (sym (c .before .before .number-at .ensures) ∙ c .enum-told .given .1))
 
 -- the number that was read, in a turn
@@ -74,14 +74,14 @@ loop-again : tie.Need-loop-again Inv-loop μ-loop
 loop-again c =
     let l = c .before .before .before .before .before in
     let a = l .before .before .args in
-    (omega arith, so-far-more (a .text .now) (a .at) (l .loop .inv .1) (omega arith) (found (c .before)))
+    (omega arith, numbers-more (a .text .now) (a .at) (l .loop .inv .1) (omega arith) (found (c .before)))
 
 returns-2 : tie.Need-returns-2 Inv-loop μ-loop
 returns-2 c =
     let a = c .before .before .before .args in
     let l = c .before .loop in
     let all : l .i ≡ a .n = omega arith in
-    subst (λ m. NumbersTaken (a .text .now) (a .at) m (record { laid = true; numbers = l .numbers })) all (so-far-all (a .text .now) (a .at) (l .inv .1))
+    subst (λ m. NumbersTaken (a .text .now) (a .at) m (record { laid = true; numbers = l .numbers })) all (numbers-all (a .text .now) (a .at) (l .inv .1))
 
 pub numbers-at-spec : {M : Type 1} → statement M
 numbers-at-spec =

@@ -2,20 +2,18 @@
 -- after the other. Assumes nothing.
 use Prim.Native.Nat.{_+_, _*_, _≤_, _<_}
 use native.Mathlib.Omega.{arith}
-use mathlib.Core.Path.{_≡_, refl, sym, ap, ap₂, _∙_, subst}
-use mathlib.Core.Bool.{true, false}
+use mathlib.Core.Path.{_≡_, refl, sym, ap₂, _∙_, subst}
+use mathlib.Core.Bool.{true}
 use mathlib.Core.Option.{some}
-use mathlib.Core.List.{List}
 use borrow.Author.Needs.{needs}
 use borrow.Author.Tests.{not-true, not-false}
-use lib.ListN.{length, getD, drop}
+use lib.ListN.{length, drop}
 use Rattle.decimal.specs.Trusted.Number.{columns}
 use Rattle.decimal.specs.ReadingLaws.{parsed-some, parsed-none}
-use Rattle.list_layout.specs.declared.FieldNumbers.{FieldNumbers}
 use Rattle.list_layout.specs.Trusted.Layout.{firstNumber}
-use Rattle.list_layout.specs.Taken.{inputCount, NumbersTaken, LineFeedTaken, TableTaken}
+use Rattle.list_layout.specs.Taken.{LineFeedTaken, TableTaken}
 use Rattle.list_layout.specs.TakenLaws.{first-ends}
-use Rattle.list_layout.specs.LineTakenLaws.{head-not, HeadTaken, head-there, inputs-not, truth-not, feed-not, line-taken}
+use Rattle.list_layout.specs.LineTakenLaws.{head-not, HeadTaken, head-there, inputs-not, truth-not, feed-not, table-there}
 use Rattle.list_line_reader.proofs.read_table.Statement.{statement}
 use Rattle.list_line_reader.proofs.read_table.Tie as tie
 
@@ -187,7 +185,7 @@ returns-5 c =
     let p = a .at + 18 + columns * n in
     let truth = c .before .before .before .before .before .before .before .truth .given .0 .0 in
     let feed = not-false (l .line-feed-at .result) (c .before .before .before .before .if3 .left) in
-    line-taken (a .text .now) (a .at) (a .t) (f .result) (f .ensures) (head-taken h) (m .numbers-at2 .result) (m .numbers-at2 .ensures) (inputs-laid d) (truth-found (l .before .before))
+    table-there (a .text .now) (a .at) (a .t) (f .result) (f .ensures) (head-taken h) (m .numbers-at2 .result) (m .numbers-at2 .ensures) (inputs-laid d) (truth-found (l .before .before))
     (whole c) (subst (LineFeedTaken (a .text .now) (p + 21)) feed (l .line-feed-at .ensures)) _ refl refl
     (ap₂ (λ o i. record { net = o; count = n; inputs = i; truth = truth }) (c .narrow .ensures) (c .before .narrow-all .ensures))
 

@@ -8,7 +8,7 @@ use Rattle.part.specs.Trusted.Parts.{blanks}
 use Rattle.part.specs.Trusted.Answers.{accepted}
 use Rattle.list_reading.specs.Trusted.ReadList.{readResult}
 use Rattle.list_reading.specs.Trusted.ListAnswers.{listResult}
-use Rattle.list_reading.specs.LoopLaws.{LinesSoFar, lines-start, line-bad, rule-bad, line-good, rest-refused, rest-over, rest-all}
+use Rattle.list_reading.specs.LoopLaws.{LinesSoFar, lines-none, line-bad, rule-bad, line-good, rest-refused, rest-over, rest-all}
 use borrow.Author.Needs.{needs}
 use Rattle.list_reader.proofs.read_tables.Statement.{statement}
 use Rattle.list_reader.proofs.read_tables.Tie as tie
@@ -30,7 +30,7 @@ loop-holds c =
     let a = c .before .before .before .args in
     let h = c .before .before .before .pre in
     subst (λ p. (p .k ≡ a .k) × (p .capacity ≡ a .capacity) × LinesSoFar (a .text .now) (a .k) (a .used) (p .tables) (c .empty-prefix .result) 19 0) (sym (c .before .empty .ensures))
-    (refl, refl, subst (λ s. LinesSoFar (a .text .now) (a .k) (a .used) blanks s 19 0) (sym (c .empty-prefix .ensures)) (lines-start (a .text .now) (a .k) (a .used) (h .0) (h .1)))
+    (refl, refl, subst (λ s. LinesSoFar (a .text .now) (a .k) (a .used) blanks s 19 0) (sym (c .empty-prefix .ensures)) (lines-none (a .text .now) (a .k) (a .used) (h .0) (h .1)))
 
 add-read-table : tie.Need-add-read-table Inv-loop μ-loop
 add-read-table c = search needs
