@@ -71,7 +71,16 @@ pub fn write(number: u32, out: &mut [u8]) -> usize
         the part is not sound\n\
         the output net is already driven\n\
         a table already reads the output net\n\
-        the sheet needs more tables than the part has left\n",
+        the sheet needs more tables than the part has left\n\
+        \n\
+        \n\
+        \n\
+        \n\
+        \n\
+        \n\
+        \n\
+        a line of the list is missing, left over, or not laid out as the list has it\n\
+        a rule of a sound part is broken at this line of the list, or the used count is above the capacity\n",
         number,
         out,
     )
