@@ -1,0 +1,4 @@
+pub mod Trusted
+pub mod Answered
+pub mod NumbersLaws
+pub mod Examples
