@@ -1,7 +1,12 @@
-// The mapper for programs in other languages: `rt staticlib pailinstant` writes the archive.
+// The mapper, and the reader of its lists, for programs in other languages: `rt staticlib pailinstant` writes the archive.
 ghost use mathlib.Core.Path.{_≡_};
 ghost use Rattle.refusals.specs.Trusted.Sentences.{refusalText, frontWrite};
+ghost use Rattle.list_reading.specs.Trusted.ReadList.{readList};
+ghost use Rattle.list_numbers.specs.Trusted.Numbers.{listCode, numbersRead};
 ghost use Rattle.pailinstant.specs.Calls.{PrintedInto};
+use list_numbers::answer_code;
+use list_numbers::hand_over;
+use list_reader::read_list;
 use printing::Printed;
 use program::run;
 
@@ -24,4 +29,24 @@ pub extern "C" fn pailinstant_refusal(number: u32, output: &mut [u8]) -> usize
     ensures { λ r. ⌜ record { count = r; bytes = now (output .exit) } ≡ frontWrite (refusalText number) (now (output .entry)) ⌝ }
 {
     refusals::write(number, output)
+}
+
+// Tests a list: 0 where it is that of a sound part, byte for byte. Else the refusal's code, 65536 times its number, and the line.
+#[no_mangle]
+pub extern "C" fn pailinstant_check_list(text: &[u8]) -> u32
+    ensures { λ r. ⌜ r ≡ listCode (readList (now (text .entry))) ⌝ }
+{
+    let read = read_list(text);
+    let answer = read.answer;
+    answer_code(answer)
+}
+
+// Reads a list back: gives 0, with the part at the front of the buffer as K, the capacity, the used count, and nine numbers for each table,
+// the net, u, the six inputs and the truth table. Else gives the refusal's code and leaves the buffer as it is; 14 is for a buffer that is
+// too short. 7203 numbers are enough for each list.
+#[no_mangle]
+pub extern "C" fn pailinstant_read_list(text: &[u8], numbers: &mut [u64]) -> u32
+    ensures { λ r. ⌜ record { code = r; numbers = now (numbers .exit) } ≡ numbersRead (readList (now (text .entry))) (now (numbers .entry)) ⌝ }
+{
+    hand_over(read_list(text), numbers)
 }
