@@ -2,7 +2,7 @@
 use Prim.Native.Nat.{ℕ, suc, _+_, _-_, _≤_, _<_}
 use native.Mathlib.Numerals.{add-one}
 use native.Mathlib.Omega.{arith}
-use mathlib.Core.Path.{_≡_, refl, sym, ap, _∙_}
+use mathlib.Core.Path.{_≡_, refl, sym, ap, ap₂, _∙_}
 use mathlib.Core.Bool.{Bool, true, false, cond}
 use mathlib.Core.Option.{none, some}
 use mathlib.Core.List.{List, [], _∷_, _++_}
@@ -23,8 +23,12 @@ use Rattle.list_layout.specs.Trusted.Layout.{takeTable}
 use Rattle.list_layout.specs.Taken.{TopTaken, TableTaken}
 use Rattle.list_layout.specs.NarrowLaws.{keeps-held, kept-same}
 use Rattle.part.specs.Trusted.Parts.{blanks}
+use Rattle.part.specs.Trusted.Answers.{empty, refused as turnedAway}
 use Rattle.part.specs.declared.Part.{Part}
-use Rattle.list_reading.specs.Trusted.ReadList.{readTables, readList}
+use Rattle.list_reading.specs.declared.ListAnswer.{ListAnswer}
+use Rattle.list_reading.specs.declared.ListRead.{ListRead}
+use Rattle.list_reading.specs.Trusted.ListAnswers.{listAnswer, listResult}
+use Rattle.list_reading.specs.Trusted.ReadList.{readTables, readList, readResult}
 use Rattle.list_reading.specs.StepLaws.{zeros-shaped, given-on, given-off, require-on, require-off, nil-reflects, finish}
 
 -- all that comes after line 0
@@ -175,3 +179,10 @@ module _ (text : List ℕ) (r : TopRead) (h : TopTaken text r) where
         pub top-passed : leb (r .used) (r .capacity) ≡ true → readList text ≡ restRead (r .k) (r .capacity) (r .used) (drop 19 text)
         unfolding _>>=_ require
         top-passed u = top-good ∙ rw (f, g, u)
+
+-- ---- what is handed back
+
+-- a part of all zeros and the answer, of a reading that is refused so
+pub handed-refused : {r : ListRead} {z : Part} {a : ListAnswer} {number place : ℕ} {c : Checked Part} → r ≡ record { part = z; answer = a } → z ≡ empty 0 0 →
+    listAnswer a ≡ turnedAway number place → c ≡ refused number place → listResult r ≡ readResult c
+handed-refused {a = a} e z h c = ap listResult e ∙ ap₂ (λ p x. record { part = p; answer = x }) z h ∙ sym (ap readResult c)

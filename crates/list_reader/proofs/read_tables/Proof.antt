@@ -8,59 +8,56 @@ use Rattle.part.specs.Trusted.Parts.{blanks}
 use Rattle.part.specs.Trusted.Answers.{accepted}
 use Rattle.list_reading.specs.Trusted.ReadList.{readResult}
 use Rattle.list_reading.specs.Trusted.ListAnswers.{listResult}
-use Rattle.list_reading.specs.LoopLaws.{LinesSoFar, lines-none, line-bad, rule-bad, line-good, rest-refused, rest-over, rest-all}
+use Rattle.list_reading.specs.LoopLaws.{LinesSoFar, handed-refused, lines-none, line-bad, rule-bad, line-good, rest-refused, rest-over, rest-all}
 use borrow.Author.Needs.{needs}
 use Rattle.list_reader.proofs.read_tables.Statement.{statement}
 use Rattle.list_reader.proofs.read_tables.Tie as tie
 
 abbrev Inv-loop : tie.InvT-loop
-Inv-loop text k capacity used part₀ prefix₀ at₀ t₀ part prefix at t = (part .k ≡ k) × (part .capacity ≡ capacity) × LinesSoFar text k used (part .tables) prefix at t
+Inv-loop text k capacity used zeros part₀ prefix₀ at₀ t₀ part prefix at t = (part .k ≡ k) × (part .capacity ≡ capacity) × LinesSoFar text k used (part .tables) prefix at t
 
 abbrev μ-loop : tie.MeasureT-loop
-μ-loop text k capacity used part₀ prefix₀ at₀ t₀ part prefix at t = used - t
+μ-loop text k capacity used zeros part₀ prefix₀ at₀ t₀ part prefix at t = used - t
 
 empty-requires : tie.Need-empty-requires Inv-loop μ-loop
 empty-requires c κs = search needs
+
+empty-requires-2 : tie.Need-empty-requires-2 Inv-loop μ-loop
+empty-requires-2 c κs = search needs
 
 empty-prefix-requires : tie.Need-empty-prefix-requires Inv-loop μ-loop
 empty-prefix-requires c κs = search needs
 
 loop-holds : tie.Need-loop-holds Inv-loop μ-loop
 loop-holds c =
-    let a = c .before .before .before .args in
-    let h = c .before .before .before .pre in
-    subst (λ p. (p .k ≡ a .k) × (p .capacity ≡ a .capacity) × LinesSoFar (a .text .now) (a .k) (a .used) (p .tables) (c .empty-prefix .result) 19 0) (sym (c .before .empty .ensures))
+    let a = c .before .before .before .before .args in
+    let h = c .before .before .before .before .pre in
+    subst (λ p. (p .k ≡ a .k) × (p .capacity ≡ a .capacity) × LinesSoFar (a .text .now) (a .k) (a .used) (p .tables) (c .empty-prefix .result) 19 0) (sym (c .before .empty2 .ensures))
     (refl, refl, subst (λ s. LinesSoFar (a .text .now) (a .k) (a .used) blanks s 19 0) (sym (c .empty-prefix .ensures)) (lines-none (a .text .now) (a .k) (a .used) (h .0) (h .1)))
 
-add-read-table : tie.Need-add-read-table Inv-loop μ-loop
-add-read-table c = search needs
+add-line : tie.Need-add-line Inv-loop μ-loop
+add-line c = search needs
 
 read-table-requires : tie.Need-read-table-requires Inv-loop μ-loop
 read-table-requires c κs = search needs
 
-add-t14 : tie.Need-add-t14 Inv-loop μ-loop
-add-t14 c = search needs
-
-refused-requires : tie.Need-refused-requires Inv-loop μ-loop
-refused-requires c κs = search needs
+handed-requires : tie.Need-handed-requires Inv-loop μ-loop
+handed-requires c κs = search needs
 
 returns : tie.Need-returns Inv-loop μ-loop
 returns c =
     let m = c .before .before .before in
     let l = m .before .before in
-    let a = l .before .before .before .before .args in
-    ap listResult (c .refused .ensures)
-    ∙ sym (ap readResult (rest-refused (a .text .now) (a .k) (a .capacity) (a .used)
-    (line-bad (a .text .now) (a .k) (a .used) (l .loop .inv .2) (omega arith) (m .read-table .result) (m .read-table .ensures) (not-true (m .read-table .result .laid) (c .before .if1 .taken)))))
+    let a = l .before .before .before .before .before .args in
+    handed-refused (c .handed .ensures) (l .before .before .before .empty .ensures) refl
+    (rest-refused (a .text .now) (a .k) (a .capacity) (a .used)
+    (line-bad (a .text .now) (a .k) (a .used) (l .loop .inv .2) (omega arith) (m .read-table .result) (m .read-table .ensures) (not-true (m .read-table .result .laid) (c .before .if1 .taken))))
 
 keeps-requires : tie.Need-keeps-requires Inv-loop μ-loop
 keeps-requires c κs = search needs
 
-add-t17 : tie.Need-add-t17 Inv-loop μ-loop
-add-t17 c = search needs
-
-refused-requires-2 : tie.Need-refused-requires-2 Inv-loop μ-loop
-refused-requires-2 c κs = search needs
+handed-requires-2 : tie.Need-handed-requires-2 Inv-loop μ-loop
+handed-requires-2 c κs = search needs
 
 -- the line is laid out, where its record is tested
 laid : (q : tie.After-keeps Inv-loop μ-loop) → q .before .before .before .before .read-table .result .laid ≡ true
@@ -71,11 +68,11 @@ returns-2 c =
     let q = c .before .before in
     let m = q .before .before .before .before in
     let l = m .before .before in
-    let a = l .before .before .before .before .args in
-    ap listResult (c .refused2 .ensures)
-    ∙ sym (ap readResult (rest-refused (a .text .now) (a .k) (a .capacity) (a .used)
+    let a = l .before .before .before .before .before .args in
+    handed-refused (c .handed2 .ensures) (l .before .before .before .empty .ensures) refl
+    (rest-refused (a .text .now) (a .k) (a .capacity) (a .used)
     (rule-bad (a .text .now) (a .k) (a .used) (l .loop .inv .2) (omega arith) (m .read-table .result) (m .read-table .ensures) (laid q)
-    (sym (q .keeps .ensures) ∙ not-true (q .keeps .result) (c .before .if2 .taken)))))
+    (sym (q .keeps .ensures) ∙ not-true (q .keeps .result) (c .before .if2 .taken))))
 
 after-requires : tie.Need-after-requires Inv-loop μ-loop
 after-requires c κs = search needs
@@ -89,9 +86,6 @@ mul-r c = search needs
 element-set-from-r : tie.Need-element-set-from-r Inv-loop μ-loop
 element-set-from-r c = search needs
 
-add-t : tie.Need-add-t Inv-loop μ-loop
-add-t c = search needs
-
 loop-less : tie.Need-loop-less Inv-loop μ-loop
 loop-less c = omega arith
 
@@ -100,7 +94,7 @@ loop-again c =
     let q = c .before .before in
     let m = q .before .before .before .before in
     let l = m .before .before in
-    let a = l .before .before .before .before .args in (
+    let a = l .before .before .before .before .before .args in (
       l .loop .inv .0,
       l .loop .inv .1,
       subst (λ s. LinesSoFar (a .text .now) (a .k) (a .used) (set (l .loop .part .tables) (l .loop .t) (m .read-table .result .table)) s (m .read-table .result .end) (l .loop .t + 1)) (sym (c .after .ensures))
@@ -108,18 +102,18 @@ loop-again c =
           (sym (q .keeps .ensures) ∙ not-false (q .keeps .result) (c .before .if2 .left))),
     )
 
-add-t25 : tie.Need-add-t25 Inv-loop μ-loop
-add-t25 c = search needs
+add-t24 : tie.Need-add-t24 Inv-loop μ-loop
+add-t24 c = search needs
 
-refused-requires-3 : tie.Need-refused-requires-3 Inv-loop μ-loop
-refused-requires-3 c κs = search needs
+handed-requires-3 : tie.Need-handed-requires-3 Inv-loop μ-loop
+handed-requires-3 c κs = search needs
 
 -- after the last line
-all-passed : (c : tie.After-loop Inv-loop μ-loop) → let l = c .before in let a = l .before .before .before .before .args in
+all-passed : (c : tie.After-loop Inv-loop μ-loop) → let l = c .before in let a = l .before .before .before .before .before .args in
     LinesSoFar (a .text .now) (a .k) (a .used) (l .loop .part .tables) (l .loop .prefix) (l .loop .at) (a .used)
 all-passed c =
     let l = c .before in
-    let a = l .before .before .before .before .args in
+    let a = l .before .before .before .before .before .args in
     let n = l .loop .inv .2 .count in
     let e : l .loop .t ≡ a .used = omega (arith, n) in
     subst (LinesSoFar (a .text .now) (a .k) (a .used) (l .loop .part .tables) (l .loop .prefix) (l .loop .at)) e (l .loop .inv .2)
@@ -127,17 +121,47 @@ all-passed c =
 returns-3 : tie.Need-returns-3 Inv-loop μ-loop
 returns-3 c =
     let l = c .before .before .before in
-    let a = l .before .before .before .before .args in
-    ap listResult (c .refused3 .ensures)
-    ∙ sym (ap readResult (rest-over (a .text .now) (a .k) (a .capacity) (a .used) (all-passed (c .before .before)) (c .before .if3 .taken)))
+    let a = l .before .before .before .before .before .args in
+    handed-refused (c .handed3 .ensures) (l .before .before .before .empty .ensures) refl
+    (rest-over (a .text .now) (a .k) (a .capacity) (a .used) (all-passed (c .before .before)) (c .before .if3 .taken))
+
+handed-requires-4 : tie.Need-handed-requires-4 Inv-loop μ-loop
+handed-requires-4 c κs = search needs
 
 returns-4 : tie.Need-returns-4 Inv-loop μ-loop
 returns-4 c =
-    let l = c .before .before in
-    let a = l .before .before .before .before .args in
+    let l = c .before .before .before in
+    let a = l .before .before .before .before .before .args in
     let i = l .loop .inv in
-    ap₂ (λ m n. record { part = record { k = m; capacity = n; used = a .used; tables = l .loop .part .tables }; answer = accepted }) (i .0) (i .1)
-    ∙ sym (ap readResult (rest-all (a .text .now) (a .k) (a .capacity) (a .used) (all-passed (c .before)) (omega arith)))
+    ap listResult (c .handed4 .ensures)
+    ∙ ap₂ (λ m n. record { part = record { k = m; capacity = n; used = a .used; tables = l .loop .part .tables }; answer = accepted }) (i .0) (i .1)
+    ∙ sym (ap readResult (rest-all (a .text .now) (a .k) (a .capacity) (a .used) (all-passed (c .before .before)) (omega arith)))
 
 pub read-tables-spec : {M : Type 1} → statement M
-read-tables-spec = tie.close (tie.spec Inv-loop μ-loop empty-requires empty-prefix-requires loop-holds add-read-table read-table-requires add-t14 refused-requires returns keeps-requires add-t17 refused-requires-2 returns-2 after-requires cast-r mul-r element-set-from-r add-t loop-less loop-again add-t25 refused-requires-3 returns-3 returns-4)
+read-tables-spec =
+    tie.close
+    (tie.spec
+    Inv-loop
+    μ-loop
+    empty-requires
+    empty-requires-2
+    empty-prefix-requires
+    loop-holds
+    add-line
+    read-table-requires
+    handed-requires
+    returns
+    keeps-requires
+    handed-requires-2
+    returns-2
+    after-requires
+    cast-r
+    mul-r
+    element-set-from-r
+    loop-less
+    loop-again
+    add-t24
+    handed-requires-3
+    returns-3
+    handed-requires-4
+    returns-4)
