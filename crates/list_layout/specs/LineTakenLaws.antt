@@ -22,10 +22,7 @@ use Rattle.list_layout.specs.declared.TableRead.{TableRead}
 use Rattle.list_layout.specs.Trusted.Layout.{firstNumber, takeNumber, takeNumbers, takeLineFeed, takeTable}
 use Rattle.list_layout.specs.FieldLaws.{bind-some}
 use Rattle.list_layout.specs.Taken.{narrow, inputCount, notLaid, NumbersTaken, LineFeedTaken, TopTaken, TableTaken}
-use Rattle.list_layout.specs.TakenLaws.{bind-none, bind-cong, bind-assoc, number-there, number-missing}
-
-never : false ≡ true → ⊥
-never f = let z : _≡_ {A = ℕ} 0 1 = cc in omega (arith, z)
+use Rattle.list_layout.specs.TakenLaws.{not-both, bind-none, bind-cong, bind-assoc, number-there, number-missing}
 
 -- ---- the first three numbers
 
@@ -62,7 +59,7 @@ pub line-feed-there : (text : List ℕ) (at : ℕ) → at < length text → Line
 line-feed-there text at h = record { same = line-feed-here text at h; ends = λ e. h }
 
 pub line-feed-short : (text : List ℕ) (at : ℕ) → length text ≤ at → LineFeedTaken text at false
-line-feed-short text at h = record { same = ap takeLineFeed (drop-of-length-le text {i = at} h); ends = λ e. absurd (never e) }
+line-feed-short text at h = record { same = ap takeLineFeed (drop-of-length-le text {i = at} h); ends = λ e. absurd (not-both e) }
 
 -- ---- line 0
 
@@ -76,7 +73,7 @@ module _ (text : List ℕ) (f : FieldNumbers) (h : NumbersTaken text 0 3 f) wher
   pub top-not : f .laid ≡ false → TopTaken text (record { laid = false; k = getD numbers 0 0; capacity = getD numbers 1 0; used = getD numbers 2 0 })
   top-not e = record {
     same = three-first text topRest ∙ bind-none _ _ (h .same ∙ ap (λ b. cond b (some (take 3 numbers, drop 18 text)) none) e);
-    ends = λ e. absurd (never e);
+    ends = λ e. absurd (not-both e);
   }
 
   pub top-is : f .laid ≡ true → (b : Bool) → LineFeedTaken text 18 b →
@@ -101,7 +98,7 @@ abbrev tableRest : ℕ → ℕ → ℕ → ℕ → List ℕ → Option (Table ×
 tableRest t number net u text = bind (cond (eqb number t) (cond (within 2 inputRoom u) (takeNumbers u text) none) none) (afterInputs net)
 
 not-taken : (text : List ℕ) (at t : ℕ) → takeTable t (drop at text) ≡ none → TableTaken text at t notLaid
-not-taken text at t e = record { says = blank; same = e; held = λ f. absurd (never f); ends = λ f. absurd (never f) }
+not-taken text at t e = record { says = blank; same = e; held = λ f. absurd (not-both f); ends = λ f. absurd (not-both f) }
 
 rest-test : (t number net u : ℕ) (text : List ℕ) (b c : Bool) → eqb number t ≡ b → within 2 inputRoom u ≡ c →
     tableRest t number net u text ≡ cond (b && c) (bind (takeNumbers u text) (afterInputs net)) none
@@ -157,8 +154,8 @@ module _ (text : List ℕ) (at t : ℕ) (head : FieldNumbers) (h : NumbersTaken 
     where
       parts : (a b c : Bool) → a && (b && c) ≡ true → (a ≡ true) × (c ≡ true)
       parts true true c e = (refl, e)
-      parts true false c e = absurd (never e)
-      parts false b c e = absurd (never e)
+      parts true false c e = absurd (not-both e)
+      parts false b c e = absurd (not-both e)
 
       by-test : (b : Bool) → head .laid && (eqb first t && within 2 inputRoom three) ≡ b → HeadTaken (inputCount head t)
       by-test false e = absurd (d (ap (λ b. cond b three 0) e))

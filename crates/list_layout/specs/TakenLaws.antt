@@ -18,6 +18,9 @@ use Rattle.list_layout.specs.FieldLaws.{bind-some, NumberText, number-fo
 use Rattle.list_layout.specs.Trusted.LineSays.{FieldFits}
 use Rattle.list_layout.specs.Taken.{NumbersTaken}
 
+pub not-both : false ≡ true → ⊥
+not-both f = let z : _≡_ {A = ℕ} 0 1 = cc in omega (arith, z)
+
 module _ {A B : Type 0} where
   pub bind-cong : (o : Option A) {f g : A → Option B} → ((a : A) → f a ≡ g a) → bind o f ≡ bind o g
   unfolding bind
@@ -129,9 +132,6 @@ module _ (text : List ℕ) (at : ℕ) where
     pub numbers-missing : (n : ℕ) → i < n → firstNumber columns (drop place text) ≡ none → NumbersTaken text at n (record { laid = false; numbers = numbers })
     numbers-missing n l e = record {
       same = none-more i n (drop at text) (h .taken) (number-missing columns place text e) l;
-      padded = λ f. absurd (never f);
-      ends = λ f. absurd (never f);
+      padded = λ f. absurd (not-both f);
+      ends = λ f. absurd (not-both f);
     }
-      where
-        never : false ≡ true → ⊥
-        never f = let z : _≡_ {A = ℕ} 0 1 = cc in omega (arith, z)

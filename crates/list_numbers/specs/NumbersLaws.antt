@@ -82,11 +82,27 @@ pub result-code : (c : Checked Part) → answerCode ((readResult c) .answer) ≡
 result-code (passed p) = refl
 result-code (refused number line) = refl
 
-used-at-most : (c : Checked Part) → ((p : Part) → c ≡ passed p → p .used ≤ 800) → (readResult c) .part .used ≤ 800
-used-at-most (passed p) h = h p refl
+-- a part that is read has its shape and at most 800 tables in use
+read-room : (text : List ℕ) (p : Part) → readList text ≡ passed p → Shaped p × (p .used ≤ 800)
+read-room text p e =
+    let f = read-shaped text e in
+    let s = list-exactly text p f .0 e .0 in
+    (f, omega (arith, s .used-fits, s .capacity-range .1))
+
+used-at-most : (c : Checked Part) → ((p : Part) → c ≡ passed p → Shaped p × (p .used ≤ 800)) → (readResult c) .part .used ≤ 800
+used-at-most (passed p) h = h p refl .1
 used-at-most (refused number line) h = omega arith
 
--- it has at most 800 tables in use
 pub read-used : (text : List ℕ) → (readResult (readList text)) .part .used ≤ 800
-read-used text =
-    used-at-most (readList text) (λ p e. let s = list-exactly text p (read-shaped text e) .0 e .0 in omega (arith, s .used-fits, s .capacity-range .1))
+read-used text = used-at-most (readList text) (read-room text)
+
+room-told : (c : Checked Part) → ((p : Part) → c ≡ passed p → Shaped p × (p .used ≤ 800)) → (old : List ℕ) → 7203 ≤ length old → (numbersRead c old) .code ≡ listCode c
+room-told (passed p) h old l =
+    let s = h p refl in
+    let fits : length (partNumbers p) ≤ length old = omega (arith, part-numbers p (s .0) (s .1), s .1) in
+    rw (le-leb (length (partNumbers p)) (length old) fits)
+room-told (refused number line) h old l = refl
+
+-- 7203 NUMBERS ARE ALWAYS ENOUGH: there is no 14
+pub always-room : (text old : List ℕ) → 7203 ≤ length old → (numbersRead (readList text) old) .code ≡ listCode (readList text)
+always-room text = room-told (readList text) (read-room text)

@@ -50,7 +50,6 @@ module _ (p : Part) (shape : Shaped p) (h : Sound p) where
     k-range = h .k-range;
     capacity-range = h .capacity-range;
     used-fits = h .used-fits;
-    count = omega (arith, used-count p shape h);
     says = part-says;
     rules = h .rules;
   }

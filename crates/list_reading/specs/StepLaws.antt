@@ -186,7 +186,6 @@ module _ (text : List ℕ) (k : ℕ) where
       k-range = g .k-range;
       capacity-range = g .capacity-range;
       used-fits = g .used-fits;
-      count = rw length-append (omega arith);
       says = every-append rs (r ∷ []) (g .says) (every-cons s (every-none _));
       rules = rules-snoc k rs r (g .rules) h;
     }
@@ -222,7 +221,6 @@ good-top text {k} {capacity} t hk hc hu = record {
   k-range = hk;
   capacity-range = hc;
   used-fits = hu;
-  count = omega arith;
   says = every-none _;
   rules = no-records k capacity .rules;
 }
@@ -277,7 +275,7 @@ good-read text {k} {used} rs rest g n e =
     ∙ require-on 3 0 _ (reflects-within 1 tableRoom (g .capacity)) (g .capacity-range)
     ∙ require-on 32 0 _ (reflects-le used (g .capacity)) (g .used-fits)
     ∙ ap (λ c. c >>= finish k (g .capacity) used)
-    (tables-read k [] rs used n rest e (omega (arith, g .count, g .used-fits, g .capacity-range)) (g .says) (g .rules))
+    (tables-read k [] rs used n rest e (omega (arith, e, g .used-fits, g .capacity-range)) (g .says) (g .rules))
 
 -- UNDER THE CONDITION OF A REFUSAL there is that refusal
 pub condition-read : (text : List ℕ) {number place : ℕ} → ListCondition text number place → readList text ≡ refused number place

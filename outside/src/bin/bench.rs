@@ -3,35 +3,51 @@
 //!     bench [ROUNDS]
 //!     bench once INPUT none | own | proved
 //!
-//! Each figure is the least time of the rounds for one whole input, in microseconds; the ratio is the proved mapper's time over the
-//! independent one's. The two are measured by turns, so that both meet the same load. `once` maps one input (a row, from 1) one time,
-//! for a count of instructions, and with `none` does all but that.
+//! Each figure is the least time of the rounds for one whole input that is mapped, or one list that is read back, in microseconds; the
+//! ratio is the proved code's time over the independent one's. The two are measured by turns, so that both meet the same load. `once`
+//! takes one input (a row, from 1) one time, for a count of instructions, and with `none` does all but that.
 
 use std::hint::black_box;
 use std::process::ExitCode;
 use std::time::Instant;
 
-use outside::program;
 use outside::samples::{chain, full_part, input};
 use outside::tool::finish;
+use outside::{list, program};
 
-/// A named input.
+/// What is done with a text.
+#[derive(Clone, Copy)]
+enum Task {
+    Map,
+    Read,
+}
+
+/// A named text.
 struct Sample {
     name: String,
     text: String,
+    task: Task,
 }
 
 fn one(name: &str, k: usize, gates: usize, fanins: usize) -> Sample {
-    Sample { name: format!("{name}, K {k}"), text: input(k, 800, &[chain(9999, 1, gates, fanins)]) }
+    Sample { name: format!("{name}, K {k}"), text: input(k, 800, &[chain(9999, 1, gates, fanins)]), task: Task::Map }
+}
+
+/// The list of a full part, cut to its first tables.
+fn listed(tables: usize) -> Sample {
+    let mut part = list::read(program::print(full_part().as_bytes()).as_bytes()).expect("the list of a full part");
+    part.tables.truncate(tables);
+    Sample { name: format!("list of {tables} tables, read"), text: part.list(), task: Task::Read }
 }
 
 fn samples() -> Vec<Sample> {
     let mut samples = vec![one("chain of 255 gates", 2, 255, 2), one("chain of 255 gates", 6, 255, 2)];
     samples.push(one("28 gates of ten fanins", 6, 28, 10));
-    samples.push(Sample { name: "full part of 800 tables, K 6".into(), text: full_part() });
+    samples.push(Sample { name: "full part of 800 tables, K 6".into(), text: full_part(), task: Task::Map });
     samples.extend([32, 64, 128].map(|gates| one(&format!("chain of {gates} gates"), 6, gates, 2)));
     samples.extend([7, 14].map(|gates| one(&format!("{gates} gates of ten fanins"), 6, gates, 10)));
     samples.extend((2..=10).map(|fanins| one(&format!("one gate of {fanins} fanins"), 4, 1, fanins)));
+    samples.extend([800, 400, 200, 1].map(listed));
     samples
 }
 
@@ -44,58 +60,79 @@ fn time(calls: u32, mut call: impl FnMut()) -> f64 {
     start.elapsed().as_secs_f64() * 1e6 / f64::from(calls)
 }
 
-fn own(text: &str) {
-    black_box(program::print(black_box(text.as_bytes())));
+fn own(sample: &Sample) {
+    let text = black_box(sample.text.as_bytes());
+    match sample.task {
+        Task::Map => drop(black_box(program::print(text))),
+        Task::Read => drop(black_box(list::read(text))),
+    }
+}
+
+/// The proved code with the room that it writes to.
+#[cfg(feature = "linked")]
+struct Proved {
+    output: Vec<u8>,
+    numbers: Vec<u64>,
 }
 
 #[cfg(feature = "linked")]
-fn proved(text: &str, output: &mut [u8]) {
-    black_box(outside::linked::map(black_box(text.as_bytes()), output));
+impl Proved {
+    fn new() -> Proved {
+        Proved { output: vec![0; outside::linked::LONGEST], numbers: vec![0; outside::linked::NUMBERS] }
+    }
+
+    fn run(&mut self, sample: &Sample) {
+        let text = black_box(sample.text.as_bytes());
+        match sample.task {
+            Task::Map => drop(black_box(outside::linked::map(text, &mut self.output))),
+            Task::Read => drop(black_box(outside::linked::read_list(text, &mut self.numbers))),
+        }
+    }
 }
 
-fn calls(text: &str) -> u32 {
-    let once = time(1, || own(text)).max(1.0);
+fn calls(sample: &Sample) -> u32 {
+    let once = time(1, || own(sample)).max(1.0);
     (1000.0 / once).ceil() as u32
 }
 
 #[cfg(feature = "linked")]
 fn measure(rounds: usize, sample: &Sample) {
-    let mut output = vec![0; outside::linked::LONGEST];
-    let calls = calls(&sample.text);
+    let mut proved = Proved::new();
+    let calls = calls(sample);
     let (mut ours, mut theirs) = (f64::MAX, f64::MAX);
     for _ in 0..rounds {
-        ours = ours.min(time(calls, || own(&sample.text)));
-        theirs = theirs.min(time(calls, || proved(&sample.text, &mut output)));
+        ours = ours.min(time(calls, || own(sample)));
+        theirs = theirs.min(time(calls, || proved.run(sample)));
     }
     println!("{:<34}{ours:>14.1}{theirs:>14.1}{:>10.2}", sample.name, theirs / ours);
 }
 
 #[cfg(not(feature = "linked"))]
 fn measure(rounds: usize, sample: &Sample) {
-    let calls = calls(&sample.text);
-    let ours = (0..rounds).map(|_| time(calls, || own(&sample.text))).fold(f64::MAX, f64::min);
+    let calls = calls(sample);
+    let ours = (0..rounds).map(|_| time(calls, || own(sample))).fold(f64::MAX, f64::min);
     println!("{:<34}{ours:>14.1}", sample.name);
 }
 
-/// Maps one input one time.
-fn once(row: &str, mapper: &str) -> Result<(), String> {
+/// Takes one input one time.
+fn once(row: &str, by: &str) -> Result<(), String> {
     let row = row.parse::<usize>().ok().and_then(|row| row.checked_sub(1));
     let samples = samples();
     let sample = row.and_then(|row| samples.get(row)).ok_or("no such input")?;
-    match mapper {
+    match by {
         "none" => (),
-        "own" => own(&sample.text),
+        "own" => own(sample),
         #[cfg(feature = "linked")]
-        "proved" => proved(&sample.text, &mut vec![0; outside::linked::LONGEST]),
-        _ => return Err(format!("no mapper {mapper:?}")),
+        "proved" => Proved::new().run(sample),
+        _ => return Err(format!("{by:?} is neither none nor own nor proved")),
     }
     Ok(())
 }
 
 fn run() -> Result<(), String> {
     let arguments: Vec<String> = std::env::args().skip(1).collect();
-    if let [_, row, mapper] = &arguments[..] {
-        return once(row, mapper);
+    if let [_, row, by] = &arguments[..] {
+        return once(row, by);
     }
     let rounds = arguments.first().map_or(Ok(50), |rounds| rounds.parse().map_err(|_| format!("{rounds:?} is no number")))?;
     println!("{:<34}{:>14}{:>14}{:>10}", "input", "independent", "proved", "ratio");

@@ -7,7 +7,6 @@ use Rattle.lists.specs.Trusted.Tests.{within}
 use Rattle.lists.specs.TestLaws.{reflects-within}
 use Rattle.table.specs.ResultLaws.{says-true}
 use Rattle.list_reading.specs.Trusted.ReadList.{readResult}
-use Rattle.list_reading.specs.Trusted.ListAnswers.{listResult}
 use Rattle.list_reading.specs.LoopLaws.{handed-refused, top-bad, k-bad, capacity-bad, used-bad, top-passed}
 use borrow.Author.Needs.{needs}
 use Rattle.list_reader.proofs.read_list.Statement.{statement}

@@ -35,7 +35,6 @@ pub record GoodLines (text : List ℕ) (k used : ℕ) (rs : List Table) (rest : 
   pub k-range : KRange k
   pub capacity-range : CapacityRange capacity
   pub used-fits : used ≤ capacity
-  pub count : length rs ≤ used
   pub says : Every LineSays rs
   pub rules : Rules k rs
 
