@@ -28,7 +28,7 @@ given-some P h e = subst (Given P) e h
 -- ---- digits
 
 -- one digit more is a factor of ten more
-digit-fits : (n d k : ℕ) → n < 10 ^ k → d ≤ 9 → 10 * n + d < 10 ^ suc k
+pub digit-fits : (n d k : ℕ) → n < 10 ^ k → d ≤ 9 → 10 * n + d < 10 ^ suc k
 digit-fits n d k h l = rw pow-suc (omega arith)
 
 digits-given : (bs : List ℕ) (n k : ℕ) → n < 10 ^ k → Given (λ m. m < 10 ^ (k + length bs)) (digits n bs)

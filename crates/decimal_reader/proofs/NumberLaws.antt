@@ -1,9 +1,9 @@
 -- Reading a number byte by byte: what one byte at an index makes of it.
-use Prim.Native.Nat.{ℕ, suc, _+_, _*_, _-_, _≤_, _<_}
+use Prim.Native.Nat.{ℕ, suc, _+_, _*_, _-_, _^_, _≤_, _<_}
 use native.Mathlib.Nat.{pow-le-pow-right}
 use native.Mathlib.Numerals.{add-one}
 use native.Mathlib.Omega.{arith}
-use mathlib.Core.Path.{_≡_, sym, ap, _∙_}
+use mathlib.Core.Path.{_≡_}
 use mathlib.Core.Option.{none, some}
 use mathlib.Core.List.{List}
 use lib.IntN.{pos}
@@ -15,10 +15,7 @@ use borrow.Author.Tests.{eq-eqb, ne-eqb, le-leb, lt-leb}
 use Rattle.decimal.specs.Trusted.Number.{digits, natural, unsigned, negated, signed, number, fieldNumber, inWord}
 use Rattle.decimal.specs.NumberLaws.{natural-digits, natural-below}
 use Rattle.decimal.specs.WordLaws.{whole-word}
-use Rattle.decimal.specs.Trusted.Reading.{parsed}
-use Rattle.decimal.specs.ReadingLaws.{parsed-some, parsed-none}
 use Rattle.decimal.specs.Inside.{Skipped}
-use Rattle.decimal.specs.declared.Parsed.the-variants.{Natural, Nothing}
 
 -- ---- blanks
 
@@ -80,20 +77,17 @@ field-signed bs i e h = rw (eq-eqb (length bs) 6 e) (h .same)
 pub field-other : (bs : List ℕ) → (length bs ≡ 6 → ⊥) → fieldNumber bs ≡ none
 field-other bs n = rw (ne-eqb (length bs) 6 n)
 
--- what six columns hold is below 2^64, and fits 32 bits
-six-below : (bs : List ℕ) (i n : ℕ) → length bs ≤ 6 → natural (drop i bs) ≡ some n → n < 1000000
-six-below bs i n e h =
-    let l : length (drop i bs) ≤ 6 = simp length-drop (omega arith) in
-    omega (arith, natural-below (drop i bs) h, pow-le-pow-right {n = 10} (omega arith) {i = length (drop i bs)} {j = 6} l)
+-- so many digits as these are below 2^64, and six columns fit 32 bits
+pub below-short : (n k : ℕ) → n < 10 ^ k → k ≤ 18 → n < 10 ^ 18
+below-short n k h l = omega (arith, pow-le-pow-right {n = 10} (omega arith) {i = k} {j = 18} l)
 
-natural-word : (bs : List ℕ) (i : ℕ) → length bs ≤ 6 → inWord (natural (drop i bs)) ≡ natural (drop i bs)
-natural-word bs i e = whole-word (natural (drop i bs)) (λ n h. omega (arith, six-below bs i n e h))
+drop-below : (bs : List ℕ) (i k n : ℕ) → length bs ≤ i + k → natural (drop i bs) ≡ some n → n < 10 ^ k
+drop-below bs i k n e h =
+    let l : length (drop i bs) ≤ k = simp length-drop (omega arith) in
+    omega (arith, natural-below (drop i bs) h, pow-le-pow-right {n = 10} (omega arith) {i = length (drop i bs)} {j = k} l)
+
+pub short-word : (bs : List ℕ) (i : ℕ) → length bs ≤ i + 19 → inWord (natural (drop i bs)) ≡ natural (drop i bs)
+short-word bs i e = whole-word (natural (drop i bs)) (λ n h. let l = drop-below bs i 19 n e h in omega (arith, l))
 
 pub natural-fits : (bs : List ℕ) (i n : ℕ) → length bs ≤ 6 → natural (drop i bs) ≡ some n → SFits w32 (pos n)
-natural-fits bs i n e h = record { sfits = omega (arith, six-below bs i n e h) }
-
-pub six-some : (bs : List ℕ) (i : ℕ) {n : ℕ} → length bs ≤ 6 → parsed (inWord (natural (drop i bs))) ≡ Natural n → natural (drop i bs) ≡ some n
-six-some bs i e h = parsed-some (natural (drop i bs)) (sym (ap parsed (natural-word bs i e)) ∙ h)
-
-pub six-none : (bs : List ℕ) (i : ℕ) → length bs ≤ 6 → parsed (inWord (natural (drop i bs))) ≡ Nothing → natural (drop i bs) ≡ none
-six-none bs i e h = parsed-none (natural (drop i bs)) (sym (ap parsed (natural-word bs i e)) ∙ h)
+natural-fits bs i n e h = let l = drop-below bs i 6 n (omega arith) h in record { sfits = omega (arith, l) }

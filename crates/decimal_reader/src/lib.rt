@@ -1,6 +1,6 @@
 // The reader of a field: the decimal number in its six columns, or in any number of columns where it has no minus sign.
 ghost use mathlib.Core.Path.{_≡_};
-ghost use Prim.Native.Nat.{_+_, _*_, _^_, _≤_};
+ghost use Prim.Native.Nat.{_+_, _*_, _^_, _≤_, _<_};
 ghost use lib.Dec.{leb};
 ghost use lib.ListN.{length, drop};
 ghost use Rattle.decimal.specs.Trusted.Number.{columns, digits, natural, signed, inWord};
@@ -12,6 +12,9 @@ use decimal::Parsed;
 
 // A tenth of 2^64, rounded down.
 const TENTH: u64 = 1844674407370955161;
+
+// So many digits are always below 2^64.
+const SHORT: usize = 19;
 
 // The number in the six columns of a field. A slice that is not six bytes long holds no number.
 pub fn read(s: &[u8]) -> Field
@@ -27,7 +30,11 @@ pub fn read(s: &[u8]) -> Field
 pub fn read_word(s: &[u8]) -> Parsed
     ensures { λ r. ⌜ r ≡ wordRead (now (s .entry)) ⌝ }
 {
-    natural(s, blanks(s))
+    let at = blanks(s);
+    if s.len() - at <= SHORT {
+        return natural(s, at);
+    }
+    long(s, at)
 }
 
 // How many blanks stand before the first byte that is none.
@@ -71,9 +78,10 @@ fn signed(s: &[u8], at: usize) -> Field
     }
 }
 
-// The number that the bytes from an index on make, below 2^64: one digit or more, with no leading zero.
+// The number that the bytes from an index on make, 19 of them at most: one digit or more, with no leading zero.
 fn natural(s: &[u8], at: usize) -> Parsed
-    ensures { λ r. ⌜ r ≡ parsed (inWord (natural (drop at (now (s .entry))))) ⌝ }
+    requires { ⌜ (at ≤ length (now s)) × (length (now s) ≤ at + 19) ⌝ }
+    ensures { λ r. ⌜ r ≡ parsed (natural (drop at (now (s .entry)))) ⌝ }
 {
     if s.len() <= at {
         return Parsed::Nothing;
@@ -86,8 +94,40 @@ fn natural(s: &[u8], at: usize) -> Parsed
     digits(s, at)
 }
 
-// The number that the bytes from an index on make, below 2^64, if each is a digit.
+// The number that the bytes from an index on make, if each is a digit. So few digits cannot reach 2^64: nothing is tested.
 fn digits(s: &[u8], at: usize) -> Parsed
+    requires { ⌜ (at ≤ length (now s)) × (length (now s) ≤ at + 19) ⌝ }
+    ensures { λ r. ⌜ r ≡ parsed (digits 0 (drop at (now (s .entry)))) ⌝ }
+{
+    let mut n: u64 = 0;
+    let mut i = at;
+    while i < s.len() {
+        let b = s[i];
+        if b < b'0' {
+            return Parsed::Nothing;
+        }
+        if b'9' < b {
+            return Parsed::Nothing;
+        }
+        n = 10 * n + ((b - b'0') as u64);
+        i += 1;
+    }
+    Parsed::Natural(n)
+}
+
+// The number below 2^64 that the bytes from an index on make, more than 19 of them.
+fn long(s: &[u8], at: usize) -> Parsed
+    requires { ⌜ at + 19 < length (now s) ⌝ }
+    ensures { λ r. ⌜ r ≡ parsed (inWord (natural (drop at (now (s .entry))))) ⌝ }
+{
+    if s[at] == b'0' {
+        return Parsed::Nothing;
+    }
+    long_digits(s, at)
+}
+
+// The same, if each is a digit.
+fn long_digits(s: &[u8], at: usize) -> Parsed
     ensures { λ r. ⌜ r ≡ parsed (inWord (digits 0 (drop at (now (s .entry))))) ⌝ }
 {
     let mut n: u64 = 0;

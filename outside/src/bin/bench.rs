@@ -68,7 +68,7 @@ fn own(sample: &Sample) {
     }
 }
 
-/// The proved code with the room that it writes to.
+/// The proved code with the room that a task writes to.
 #[cfg(feature = "linked")]
 struct Proved {
     output: Vec<u8>,
@@ -77,8 +77,12 @@ struct Proved {
 
 #[cfg(feature = "linked")]
 impl Proved {
-    fn new() -> Proved {
-        Proved { output: vec![0; outside::linked::LONGEST], numbers: vec![0; outside::linked::NUMBERS] }
+    fn of(task: Task) -> Proved {
+        let (bytes, numbers) = match task {
+            Task::Map => (outside::linked::LONGEST, 0),
+            Task::Read => (0, outside::linked::NUMBERS),
+        };
+        Proved { output: vec![0; bytes], numbers: vec![0; numbers] }
     }
 
     fn run(&mut self, sample: &Sample) {
@@ -97,7 +101,7 @@ fn calls(sample: &Sample) -> u32 {
 
 #[cfg(feature = "linked")]
 fn measure(rounds: usize, sample: &Sample) {
-    let mut proved = Proved::new();
+    let mut proved = Proved::of(sample.task);
     let calls = calls(sample);
     let (mut ours, mut theirs) = (f64::MAX, f64::MAX);
     for _ in 0..rounds {
@@ -123,7 +127,7 @@ fn once(row: &str, by: &str) -> Result<(), String> {
         "none" => (),
         "own" => own(sample),
         #[cfg(feature = "linked")]
-        "proved" => Proved::new().run(sample),
+        "proved" => Proved::of(sample.task).run(sample),
         _ => return Err(format!("{by:?} is neither none nor own nor proved")),
     }
     Ok(())

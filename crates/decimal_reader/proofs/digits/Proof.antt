@@ -1,25 +1,27 @@
--- `decimal_reader::digits` meets its contract. The invariant of its loop: the bytes from `at` make what those from i make after n, which is
--- below 2^64. The measure is the bytes left. Assumes nothing.
-use Prim.Native.Nat.{_+_, _*_, _-_, _^_, _≤_, _<_}
+-- `decimal_reader::digits` meets its contract. The invariant of its loop: the bytes from `at` make what those from i make after n, and n has
+-- as many digits as bytes were passed. The measure is the bytes left. Assumes nothing.
+use Prim.Native.Nat.{suc, _+_, _-_, _^_, _≤_, _<_}
+use native.Mathlib.Nat.{one-le-pow}
 use native.Mathlib.Omega.{arith}
 use mathlib.Core.Path.{_≡_, refl, sym, ap, _∙_}
 use lib.ListN.{length, getD, drop, drop-of-length-le}
-use borrow.Author.Tests.{leb-true, leb-false}
-use Rattle.decimal.specs.Trusted.Number.{digits, inWord}
+use Rattle.decimal.specs.Trusted.Number.{digits}
+use Rattle.decimal.specs.NumberLaws.{digit-fits}
 use Rattle.decimal.specs.Trusted.Reading.{parsed}
-use Rattle.decimal.specs.WordLaws.{below-word, past-word}
-use Rattle.decimal_reader.proofs.NumberLaws.{digits-more, digits-low, digits-high}
+use Rattle.decimal_reader.proofs.NumberLaws.{digits-more, digits-low, digits-high, below-short}
 use Rattle.decimal_reader.proofs.digits.Statement.{statement}
 use Rattle.decimal_reader.proofs.digits.Tie as tie
 
 abbrev Inv-loop : tie.InvT-loop
-Inv-loop s at n₀ i₀ n i = (n < 2 ^ 64) × (digits 0 (drop at s) ≡ digits n (drop i s))
+Inv-loop s at n₀ i₀ n i = (at ≤ i) × (i ≤ length s) × (n < 10 ^ (i - at)) × (digits 0 (drop at s) ≡ digits n (drop i s))
 
 abbrev μ-loop : tie.MeasureT-loop
 μ-loop s at n₀ i₀ n i = length s - i
 
 loop-holds : tie.Need-loop-holds Inv-loop μ-loop
-loop-holds c = (omega arith, refl)
+loop-holds c =
+    let some-number : 0 < 10 ^ (c .args .at - c .args .at) = one-le-pow (c .args .at - c .args .at) 10 (omega arith) in
+    (omega arith, omega arith, some-number, refl)
 
 shared-slice-read-b : tie.Need-shared-slice-read-b Inv-loop μ-loop
 shared-slice-read-b c = omega arith
@@ -27,50 +29,27 @@ shared-slice-read-b c = omega arith
 returns : tie.Need-returns Inv-loop μ-loop
 returns c =
     let l = c .before .before .before in
-    let s = l .before .before .args .s .now in
-    sym (ap (λ o. parsed (inWord o)) (l .loop .inv .1 ∙ digits-low s (l .loop .i) (l .loop .n) (omega arith) (omega arith)))
+    let s = l .before .args .s .now in
+    sym (ap parsed (l .loop .inv .3 ∙ digits-low s (l .loop .i) (l .loop .n) (omega arith) (omega arith)))
 
 returns-2 : tie.Need-returns-2 Inv-loop μ-loop
 returns-2 c =
     let l = c .before .before .before .before in
-    let s = l .before .before .args .s .now in
-    sym (ap (λ o. parsed (inWord o)) (l .loop .inv .1 ∙ digits-high s (l .loop .i) (l .loop .n) (omega arith) (omega arith)))
+    let s = l .before .args .s .now in
+    sym (ap parsed (l .loop .inv .3 ∙ digits-high s (l .loop .i) (l .loop .n) (omega arith) (omega arith)))
 
-cast-d : tie.Need-cast-d Inv-loop μ-loop
-cast-d c = omega arith
-
-past-requires : tie.Need-past-requires Inv-loop μ-loop
-past-requires c κs = omega arith
-
--- the digits with one more
-one-more : (c : tie.Else2 Inv-loop μ-loop) →
-    let l = c .before .before .before .before in
-    let s = l .before .before .args .s .now in
-    let i = l .loop .i in
-    digits 0 (drop (l .before .before .args .at) s) ≡ digits (10 * l .loop .n + (getD s i 0 - 48)) (drop (i + 1) s)
-one-more c =
-    let l = c .before .before .before .before in
-    let s = l .before .before .args .s .now in
-    l .loop .inv .1 ∙ digits-more s (l .loop .i) (l .loop .n) (omega arith) (omega arith) (omega arith)
-
-returns-3 : tie.Need-returns-3 Inv-loop μ-loop
-returns-3 c =
-    let l = c .before .before .before .before .before .before in
-    let s = l .before .before .args .s .now in
-    let high : 2 ^ 64 ≤ 10 * l .loop .n + (getD s (l .loop .i) 0 - 48) = leb-true _ _ (sym (c .before .past .ensures) ∙ c .if3 .taken) in
-    sym (ap parsed (ap inWord (one-more (c .before .before)) ∙ past-word _ (drop (l .loop .i + 1) s) high))
-
--- which is below 2^64
-small : (c : tie.Else3 Inv-loop μ-loop) →
-    let l = c .before .before .before .before .before .before in
-    10 * l .loop .n + (getD (l .before .before .args .s .now) (l .loop .i) 0 - 48) < 2 ^ 64
-small c = leb-false _ _ (sym (c .before .past .ensures) ∙ c .if3 .left)
+-- the number so far, in a turn
+small : (c : tie.In-loop Inv-loop μ-loop) → c .before .loop .n < 10 ^ 18
+small c = below-short (c .before .loop .n) (c .before .loop .i - c .before .before .args .at) (c .before .loop .inv .2) (omega arith)
 
 mul-n : tie.Need-mul-n Inv-loop μ-loop
-mul-n c = omega (arith, small c)
+mul-n c = omega (arith, small (c .before .before .before))
+
+cast-n : tie.Need-cast-n Inv-loop μ-loop
+cast-n c = omega arith
 
 add-n : tie.Need-add-n Inv-loop μ-loop
-add-n c = omega (arith, small c)
+add-n c = omega (arith, small (c .before .before .before))
 
 add-i : tie.Need-add-i Inv-loop μ-loop
 add-i c = omega arith
@@ -79,14 +58,25 @@ loop-less : tie.Need-loop-less Inv-loop μ-loop
 loop-less c = omega arith
 
 loop-again : tie.Need-loop-again Inv-loop μ-loop
-loop-again c = (small c, one-more (c .before .before))
-
-returns-4 : tie.Need-returns-4 Inv-loop μ-loop
-returns-4 c =
-    let l = c .before in
-    let s = l .before .before .args .s .now in
+loop-again c =
+    let l = c .before .before .before .before in
+    let s = l .before .args .s .now in
+    let at = l .before .args .at in
+    let i = l .loop .i in
     let n = l .loop .n in
-    sym (ap parsed (ap inWord (l .loop .inv .1 ∙ ap (digits n) (drop-of-length-le s {i = l .loop .i} (omega arith))) ∙ below-word n (l .loop .inv .0)))
+    let d = getD s i 0 - 48 in
+    let one-more : i + 1 - at ≡ suc (i - at) = omega arith in (
+      omega arith,
+      omega arith,
+      rw one-more (digit-fits n d (i - at) (l .loop .inv .2) (omega arith)),
+      l .loop .inv .3 ∙ digits-more s i n (omega arith) (omega arith) (omega arith),
+    )
+
+returns-3 : tie.Need-returns-3 Inv-loop μ-loop
+returns-3 c =
+    let l = c .before in
+    let s = l .before .args .s .now in
+    sym (ap parsed (l .loop .inv .3 ∙ ap (digits (l .loop .n)) (drop-of-length-le s {i = l .loop .i} (omega arith))))
 
 pub digits-spec : {M : Type 1} → statement M
 digits-spec =
@@ -98,12 +88,10 @@ digits-spec =
     shared-slice-read-b
     returns
     returns-2
-    cast-d
-    past-requires
-    returns-3
     mul-n
+    cast-n
     add-n
     add-i
     loop-less
     loop-again
-    returns-4)
+    returns-3)

@@ -3,7 +3,7 @@ use native.Mathlib.Omega.{arith}
 use mathlib.Core.Path.{_≡_, sym, ap, _∙_}
 use mathlib.Core.Logic.{⊎-elim}
 use lib.ListN.{drop}
-use Rattle.decimal.specs.Trusted.Number.{digits, natural, inWord}
+use Rattle.decimal.specs.Trusted.Number.{digits, natural}
 use Rattle.decimal.specs.Trusted.Reading.{parsed}
 use Rattle.decimal_reader.proofs.NumberLaws.{natural-none, natural-zero, natural-first, natural-last}
 use borrow.Author.Needs.{needs}
@@ -13,7 +13,7 @@ use Rattle.decimal_reader.proofs.natural.Tie as tie
 returns : tie.Need-returns
 returns c =
     let a = c .before .before .args in
-    sym (ap (λ o. parsed (inWord o)) (natural-none (a .s .now) (a .at) (c .if1 .taken)))
+    sym (ap parsed (natural-none (a .s .now) (a .at) (c .if1 .taken)))
 
 shared-slice-read-if2 : tie.Need-shared-slice-read-if2
 shared-slice-read-if2 c = search needs
@@ -24,7 +24,7 @@ add-if3 c = search needs
 returns-2 : tie.Need-returns-2
 returns-2 c =
     let a = c .before .before .before .before .before .args in
-    sym (ap (λ o. parsed (inWord o)) (natural-zero (a .s .now) (a .at) (omega arith) (c .before .if2 .taken)))
+    sym (ap parsed (natural-zero (a .s .now) (a .at) (omega arith) (c .before .if2 .taken)))
 
 digits-requires : tie.Need-digits-requires
 digits-requires c κs = search needs
@@ -38,7 +38,7 @@ returns-3 c =
     (λ w. natural-last s (a .at) (omega arith) (w .1 .left))
     (λ w. natural-first s (a .at) (omega arith) (w .left))
     (c .before .if2 .came) in
-    c .digits .ensures ∙ sym (ap (λ o. parsed (inWord o)) same)
+    c .digits .ensures ∙ sym (ap parsed same)
 
 pub natural-spec : {M : Type 1} → statement M
 natural-spec =

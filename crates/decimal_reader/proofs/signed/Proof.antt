@@ -3,7 +3,7 @@
 use Prim.Native.Nat.{_+_}
 use native.Mathlib.Omega.{arith}
 use mathlib.Core.Path.{_≡_, sym, ap, _∙_}
-use mathlib.Core.Option.{some}
+use mathlib.Core.Option.{none, some}
 use lib.IntN.{pos}
 use lib.ListN.{drop}
 use mir.Syntax.{w32}
@@ -13,7 +13,8 @@ use Rattle.decimal.specs.Trusted.Number.{natural, negated, unsigned, signed}
 use Rattle.decimal.specs.NumberLaws.{negated-more}
 use Rattle.decimal.specs.Trusted.Reading.{fieldAnswer}
 use Rattle.decimal.specs.declared.Field.the-variants.{Value}
-use Rattle.decimal_reader.proofs.NumberLaws.{signed-none, signed-minus, signed-plain, negated-zero, six-some, six-none, natural-fits}
+use Rattle.decimal.specs.ReadingLaws.{parsed-some, parsed-none}
+use Rattle.decimal_reader.proofs.NumberLaws.{signed-none, signed-minus, signed-plain, negated-zero, natural-fits}
 use Rattle.decimal.proofs.SignLaws.{minus-bits, negated-fits}
 use borrow.Author.Needs.{needs}
 use Rattle.decimal_reader.proofs.signed.Statement.{statement}
@@ -59,8 +60,8 @@ minus-number : (c : tie.After-known-told) →
     let a = c .before .before .before .before .before .before .before .before .args in
     natural (drop (a .at + 1) (a .s .now)) ≡ some (c .before .n .given .0 .0)
 minus-number c =
-    let start = c .before .before .before .before .before .before .before .before in
-    six-some (start .args .s .now) (start .args .at + 1) (start .pre) (sym (c .before .before .before .natural .ensures) ∙ c .before .n .given .1)
+    let a = c .before .before .before .before .before .before .before .before .args in
+    parsed-some (natural (drop (a .at + 1) (a .s .now))) (sym (c .before .before .before .natural .ensures) ∙ c .before .n .given .1)
 
 minus-fits : (c : tie.After-known-told) → SFits w32 (pos (c .before .n .given .0 .0))
 minus-fits c =
@@ -90,8 +91,8 @@ returns-3 c =
 returns-4 : tie.Need-returns-4
 returns-4 c =
     let l = c .before .before in
-    let start = l .before .before .before .before .before in
-    let nothing = six-none (start .args .s .now) (start .args .at + 1) (start .pre) (sym (l .natural .ensures) ∙ c .enum-told .given .1) in
+    let a = l .before .before .before .before .before .args in
+    let nothing : natural (drop (a .at + 1) (a .s .now)) ≡ none = parsed-none (natural (drop (a .at + 1) (a .s .now))) (sym (l .natural .ensures) ∙ c .enum-told .given .1) in
     sym (ap fieldAnswer (after-minus l ∙ ap negated nothing))
 
 -- ---- without a sign
@@ -107,8 +108,8 @@ plain-number : (c : tie.After-known-told2) →
     let a = c .before .before .before .before .before .before .before .before .args in
     natural (drop (a .at) (a .s .now)) ≡ some (c .before .n2 .given .0 .0)
 plain-number c =
-    let start = c .before .before .before .before .before .before .before .before in
-    six-some (start .args .s .now) (start .args .at) (start .pre) (sym (c .before .before .before .natural2 .ensures) ∙ c .before .n2 .given .1)
+    let a = c .before .before .before .before .before .before .before .before .args in
+    parsed-some (natural (drop (a .at) (a .s .now))) (sym (c .before .before .before .natural2 .ensures) ∙ c .before .n2 .given .1)
 
 cast-t19 : tie.Need-cast-t19
 cast-t19 c =
@@ -122,8 +123,8 @@ returns-5 c =
 returns-6 : tie.Need-returns-6
 returns-6 c =
     let l = c .before .before in
-    let start = l .before .before .before .before .before in
-    let nothing = six-none (start .args .s .now) (start .args .at) (start .pre) (sym (l .natural2 .ensures) ∙ c .enum-told2 .given .1) in
+    let a = l .before .before .before .before .before .args in
+    let nothing : natural (drop (a .at) (a .s .now)) ≡ none = parsed-none (natural (drop (a .at) (a .s .now))) (sym (l .natural2 .ensures) ∙ c .enum-told2 .given .1) in
     sym (ap fieldAnswer (plain l ∙ ap unsigned nothing))
 
 pub signed-spec : {M : Type 1} → statement M
