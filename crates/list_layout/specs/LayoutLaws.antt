@@ -1,6 +1,6 @@
 -- A LINE IS READ EXACTLY AS IT IS WRITTEN: reading what the writer wrote gives the numbers back, and what is read is what the writer
 -- writes of them.
-use Prim.Native.Nat.{ℕ, zero, suc, _-_, _^_, _≤_, _<_}
+use Prim.Native.Nat.{ℕ, _-_, _^_, _≤_, _<_}
 use native.Mathlib.Omega.{arith}
 use mathlib.Core.Path.{_≡_, refl, sym, ap, ap₂, _∙_, subst}
 use mathlib.Core.Bool.{cond}
@@ -11,7 +11,7 @@ use lib.Dec.{eqb}
 use lib.ListN.{length, drop, replicate, length-append, length-drop, length-replicate, take-append-drop}
 use lib.Seq.{length-take-le, take-append-seam, drop-append-seam}
 use Rattle.lists.specs.Trusted.Lists.{Every}
-use Rattle.lists.specs.ListLaws.{every-none, every-cons, every-head, every-tail}
+use Rattle.lists.specs.ListLaws.{every-cons, every-head, every-tail, every-replicate}
 use Rattle.lists.specs.TestLaws.{reflects-eq, reflects-within, reflects-true}
 use Rattle.lists.specs.Trusted.Tests.{within}
 use Rattle.decimal.specs.Trusted.Number.{columns}
@@ -84,10 +84,6 @@ says-record r h =
     ap (λ n. reads r ++ replicate n 0) (sym z) ∙ ap (λ l. reads r ++ l) (sym (zeros-are (drop (r .count) (r .inputs)) (h .padded))) ∙ take-append-drop (r .count) (r .inputs) in
     ap₂ (λ n l. record { net = r .net; count = n; inputs = l; truth = r .truth }) u i
 
-zeros-zero : (n : ℕ) → AllZero (replicate n 0)
-zeros-zero zero = every-none _
-zeros-zero (suc n) = every-cons refl (zeros-zero n)
-
 -- the record of numbers that a line can say
 record-says : (l : LookupTable) → 2 ≤ length (l .inputs) → length (l .inputs) ≤ inputRoom → Every FieldFits (l .drives ∷ l .inputs) → l .truth < 2 ^ 64 →
     LineSays (recordOf l)
@@ -96,7 +92,7 @@ record-says l low high fits word =
     record {
       count = (low, high);
       shaped = rw (length-append, length-replicate) (omega (arith, high));
-      padded = rw (drop-append-seam (l .inputs) zeros) (zeros-zero (inputRoom - length (l .inputs)));
+      padded = rw (drop-append-seam (l .inputs) zeros) (every-replicate (λ x. x ≡ 0) (inputRoom - length (l .inputs)) 0 refl);
       numbers = rw (take-append-seam (l .inputs) zeros) fits;
       truth = word;
     }
