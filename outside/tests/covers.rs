@@ -97,6 +97,21 @@ fn the_search_is_right_on_small_trees() {
     }
 }
 
+/// Request 105: a gate more is a leaf fewer. On every tree of up to seven leaves and at every K, the covers with the most tables have one
+/// fewer than the tree has leaves; so a sheet's covers, with its 256 leaves at most, have 255 at most.
+#[test]
+fn no_cover_has_as_many_tables_as_leaves() {
+    for leaves in 2..=7 {
+        for shape in shapes(leaves) {
+            let splittings = splittings(&sheet(&shape, 0));
+            for k in 2..=6 {
+                let most = covers(&splittings, k).map(|(_, _, count)| count).max();
+                assert_eq!(most, Some(leaves - 1), "K {k}, {shape:?}");
+            }
+        }
+    }
+}
+
 /// The tables of every cover of every splitting of up to five leaves are taken, and those of each least cover make a good list.
 #[test]
 fn every_cover_is_taken() {

@@ -26,12 +26,10 @@ def encode(pairs):
 
 def decode(bits):
     pairs = []
-    at = 0
     while bits:
-        if bits & 1:
-            pairs.append((at // SHIFT, at % SHIFT))
-        bits >>= 1
-        at += 1
+        lowest = bits & -bits
+        pairs.append(divmod(lowest.bit_length() - 1, SHIFT))
+        bits ^= lowest
     return pairs
 
 
@@ -162,14 +160,28 @@ EXAMPLES = [
     (5, [3, 3, 3], 3),
 ]
 
+# K, and the keys of fanins over 256 leaves at least: there is a leaf at each input, and one more for each table below
+MOST_LEAVES = [
+    (2, [(245, 2)] + [LEAF] * 9),
+    (2, [(122, 2)] * 2 + [LEAF] * 8),
+    (6, [(118, 6)] * 2 + [LEAF] * 8),
+]
+
 
 def main():
     for k, fanins, tables in EXAMPLES:
-        best = min(decode(reached(k, [tree(k, leaves) for leaves in fanins])))
+        all_keys = decode(reached(k, [tree(k, leaves) for leaves in fanins]))
+        best = min(all_keys)
         assert best[0] + 1 == tables
+        assert max(all_keys)[0] + 1 == sum(fanins) - 1  # the most tables of a cover: one fewer than leaves
         show(1, best, 2 * len(fanins) - 1)
-    for _ in range(7):
+    for _ in range(6):
         show(0, (0, 0), 0)
+    for k, keys in MOST_LEAVES:
+        assert sum(below + width for below, width in keys) == 256
+        best = min(decode(reached(k, [encode([key]) for key in keys])))
+        assert best[0] + 1 <= 255
+        show(1, best, 2 * len(keys) - 1)
     for _ in range(200):
         k, keys = drawn()
         all_keys = decode(reached(k, [encode([key]) for key in keys]))

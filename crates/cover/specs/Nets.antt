@@ -71,21 +71,23 @@ mutual
 
 -- ---- how many tables
 
-picked : (m : ℕ) → pick m 0 1 ≤ 1
-picked zero = omega arith
-picked (suc m) = omega arith
-
 module _ (K : ℕ) where
-  -- a gate brings two leaves or more together, and so takes at least one away
-  mutual
-    pub tables-most : (c : Cover) → Fits c K → tables c + 1 ≤ length (nets c)
-    tables-most (net n) f = omega arith
-    tables-most (top m k fs) f = omega (arith, tables-most* fs (f .2), picked m)
+  -- a table takes in two inputs or more, and gives one
+  gate-most : (m w n l a : ℕ) → 2 ≤ a → (n + w ≤ l) × (a ≤ w) → ((pick m 0 1 + n) + pick m w 1 ≤ l) × (1 ≤ pick m w 1)
+  gate-most zero w n l a two h = omega arith
+  gate-most (suc m) w n l a two h = omega arith
 
-    pub tables-most* : (fs : Fanins) → Fits* fs K → tables* fs + arity fs ≤ length (nets* fs)
+  mutual
+    pub tables-most : (c : Cover) → Fits c K → (tables c + width c ≤ length (nets c)) × (1 ≤ width c)
+    tables-most (net n) f = omega arith
+    tables-most (top m k fs) f = gate-most m (widths fs) (tables* fs) _ (arity fs) (f .0) (tables-most* fs (f .2))
+
+    pub tables-most* : (fs : Fanins) → Fits* fs K → (tables* fs + widths fs ≤ length (nets* fs)) × (arity fs ≤ widths fs)
     tables-most* end f = omega arith
     tables-most* (old i c fs) f = simp length-append (omega (arith, tables-most c (f .0), tables-most* fs (f .1)))
-    tables-most* (new m s fs) f = simp length-append (omega (arith, tables-most* s (f .0 .2), tables-most* fs (f .1), picked m))
+    tables-most* (new m s fs) f =
+        let g = gate-most m (widths s) (tables* s) _ (arity s) (f .0 .0) (tables-most* s (f .0 .2)) in
+        simp length-append (omega (arith, tables-most* fs (f .1)))
 
   pub cover-most : {t : Node} {c : Cover} → CoverOf K t c → tables c + 1 ≤ length (leaves t)
   cover-most {c = c} o = omega (arith, tables-most c (o .fits), permuted-length (split-nets (o .split)))

@@ -84,5 +84,5 @@ pub fn volume(k: u8, a: Key) -> u16
     requires { ⌜ Joined k a ⌝ }
     ensures { λ r. ⌜ r ≡ volumeOf k a ⌝ }
 {
-    (k as u16 - 1) * a.below + a.width as u16
+    (k as u16 - 1) * a.below as u16 + a.width as u16
 }

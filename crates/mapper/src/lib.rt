@@ -1,7 +1,7 @@
 // Mapping a sheet to lookup tables, gate by gate.
 ghost use mathlib.Core.Path.{_≡_};
 ghost use Prim.Native.Nat.{_+_, _≤_};
-ghost use Rattle.mapper_laws.specs.CodeMap.{Staged, Sheetable, SheetMapped, flipped, driving};
+ghost use Rattle.mapper_laws.specs.CodeMap.{mostTables, Staged, Sheetable, SheetMapped, flipped, driving};
 ghost use Rattle.pending.specs.Merging.{Tabled};
 use gate_mapper::fanin::leaf;
 use gate_mapper::fanin::place_of;
@@ -10,6 +10,7 @@ use gate_mapper::gate::fanin_count;
 use gate_mapper::gate::gather;
 use gate_mapper::gate::map_gate;
 use gate_mapper::pair::map_pair;
+use mapper_laws::MOST_TABLES;
 use mapper_laws::Mapping;
 use mapper_laws::PlanRun;
 use merge::inverted;
@@ -18,7 +19,7 @@ use table::Table;
 
 // The tables that a run placed, staged after the others.
 fn stage(mapping: Mapping, run: PlanRun) -> Mapping
-    requires { ⌜ (mapping .count + run .placed ≤ 256) × (run .placed ≤ 18) ⌝ }
+    requires { ⌜ (mapping .count + run .placed ≤ mostTables) × (run .placed ≤ 18) ⌝ }
     ensures { λ r. ⌜ Staged mapping run r ⌝ }
 {
     let placed = run.placed as usize;
@@ -31,7 +32,7 @@ fn stage(mapping: Mapping, run: PlanRun) -> Mapping
         m.tables[at] = t;
         i += 1;
     }
-    m.count = mapping.count + run.placed as u16;
+    m.count = mapping.count + run.placed;
     m
 }
 
@@ -65,13 +66,13 @@ pub fn map(sheet: Sheet, k: u8, used: u16) -> Mapping
     let none = table::blank();
     let mut m = Mapping {
         count: 0,
-        tables: [none; 256],
+        tables: [none; MOST_TABLES],
     };
     let mut g: usize = 0;
     while g < gates {
         let gate = sheet.gates[g];
         let kind = gate.kind;
-        let first = used + m.count;
+        let first = used + m.count as u16;
         if fanin_count(gate) == 2 {
             let place = gate.first as usize;
             let low = sheet.fanins[place];
@@ -95,7 +96,7 @@ pub fn map(sheet: Sheet, k: u8, used: u16) -> Mapping
                 m.tables[at] = t;
                 i += 1;
             }
-            m.count = staged + pair.placed as u16;
+            m.count = staged + pair.placed;
             g += 1;
         } else {
             let fanins = sheet.fanins;

@@ -15,7 +15,6 @@ use Rattle.plan.specs.Plans.{Planned}
 use Rattle.plan.specs.Entries.{GoodKeys}
 use Rattle.cover.specs.Trusted.Tables.{LookupTable}
 use Rattle.cover.specs.Trusted.CoverTables.{LeastCoverTables}
-use Rattle.plan.specs.Limits.{mostBelow}
 use Rattle.sheet.specs.declared.Edge.{Edge}
 use Rattle.sheet.specs.declared.Gate.{Gate}
 use Rattle.sheet.specs.declared.Sheet.{Sheet}
@@ -89,7 +88,6 @@ pub record HeldIs (h : Held) (d : GatesMapped) : Type 0 where
   pub below : h .below ≡ d .key .below
   pub width : length (heldTable codeBase d .inputs) ≡ d .key .width
   pub fits : (1 ≤ d .key .width) × (d .key .width ≤ inputRoom)
-  pub few : d .key .below ≤ mostBelow
 
 abbrev pub noHeld : Held
 noHeld = record { below = 0; table = noTable }
@@ -126,18 +124,22 @@ Gathers fs x held o = Gathering (drawnGate fs x .fanins) held (length (drawnGate
 
 -- ---- staging
 
+-- the most tables of a sheet
+abbrev pub mostTables : ℕ
+mostTables = 255
+
 -- the records of the run after those of the mapping
 pub record Staged (m : Mapping) (s : PlanRun) (r : Mapping) : Type 0 where
   pub count : r .count ≡ m .count + s .placed
   pub tables : take (r .count) (r .tables) ≡ take (m .count) (m .tables) ++ take (s .placed) (s .tables)
-  pub room : length (r .tables) ≡ 256
+  pub room : length (r .tables) ≡ mostTables
 
 -- the first i of them
 pub record Staging (m : Mapping) (s : PlanRun) (i : ℕ) (r : Mapping) : Type 0 where
   pub count : r .count ≡ m .count
   pub at : i ≤ s .placed
   pub tables : take (m .count + i) (r .tables) ≡ take (m .count) (m .tables) ++ take i (s .tables)
-  pub room : length (r .tables) ≡ 256
+  pub room : length (r .tables) ≡ mostTables
 
 -- ---- a sheet
 
@@ -154,8 +156,8 @@ tablesIn n rs = map tableOf (take n rs)
 -- THE PROMISE OF THE MAPPING: the records are those of the tables of one of the sheet's covers, with the least number of tables, which
 -- follow any tables of that count; which least cover it is, and the order of its tables, inputs before readers, is free
 pub record SheetMapped (K used : ℕ) (s : Sheet) (r : Mapping) : Type 0 where
-  pub room : length (r .tables) ≡ 256
-  pub few : r .count ≤ 256
+  pub room : length (r .tables) ≡ mostTables
+  pub few : r .count ≤ mostTables
   pub kept : (i : ℕ) → i < r .count → MergeKept (getD (r .tables) i noTable)
   pub least : (old : List LookupTable) → length old ≡ used → LeastCoverTables codeBase K old (tablesIn (r .count) (r .tables)) (drawn (drawnSheet s))
 
@@ -166,9 +168,9 @@ pub record Going (K used : ℕ) (gs : List DrawnGate) (g : ℕ) (held : List Hel
   pub at : g ≤ length gs
   pub all : HeldAll done held
   pub kept : Every MergeKept (take (m .count) (m .tables))
-  pub few : m .count ≤ 256
+  pub few : m .count ≤ mostTables
   pub held-room : length held ≡ mostGates
-  pub table-room : length (m .tables) ≡ 256
+  pub table-room : length (m .tables) ≡ mostTables
 
 -- ---- the root's table
 

@@ -45,7 +45,7 @@ use Rattle.mapper_laws.specs.CodeRun.{noTable, noPending, operandAt, fan
 use Rattle.mapper_laws.specs.CodeRunLaws.{map-at, kept-count, fanin-count, record-neat, stored-all}
 use Rattle.mapper_laws.specs.SafeLaws.{safe-planned}
 use Rattle.mapper_laws.specs.Mapping.{GatesMapped as MappedOnList, mappedAt, keyOf, heldTable, sourceTable}
-use Rattle.mapper_laws.specs.CodeMap.{leafOf, Begun, withFanin, keysIn, Mappable, GateMapped, noHeld, HeldAll, Reaches, Gathered, Gathering, Staging, Staged}
+use Rattle.mapper_laws.specs.CodeMap.{leafOf, Begun, withFanin, keysIn, Mappable, GateMapped, noHeld, HeldAll, Reaches, Gathered, Gathering, mostTables, Staging, Staged}
 
 -- ---- one gate
 
@@ -91,7 +91,7 @@ module _ {K first : ℕ} {o : Operands} (m : Mappable K first o) where
 -- ---- staging
 
 module _ (m : Mapping) (s : PlanRun) where
-  pub staging-start : length (m .tables) ≡ 256 → Staging m s 0 m
+  pub staging-start : length (m .tables) ≡ mostTables → Staging m s 0 m
   staging-start l = record {
     count = refl;
     at = omega arith;
@@ -99,7 +99,7 @@ module _ (m : Mapping) (s : PlanRun) where
     room = l;
   }
 
-  pub staging-next : {i : ℕ} {r : Mapping} → m .count + s .placed ≤ 256 → i < s .placed → s .placed ≤ length (s .tables) → Staging m s i r →
+  pub staging-next : {i : ℕ} {r : Mapping} → m .count + s .placed ≤ mostTables → i < s .placed → s .placed ≤ length (s .tables) → Staging m s i r →
       Staging m s (i + 1) (record { count = r .count; tables = set (r .tables) (m .count + i) (getD (s .tables) i noTable) })
   staging-next {i} {r} few l room g = record {
     count = g .count;

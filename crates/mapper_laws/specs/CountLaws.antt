@@ -1,4 +1,4 @@
--- How many tables a mapping stages: no more than leaves were read, since each gate is read at most once; and so few stand below a gate.
+-- How many tables a mapping stages, and how many stand below a gate: fewer than leaves, since each gate is read at most once.
 use Prim.Native.Nat.{ℕ, suc, _+_, _≤_}
 use native.Mathlib.Omega.{arith}
 use mathlib.Core.Path.{_≡_, refl, sym, ap, ap₂, _∙_, subst}
@@ -11,6 +11,7 @@ use Rattle.lists.specs.ListLaws.{every-none, every-cons, every-head, every-tail
 use Rattle.lists.specs.NumberLaws.{sum-inserted, sum-le}
 use Rattle.cover.specs.Nets.{tables-most*}
 use Rattle.cover.specs.Size.{records-length*}
+use Rattle.plan.specs.Volume.{fewestLeaves}
 use Rattle.cover.specs.Trusted.Tables.{LookupTable, numbered}
 use Rattle.cover.specs.Eval.{numbered-length}
 use Rattle.tree.specs.Trusted.Tree.{Node}
@@ -57,26 +58,31 @@ module _ (done : List GatesMapped) (js : List ℕ) (once : Distinct js) (there :
       in-range : Every (λ j. g (mappedAt done j) ≤ f (mappedAt done j)) (from 1 (length done))
       in-range = every-in [] done done refl h
 
+-- under a mapped gate stand as many leaves as its key asks for
+pub stood-leaves : {K : ℕ} {t : Node} {d : GatesMapped} → Stood K t d → fewestLeaves (d .key) ≤ leafCount d
+stood-leaves {K} {d = d} s = omega (arith, tables-most* K (d .body) (s .is .fits) .0, s .is .count, s .is .inputs)
+
 module _ (base : ℕ) where
+  abbrev pub innerCount : GatesMapped → ℕ
+  innerCount d = length (innerOf base d)
+
   -- a gate has two tables fewer below it than leaves
-  stood-count : {K : ℕ} {t : Node} {d : GatesMapped} → Stood K t d → length (innerOf base d) + 2 ≤ leafCount d
+  pub stood-count : {K : ℕ} {t : Node} {d : GatesMapped} → Stood K t d → innerCount d + 2 ≤ leafCount d
   stood-count {K} {d = d} s = omega (arith, records-length* base (d .body) (d .kind), tables-most* K (d .body) (s .is .fits), s .is .many)
 
-  paired-every : {K : ℕ} {ts : List Node} {ds : List GatesMapped} → Paired (Stood K) ts ds → Every (λ d. length (innerOf base d) + 2 ≤ leafCount d) ds
-  paired-every no-pair = every-none _
-  paired-every (pair s p) = every-cons (stood-count s) (paired-every p)
+  pub stood-counts : {K : ℕ} {ts : List Node} {ds : List GatesMapped} → Paired (Stood K) ts ds → Every (λ d. innerCount d ≤ leafCount d) ds
+  stood-counts no-pair = every-none _
+  stood-counts (pair s p) = every-cons (omega (arith, stood-count s)) (stood-counts p)
 
-  module _ {n K : ℕ} {gs : List DrawnGate} {done : List GatesMapped} {staged : List LookupTable} (p : Progress base n K gs done staged) (once : Distinct (gatesRead gs)) where
-    pub staged-few : length staged ≤ length (leafNets gs)
-    staged-few =
-        let inner : GatesMapped → ℕ = λ d. length (innerOf base d) in
-        let m = mapped-sums done (gatesRead gs) once (p .read) leafCount inner (λ d i. let h = paired-every (p .stood) d i in omega arith) in
-        omega (
-          arith,
-          p .leaves,
-          permuted-length (p .taken),
-          length-append (numbered n staged) (gather (λ j. innerOf base (mappedAt done j)) (gatesRead gs)),
-          numbered-length n staged,
-          gather-length (λ j. innerOf base (mappedAt done j)) (gatesRead gs),
-          gather-length (innerOf base) done,
-        )
+  -- the staged tables are those within all gates, but within the gates read
+  pub staged-count : {n K : ℕ} {gs : List DrawnGate} {done : List GatesMapped} {staged : List LookupTable} → Progress base n K gs done staged →
+      length staged + sum (λ j. innerCount (mappedAt done j)) (gatesRead gs) ≡ sum innerCount done
+  staged-count {n} {gs = gs} {done = done} {staged = staged} p =
+      omega (
+        arith,
+        permuted-length (p .taken),
+        length-append (numbered n staged) (gather (λ j. innerOf base (mappedAt done j)) (gatesRead gs)),
+        numbered-length n staged,
+        gather-length (λ j. innerOf base (mappedAt done j)) (gatesRead gs),
+        gather-length (innerOf base) done,
+      )

@@ -112,4 +112,4 @@ module _ (base : ℕ) where
         ≡ record { stack = record { inverted = false; table = gateTable base 0 false (g .kind) body } ∷ []; placed = new }
     pub progress : Progress n K (gs ++ (g ∷ [])) (done ++ (record { kind = g .kind; body = body; key = a } ∷ [])) (staged ++ new)
     pub is : (es : Edges) × Body K es a body
-    pub below : Distinct (gatesRead (gs ++ (g ∷ []))) → a .below + 2 ≤ length (leafNets (gs ++ (g ∷ [])))
+    pub few : Distinct (gatesRead (gs ++ (g ∷ []))) → length (staged ++ new) + 2 ≤ length (leafNets (gs ++ (g ∷ [])))

@@ -17,11 +17,12 @@ use Rattle.tree.specs.Measures.{leaves, leaves*}
 use Rattle.plan.specs.declared.Key.{Key}
 use Rattle.plan.specs.declared.Token.{Token}
 use Rattle.cover.specs.Trusted.Cover.{Cover, net, top, tables, split}
-use Rattle.cover.specs.Nets.{split-nets, tables-most*}
+use Rattle.cover.specs.Nets.{split-nets}
 use Rattle.cover.specs.Trusted.Tables.{LookupTable, Placed, numbered}
 use Rattle.cover.specs.Eval.{numbered-append, numbered-length}
 use Rattle.cover.specs.Size.{records-length*}
 use Rattle.plan.specs.Least.{body-least}
+use Rattle.plan.specs.Volume.{fewestLeaves}
 use Rattle.cover.specs.Trusted.Placed.{gateTable}
 use Rattle.plan.specs.Reach.{LeastReach, Best, at-leaf, Bests, at-end, at-edge}
 use Rattle.plan.specs.ReachLaws.{best-gate}
@@ -38,7 +39,7 @@ use Rattle.sheet.specs.TreeLaws.{without, from-end}
 use Rattle.cover.specs.Trusted.CoverTables.{LeastCoverTables}
 use Rattle.pending.specs.Operands.{single}
 use Rattle.mapper_laws.specs.Mapping.{GatesMapped, unmapped, mappedAt, leafCount, Stood, keyOf, sourceCover, keysOf, coversOf, Low, heldTable, innerOf, sourceTable, operandsOf, Progress, NextGate}
-use Rattle.mapper_laws.specs.CountLaws.{mapped-sums}
+use Rattle.mapper_laws.specs.CountLaws.{mapped-sums, stood-leaves, innerCount, stood-count, stood-counts, staged-count}
 use Rattle.mapper_laws.specs.RunLaws.{single-is, Shows, Gated, gated}
 
 paired-at : {A B : Type 0} {R : A → B → Type 0} {xs : List A} {ys : List B} (a : A) (b : B) → Paired R xs ys → (i : ℕ) → i < length ys → R (getD xs i a) (getD ys i b)
@@ -105,6 +106,23 @@ module _ (K : ℕ) (two : 2 ≤ K) {ts : List Node} {done : List GatesMapped} (s
         sum-append (λ j. leafCount (mappedAt done j)) (gateOf (f .source)) (faninGates fs),
       )
 
+  -- and at least those that the fanins' keys ask for
+  source-few : (s : Source) → AreMapped done (gateOf s) → fewestLeaves (keyOf done s) ≤ length (netOf s) + sum (λ j. leafCount (mappedAt done j)) (gateOf s)
+  source-few (Net n) h = omega arith
+  source-few (Gate g) h = omega (arith, stood-leaves (stood-at g (every-head h .0) (every-head h .1)))
+
+  fanins-few : (fs : List Edge) → AreMapped done (faninGates fs) →
+      sum fewestLeaves (keysOf done fs) ≤ length (faninNets fs) + sum (λ j. leafCount (mappedAt done j)) (faninGates fs)
+  fanins-few [] h = omega arith
+  fanins-few (f ∷ fs) h =
+      let a = source-few (f .source) (every-left (gateOf (f .source)) (faninGates fs) h) in
+      let b = fanins-few fs (every-right (gateOf (f .source)) (faninGates fs) h) in
+      omega (
+        arith,
+        length-append (netOf (f .source)) (faninNets fs),
+        sum-append (λ j. leafCount (mappedAt done j)) (gateOf (f .source)) (faninGates fs),
+      )
+
 module _ (base : ℕ) where
   inner-fanins : (done : List GatesMapped) (fs : List Edge) → gather (λ q. inner base (q .1)) (coversOf done fs) ≡ gather (λ j. innerOf base (mappedAt done j)) (faninGates fs)
   inner-fanins done [] = refl
@@ -155,6 +173,34 @@ module _ (base : ℕ) where
   mapping-start n K = record { stood = no-pair; read = every-none _; low = every-none _; taken = permuted-refl _; earlier = every-none _; leaves = refl }
 
   module _ (n K : ℕ) (two : 2 ≤ K) {gs : List DrawnGate} {done : List GatesMapped} {staged : List LookupTable} (p : Progress base n K gs done staged)
+      (g : DrawnGate) (gates : AreMapped done (faninGates (g .fanins))) where
+    reads-end : gatesRead (gs ++ (g ∷ [])) ≡ gatesRead gs ++ (faninGates (g .fanins) ++ [])
+    reads-end = gather-append (λ x. faninGates (x .fanins)) gs (g ∷ [])
+
+    all-mapped : AreMapped done (gatesRead gs ++ (faninGates (g .fanins) ++ []))
+    all-mapped = every-append (gatesRead gs) _ (p .read) (every-append (faninGates (g .fanins)) [] gates (every-none _))
+
+    reads-mapped : AreMapped done (gatesRead (gs ++ (g ∷ [])))
+    reads-mapped = rw (← reads-end) at all-mapped
+
+    -- the leaves, with those under the gates that are read: those under all gates, and under this one
+    all-leaves : length (leafNets (gs ++ (g ∷ []))) + sum (λ j. leafCount (mappedAt done j)) (gatesRead (gs ++ (g ∷ [])))
+        ≡ sum leafCount done + (length (faninNets (g .fanins)) + sum (λ j. leafCount (mappedAt done j)) (faninGates (g .fanins)))
+    all-leaves =
+        let l = ap length (gather-append (λ x. faninNets (x .fanins)) gs (g ∷ [])) ∙ length-append (leafNets gs) (faninNets (g .fanins) ++ []) in
+        let m = length-append (faninNets (g .fanins)) [] in
+        let s = ap (sum (λ j. leafCount (mappedAt done j))) reads-end in
+        let t = sum-append (λ j. leafCount (mappedAt done j)) (gatesRead gs) (faninGates (g .fanins) ++ []) in
+        let u = sum-append (λ j. leafCount (mappedAt done j)) (faninGates (g .fanins)) [] in
+        omega (arith, p .leaves)
+
+    -- the keys of the gate's fanins ask for no more leaves than there are: each gate is read once
+    pub next-keys : Distinct (gatesRead (gs ++ (g ∷ []))) → sum fewestLeaves (keysOf done (g .fanins)) ≤ length (leafNets (gs ++ (g ∷ [])))
+    next-keys once =
+        let m = mapped-sums done (gatesRead (gs ++ (g ∷ []))) once reads-mapped leafCount (λ d. 0) (λ d i. omega arith) in
+        omega (arith, all-leaves, sum-none (gatesRead (gs ++ (g ∷ []))), fanins-few K two (p .stood) (g .fanins) gates)
+
+  module _ (n K : ℕ) (two : 2 ≤ K) {gs : List DrawnGate} {done : List GatesMapped} {staged : List LookupTable} (p : Progress base n K gs done staged)
       (g : DrawnGate) (many : 2 ≤ length (g .fanins)) (nets : Every (λ x. x ≤ base) (faninNets (g .fanins)))
       (gates : AreMapped done (faninGates (g .fanins))) {plan : List Token} {a : Key} (least : LeastReach K (keysOf done (g .fanins)) a)
       (planned : Planned K (keysOf done (g .fanins)) (upto (length (keysOf done (g .fanins)))) plan a) where
@@ -180,12 +226,6 @@ module _ (base : ℕ) where
     done-length : length (done ++ (mapped ∷ [])) ≡ suc (length done)
     done-length = omega (arith, length-append done (mapped ∷ []))
 
-    reads-end : gatesRead (gs ++ (g ∷ [])) ≡ gatesRead gs ++ (faninGates (g .fanins) ++ [])
-    reads-end = gather-append (λ x. faninGates (x .fanins)) gs (g ∷ [])
-
-    all-mapped : AreMapped done (gatesRead gs ++ (faninGates (g .fanins) ++ []))
-    all-mapped = every-append (gatesRead gs) _ (p .read) (every-append (faninGates (g .fanins)) [] gates (every-none _))
-
     staged-length : n + length (staged ++ next .new) ≡ n + length staged + length (next .new)
     staged-length = omega (arith, length-append staged (next .new))
 
@@ -198,31 +238,17 @@ module _ (base : ℕ) where
         permuted-length (split-nets (split {k = g .kind} {m = 0} {fs = next .body} (next .is .matched)))
         ∙ fanin-leaves K two (p .stood) (g .fanins) gates
 
-    reads-leaves : sum (λ j. leafCount (mappedAt (done ++ (mapped ∷ [])) j)) (gatesRead (gs ++ (g ∷ []))) ≡ sum (λ j. leafCount (mappedAt done j)) (gatesRead (gs ++ (g ∷ [])))
-    reads-leaves =
-        sum-same (λ j. leafCount (mappedAt (done ++ (mapped ∷ [])) j)) (λ j. leafCount (mappedAt done j)) (gatesRead (gs ++ (g ∷ [])))
-        (λ j i. let b = (rw (← reads-end) at all-mapped) j i in ap leafCount (List·getD-append done (mapped ∷ []) unmapped (j - 1) (omega arith)))
-
-    all-leaves : length (leafNets (gs ++ (g ∷ []))) + sum (λ j. leafCount (mappedAt done j)) (gatesRead (gs ++ (g ∷ []))) ≡ sum leafCount done + leafCount mapped
-    all-leaves =
-        let l = ap length (gather-append (λ x. faninNets (x .fanins)) gs (g ∷ [])) ∙ length-append (leafNets gs) (faninNets (g .fanins) ++ []) in
-        let m = length-append (faninNets (g .fanins)) [] in
-        let s = ap (sum (λ j. leafCount (mappedAt done j))) reads-end in
-        let t = sum-append (λ j. leafCount (mappedAt done j)) (gatesRead gs) (faninGates (g .fanins) ++ []) in
-        let u = sum-append (λ j. leafCount (mappedAt done j)) (faninGates (g .fanins)) [] in
-        omega (arith, p .leaves, new-leaves)
-
-    -- few tables stand below it: the gates that were read are others, each read once
-    next-below : Distinct (gatesRead (gs ++ (g ∷ []))) → a .below + 2 ≤ length (leafNets (gs ++ (g ∷ [])))
-    next-below once =
-        let m = mapped-sums done (gatesRead (gs ++ (g ∷ []))) once (rw (← reads-end) at all-mapped) leafCount (λ d. 0) (λ d i. omega arith) in
-        omega (arith, all-leaves, sum-none (gatesRead (gs ++ (g ∷ []))), next .is .count, next .is .many, tables-most* K (next .body) (next .is .fits))
+    -- what is read of the gates before is as it was
+    reads-same : (f : GatesMapped → ℕ) → sum (λ j. f (mappedAt (done ++ (mapped ∷ [])) j)) (gatesRead (gs ++ (g ∷ []))) ≡ sum (λ j. f (mappedAt done j)) (gatesRead (gs ++ (g ∷ [])))
+    reads-same f =
+        sum-same (λ j. f (mappedAt (done ++ (mapped ∷ [])) j)) (λ j. f (mappedAt done j)) (gatesRead (gs ++ (g ∷ [])))
+        (λ j i. let b = reads-mapped n K two p g gates j i in ap f (List·getD-append done (mapped ∷ []) unmapped (j - 1) (omega arith)))
 
     -- ONE GATE MORE: its plan's run leaves the table that holds the gate, and the tables placed are staged after the others
     next-progress : Progress base n K (gs ++ (g ∷ [])) (done ++ (mapped ∷ [])) (staged ++ next .new)
     next-progress = record {
       stood = rw (trees-end [] gs g) (paired-append (p .stood) (pair next-stood no-pair));
-      read = rw reads-end (λ j m. let h = all-mapped j m in (h .0, omega (arith, done-length)));
+      read = λ j m. let h = reads-mapped n K two p g gates j m in (h .0, omega (arith, done-length));
       low =
           rw staged-length
           (every-append done (mapped ∷ [])
@@ -231,8 +257,8 @@ module _ (base : ℕ) where
       taken =
           rw (
             numbers,
-            reads-end,
-            mapped-end done mapped (gatesRead gs ++ (faninGates (g .fanins) ++ [])) all-mapped,
+            reads-end n K two p g gates,
+            mapped-end done mapped (gatesRead gs ++ (faninGates (g .fanins) ++ [])) (all-mapped n K two p g gates),
             gather-append (λ j. innerOf base (mappedAt done j)) (gatesRead gs) (faninGates (g .fanins) ++ []),
             gather-append (λ j. innerOf base (mappedAt done j)) (faninGates (g .fanins)) [],
             gather-append (innerOf base) done (mapped ∷ []),
@@ -241,11 +267,25 @@ module _ (base : ℕ) where
           (gather (λ j. innerOf base (mappedAt done j)) (faninGates (g .fanins))) (gather (innerOf base) done) (innerOf base mapped) (p .taken)
           (rw (inner-fanins done (g .fanins)) at (next .taken)));
       earlier = rw numbers (every-append (numbered n staged) _ (p .earlier) (next .earlier));
-      leaves = omega (arith, all-leaves, reads-leaves, sum-append leafCount done (mapped ∷ []));
+      leaves = omega (arith, all-leaves n K two p g gates, new-leaves, reads-same leafCount, sum-append leafCount done (mapped ∷ []));
     }
 
+    -- few tables are staged then: the gates that were read are others, each read once, and took their leaves along
+    next-few : Distinct (gatesRead (gs ++ (g ∷ []))) → length (staged ++ next .new) + 2 ≤ length (leafNets (gs ++ (g ∷ [])))
+    next-few once =
+        let m = mapped-sums done (gatesRead (gs ++ (g ∷ []))) once (reads-mapped n K two p g gates) leafCount (innerCount base) (stood-counts base (p .stood)) in
+        omega (
+          arith,
+          staged-count base next-progress,
+          reads-same (innerCount base),
+          sum-append (innerCount base) done (mapped ∷ []),
+          all-leaves n K two p g gates,
+          new-leaves,
+          stood-count base next-stood,
+        )
+
     pub mapping-next : NextGate base n K gs done staged g plan a
-    mapping-next = record { body = next .body; new = next .new; ends = next .ends; progress = next-progress; is = (edgesOf (treesOf [] gs) (g .fanins), next .is); below = next-below }
+    mapping-next = record { body = next .body; new = next .new; ends = next .ends; progress = next-progress; is = (edgesOf (treesOf [] gs) (g .fanins), next .is); few = next-few }
 
   -- ---- the root
 

@@ -16,7 +16,7 @@ use Rattle.plan.specs.declared.Plan.{Plan}
 use Rattle.plan.specs.declared.Token.the-variants.{Push, Join}
 use Rattle.plan.specs.Key.{_≼_, join, cuts}
 use Rattle.plan.specs.KeyLaws.{join-way, join-mono, join-comm}
-use Rattle.plan.specs.Entries.{FaninKey, Small, Joinable}
+use Rattle.plan.specs.Entries.{Small, Joinable}
 use Rattle.plan.specs.Reach.{Reach, one, both, LeastReach}
 use Rattle.plan.specs.ReachLaws.{no-reach, least-single, reach-wide}
 use Rattle.plan.specs.Plans.{fanin, binary}
@@ -82,17 +82,14 @@ module _ {K first : ℕ} (i : Bool) (x : Held) (j : Bool) (y : Held) (m : Mappab
   two : 2 ≤ K
   two = m .keys .table .0
 
-  left-fanin : FaninKey K a
+  left-fanin : Small K a
   left-fanin = every-head (every-tail (m .keys .keys))
 
-  right-fanin : FaninKey K b
+  right-fanin : Small K b
   right-fanin = every-head (m .keys .keys)
 
-  small : {c : Key} → FaninKey K c → Small K c
-  small f = record { some = f .some; most = f .most; few = omega (arith, f .few) }
-
   pub pair-joinable : Joinable K a b
-  pair-joinable = record { table = m .keys .table; left = small left-fanin; right = small right-fanin }
+  pair-joinable = record { table = m .keys .table; left = left-fanin; right = right-fanin; few = omega (arith, m .keys .few) }
 
   abbrev plan : Plan
   plan = record {

@@ -14,12 +14,11 @@ use Rattle.lists.specs.ListLaws.{every-none, every-cons, every-head, every-appe
 use Rattle.lists.specs.NumberLaws.{sorted-permuted}
 use Rattle.tree.specs.declared.Kind.the-variants.{And}
 use Rattle.tree.specs.Trusted.Limits.{codeBase}
-use Rattle.plan.specs.Entries.{Small, FaninKey}
+use Rattle.plan.specs.Entries.{Small, FewLeaves}
 use Rattle.plan.specs.Reach.{LeastReach}
 use Rattle.plan.specs.ReachBounds.{reach-small}
 use Rattle.plan.specs.Plans.{Planned}
 use Rattle.cover.specs.Trusted.Placed.{codes*, held*, gateTable}
-use Rattle.cover.specs.Nets.{least-bounds}
 use Rattle.cover.specs.Trusted.CoverTables.{LeastCoverTables}
 use Rattle.cover.specs.Size.{codes-length*}
 use Rattle.cover.specs.Trusted.Tables.{LookupTable}
@@ -29,7 +28,7 @@ use Rattle.sheet.specs.declared.Edge.{Edge}
 use Rattle.sheet.specs.Trusted.Limits.{mostGates}
 use Rattle.sheet.specs.Trusted.Sheet.{DrawnGate, DrawnSheet, gateOf, faninNets, faninGates, leafNets, gatesRead}
 use Rattle.sheet.specs.Trusted.Trees.{drawn}
-use Rattle.sheet.specs.TreeLaws.{leaves-count}
+use Rattle.sheet.specs.ByteLaws.{formed-tables}
 use Rattle.sheet.specs.declared.Sheet.{Sheet}
 use Rattle.sheet.specs.declared.Gate.{Gate as SheetGate}
 use Rattle.sheet.specs.Trusted.Answers.{drawnGate, drawnSheet}
@@ -49,11 +48,10 @@ use Rattle.mapper_laws.specs.Run.{runPlan}
 use Rattle.pending.specs.Pendings.{operandOf, MergeKept}
 use Rattle.mapper_laws.specs.CodeRun.{noTable, operandAt, stackOf, placedOf, stateOf, begun}
 use Rattle.mapper_laws.specs.Mapping.{GatesMapped, unmapped, mappedAt, keyOf, keysOf, heldTable, Progress, NextGate}
-use Rattle.mapper_laws.specs.CodeMap.{keysIn, Mappable, GateMapped, HeldIs, noHeld, HeldAll, Gathered, Gathering, Staged, Reaches, Gathers, tablesIn, Sheetable, SheetMapped, Going, flipped, driving, rooted}
-use Rattle.mapper_laws.specs.MappingLaws.{source-standing, mapping-start, mapping-next, mapping-added, done-count}
+use Rattle.mapper_laws.specs.CodeMap.{keysIn, Mappable, GateMapped, HeldIs, noHeld, HeldAll, Gathered, Gathering, Staged, Reaches, Gathers, mostTables, tablesIn, Sheetable, SheetMapped, Going, flipped, driving, rooted}
+use Rattle.mapper_laws.specs.MappingLaws.{source-standing, mapping-start, next-keys, mapping-next, mapping-added, done-count}
 use Rattle.pending.specs.Merging.{Tabled}
 use Rattle.pending.specs.MergeLaws.{tabled-record, tabled-inverted}
-use Rattle.mapper_laws.specs.CountLaws.{staged-few}
 
 -- ---- a gate of a well-formed sheet
 
@@ -103,18 +101,18 @@ facts s w g z l = record {
 
 -- the keys of the fanins can be searched
 fanin-keys : {K : ℕ} (two : 2 ≤ K) {used : ℕ} {gs : List DrawnGate} {done : List GatesMapped} {ts : List LookupTable} → Progress codeBase used K gs done ts →
-    (held : List Held) → HeldAll done held → (fs : List Edge) → Every (λ j. (1 ≤ j) × (j ≤ length done)) (faninGates fs) → Every (FaninKey K) (keysOf done fs)
+    (held : List Held) → HeldAll done held → (fs : List Edge) → Every (λ j. (1 ≤ j) × (j ≤ length done)) (faninGates fs) → Every (Small K) (keysOf done fs)
 fanin-keys two p held a [] m = every-none _
 fanin-keys {K} two {done = done} p held a (f ∷ fs) m =
     every-cons (one (f .source) (every-left (gateOf (f .source)) (faninGates fs) m)) (fanin-keys two p held a fs (every-right (gateOf (f .source)) (faninGates fs) m))
   where
-    one : (s : Source) → Every (λ j. (1 ≤ j) × (j ≤ length done)) (gateOf s) → FaninKey K (keyOf done s)
-    one (Net n) m = record { some = omega arith; most = omega arith; few = omega arith }
+    one : (s : Source) → Every (λ j. (1 ≤ j) × (j ≤ length done)) (gateOf s) → Small K (keyOf done s)
+    one (Net n) m = record { some = omega arith; most = omega arith }
     one (Gate g) m =
         let b = every-head m in
         let h = a (g - 1) (omega arith) in
         let c = source-standing K two (p .stood) (Gate g) m in
-        record { some = h .fits .0; most = omega (arith, c .inputs, c .small); few = h .few }
+        record { some = h .fits .0; most = omega (arith, c .inputs, c .small) }
 
 module _ {K used : ℕ} {s : DrawnSheet} {g : ℕ} {held : List Held} {m : Mapping} {x : DrawnGate} {o : Operands}
     (two : 2 ≤ K) (six : K ≤ inputRoom) (start : used ≤ tableRoom) (y : Going K used (s .gates) g held m) (l : g < length (s .gates))
@@ -129,17 +127,29 @@ module _ {K used : ℕ} {s : DrawnSheet} {g : ℕ} {held : List Held} {m : Mappi
   all-gathered : Gathered (y .done) (x .fanins) o
   all-gathered = subst (λ fs. Gathered (y .done) fs o) (take-length (x .fanins)) (q .gathered (y .done) (y .all) are-mapped)
 
-  key-list : Every (FaninKey K) (keysIn o)
+  key-list : Every (Small K) (keysIn o)
   key-list = rw (all-gathered .keys) (fanin-keys two (y .progress) held (y .all) (x .fanins) are-mapped)
 
   key-length : length (keysIn o) ≡ length (x .fanins)
   key-length = ap length (all-gathered .keys) ∙ length-map (x .fanins) (λ f. keyOf (y .done) (f .source))
 
+  last-gate : take (suc g) (s .gates) ≡ take g (s .gates) ++ (x ∷ [])
+  last-gate = take-suc (s .gates) g noGate l ∙ ap (λ z. take g (s .gates) ++ (z ∷ [])) is
+
+  read-once : Distinct (gatesRead (take g (s .gates) ++ (x ∷ [])))
+  read-once = subst (λ gs. Distinct (gatesRead gs)) last-gate (f .once)
+
+  few-leaves : length (leafNets (take g (s .gates) ++ (x ∷ []))) ≤ 256
+  few-leaves = subst (λ gs. length (leafNets gs) ≤ 256) last-gate (f .leaves)
+
+  few-keys : FewLeaves (keysIn o)
+  few-keys = rw (all-gathered .keys) (omega (arith, next-keys codeBase used K two (y .progress) x are-mapped read-once, few-leaves))
+
   pub gate-mappable : Mappable K (used + m .count) o
   gate-mappable = record {
     before = omega (arith, start, y .few);
     good = record { count = omega (arith, q .count, f .many .1); room = q .room; neat = all-gathered .neat };
-    keys = record { table = (two, six); count = (omega (arith, key-length, f .many .0), omega (arith, key-length, f .many .1)); keys = key-list };
+    keys = record { table = (two, six); count = (omega (arith, key-length, f .many .0), omega (arith, key-length, f .many .1)); keys = key-list; few = few-keys };
     key-room = q .key-room;
     widths = all-gathered .widths;
   }
@@ -180,20 +190,11 @@ module _ {K used : ℕ} {s : DrawnSheet} {g : ℕ} {held : List Held} {m : Mappi
     new-tables : placedOf (r .run) ≡ next .new
     new-tables = ap (λ z. z .placed) ends
 
-    last-gate : take (suc g) (s .gates) ≡ take g (s .gates) ++ (x ∷ [])
-    last-gate = take-suc (s .gates) g noGate l ∙ ap (λ z. take g (s .gates) ++ (z ∷ [])) is
-
-    read-once : Distinct (gatesRead (take g (s .gates) ++ (x ∷ [])))
-    read-once = subst (λ gs. Distinct (gatesRead gs)) last-gate (f .once)
-
-    few-leaves : length (leafNets (take g (s .gates) ++ (x ∷ []))) ≤ 256
-    few-leaves = subst (λ gs. length (leafNets gs) ≤ 256) last-gate (f .leaves)
-
-    pub stage-room : (m .count + r .run .placed ≤ 256) × (r .run .placed ≤ 18)
+    pub stage-room : (m .count + r .run .placed ≤ mostTables) × (r .run .placed ≤ 18)
     stage-room = (
       omega (
         arith,
-        staged-few codeBase (next .progress) read-once,
+        next .few read-once,
         few-leaves,
         length-append (tablesIn (m .count) (m .tables)) (next .new),
         staged-count,
@@ -204,7 +205,7 @@ module _ {K used : ℕ} {s : DrawnSheet} {g : ℕ} {held : List Held} {m : Mappi
     )
 
     small : Small K (p .key)
-    small = reach-small two key-list (omega (arith, key-length, f .many .1)) (p .least .reach)
+    small = reach-small K two key-list (p .least .reach)
 
     held-is : HeldIs (r .held) mapped
     held-is = record {
@@ -212,7 +213,6 @@ module _ {K used : ℕ} {s : DrawnSheet} {g : ℕ} {held : List Held} {m : Mappi
       below = p .below;
       width = sym (permuted-length (sorted-permuted (codes* codeBase (next .body)))) ∙ codes-length* codeBase (next .body) ∙ next .is .1 .inputs;
       fits = (small .some, omega (arith, small .most, six));
-      few = omega (arith, next .below read-once, few-leaves);
     }
 
     held-all : HeldAll (y .done ++ (mapped ∷ [])) (set held g (r .held))
@@ -252,7 +252,7 @@ module _ {K used : ℕ} {s : DrawnSheet} {g : ℕ} {held : List Held} {m : Mappi
 
 -- ---- the beginning and the end
 
-pub going-start : {K used : ℕ} {gs : List DrawnGate} {held : List Held} {m : Mapping} → m .count ≡ 0 → length (m .tables) ≡ 256 → length held ≡ mostGates → Going K used gs 0 held m
+pub going-start : {K used : ℕ} {gs : List DrawnGate} {held : List Held} {m : Mapping} → m .count ≡ 0 → length (m .tables) ≡ mostTables → length held ≡ mostGates → Going K used gs 0 held m
 going-start {K} {used} {m = m} e l h = record {
   done = [];
   progress = rw e (mapping-start codeBase used K);
@@ -296,14 +296,11 @@ module _ {K used : ℕ} {s : DrawnSheet} {g : ℕ} {held : List Held} {m : Mappi
   records-count : length (tablesIn (m .count) (m .tables)) ≡ m .count
   records-count = length-map (take (m .count) (m .tables)) tableOf ∙ length-take-le (m .count) (m .tables) (omega (arith, y .few, y .table-room))
 
-  pub root-room : (m .count + 2 ≤ 256) × Tabled (rootHeld .table)
+  pub root-room : (m .count < mostTables) × Tabled (rootHeld .table)
   root-room = (
-    omega (
-      arith,
-      least-bounds K (added (replicate used rootTable) (length-replicate used rootTable) .fewest) .0,
-      leaves-count s w,
-      length-append (tablesIn (m .count) (m .tables)) (rootTable ∷ []),
-      records-count,
+    (
+      let c = added (replicate used rootTable) (length-replicate used rootTable) .fewest .some in
+      omega (arith, formed-tables w (c .1), c .2, length-append (tablesIn (m .count) (m .tables)) (rootTable ∷ []), records-count)
     ),
     rw (root-held .table) (tabled-record 0 (sorted (codes* codeBase (root .body))) (held* codeBase (root .body) (root .kind)) (omega (arith, root-held .width, root-held .fits .1))),
   )
@@ -381,7 +378,7 @@ module _ {K used : ℕ} (c : Sheet) (p : Sheetable K used c) (room : length (c .
       step-mappable q = gate-mappable (p .table .0) (p .table .1) (p .before) y inside drawn-few here-drawn here-facts q
 
       pub step-room : {o : Operands} {r : MappedGate} → Gathers (c .fanins) here held o → GateMapped K (used + m .count) (here .kind) o r →
-          (m .count + r .run .placed ≤ 256) × (r .run .placed ≤ 18)
+          (m .count + r .run .placed ≤ mostTables) × (r .run .placed ≤ 18)
       step-room q e = stage-room (p .table .0) (p .table .1) (p .before) y inside drawn-few here-drawn here-facts q e
 
       pub step-next : {o : Operands} {r : MappedGate} {n : Mapping} → Gathers (c .fanins) here held o → GateMapped K (used + m .count) (here .kind) o r → Staged m (r .run) n →
@@ -392,7 +389,7 @@ module _ {K used : ℕ} (c : Sheet) (p : Sheetable K used c) (room : length (c .
       ended-at : length (drawnSheet c .gates) - 1 ≡ c .count - 1
       ended-at = ap (λ n. n - 1) drawn-count
 
-      pub end-room : (m .count < 256) × Tabled (getD held (c .count - 1) noHeld .table)
+      pub end-room : (m .count < mostTables) × Tabled (getD held (c .count - 1) noHeld .table)
       end-room =
           let r = root-room (p .table .0) (p .formed) y (omega (arith, drawn-count)) in
           (omega (arith, r .0), subst (λ n. Tabled (getD held n noHeld .table)) ended-at (r .1))

@@ -6,7 +6,7 @@ use table::Table;
 
 // A mapped gate that is not placed: how many tables stand below the one that holds it, and that table.
 pub struct Held {
-    pub below: u16,
+    pub below: u8,
     pub table: Table,
 }
 
@@ -38,8 +38,11 @@ pub struct MappedPair {
     pub tables: [Table; 2],
 }
 
+// The most tables of a sheet, so that a byte counts them.
+pub const MOST_TABLES: usize = 255;
+
 // The tables of a sheet, the root's last. What stands past the count is of no matter.
 pub struct Mapping {
-    pub count: u16,
-    pub tables: [Table; 256],
+    pub count: u8,
+    pub tables: [Table; MOST_TABLES],
 }

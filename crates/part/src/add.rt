@@ -49,7 +49,8 @@ impl Part {
             return self.refused(Adding::OutputRead);
         }
         let mapping = map(sheet, self.k, used);
-        if mapping.count > self.capacity - used {
+        let needed = mapping.count as u16;
+        if needed > self.capacity - used {
             return self.refused(Adding::Full);
         }
         let count = mapping.count as usize;
@@ -60,7 +61,7 @@ impl Part {
             self.tables[at] = t;
             n += 1;
         }
-        self.used = used + mapping.count;
+        self.used = used + needed;
         Added {
             part: self,
             answer: Adding::Accepted,

@@ -9,26 +9,30 @@ use Rattle.lists.specs.Sequences.{sum}
 use Rattle.plan.specs.declared.Key.{Key}
 use Rattle.plan.specs.Key.{key, leaf-key, _≼_, join}
 use Rattle.tree.specs.Trusted.Limits.{fewestFanins, mostFanins}
-use Rattle.plan.specs.Limits.{leastInputs, mostInputs, mostBelow, mostReached, mostJoined, masks}
+use Rattle.plan.specs.Limits.{leastInputs, mostInputs, mostGateLeaves, masks}
 use Rattle.plan.specs.Masks.{select, MaskWithin}
 use Rattle.plan.specs.Reach.{LeastReach}
-use Rattle.plan.specs.Volume.{volume}
+use Rattle.plan.specs.Volume.{volume, fewestLeaves}
 
 -- the key at a mask
 abbrev pub entry : List ℕ → List ℕ → ℕ → Key
 entry bs ws s = key (getD bs s 0) (getD ws s 0)
 
--- a key of at least one input and at most K, with few enough tables below
+-- a key of at least one input and at most K
 pub record Small (K : ℕ) (a : Key) : Type 0 where
   pub some : 1 ≤ a .width
   pub most : a .width ≤ K
-  pub few : a .below ≤ mostReached
+
+-- there are no more leaves under two keys than under a gate
+abbrev pub FewUnder : Key → Key → Type 0
+FewUnder a b = fewestLeaves a + fewestLeaves b ≤ mostGateLeaves
 
 -- two such keys, and a table of 2 to 6 inputs
 pub record Joinable (K : ℕ) (a b : Key) : Type 0 where
   pub table : (leastInputs ≤ K) × (K ≤ mostInputs)
   pub left : Small K a
   pub right : Small K b
+  pub few : FewUnder a b
 
 -- at two masks
 pub record JoinableAt (K : ℕ) (bs ws : List ℕ) (x y : ℕ) : Type 0 where
@@ -39,20 +43,20 @@ pub record JoinableAt (K : ℕ) (bs ws : List ℕ) (x y : ℕ) : Type 0 where
 pub record Joined (K : ℕ) (a : Key) : Type 0 where
   pub table : (leastInputs ≤ K) × (K ≤ mostInputs)
   pub most : a .width ≤ K
-  pub few : a .below ≤ mostJoined
 
 -- at each mask below n
 abbrev pub Smalls : ℕ → List ℕ → List ℕ → ℕ → Type 0
 Smalls K bs ws n = (s : ℕ) → 0 < s → s < n → Small K (entry bs ws s)
 
--- a mask of two bits or more: its highest, and r below it; with keys at all smaller masks, of which no join by a submask of r
--- has a volume below `least`
+-- a mask of two bits or more: its highest, and r below it; with keys at all smaller masks, of which those at a submask of r and at
+-- the rest have few leaves, and no join of two such has a volume below `least`
 pub record Split (K top r least : ℕ) (bs ws : List ℕ) : Type 0 where
   pub table : (leastInputs ≤ K) × (K ≤ mostInputs)
   pub some : 0 < r
   pub below : r < top
   pub within : top + r < masks
   pub keys : Smalls K bs ws (top + r)
+  pub few : (v : ℕ) → 0 < v → MaskWithin v r → FewUnder (entry bs ws (top + r - v)) (entry bs ws v)
   pub bound : (v : ℕ) → 0 < v → MaskWithin v r → least ≤ volume K (join K (entry bs ws (top + r - v)) (entry bs ws v))
 
 -- `a` is the join of the keys at u, a submask of r, and at the rest of top + r
@@ -81,17 +85,16 @@ pub record Entries (K : ℕ) (ks : List Key) (bs ws us : List ℕ) (n : ℕ) : T
 pub record Volumes (K : ℕ) (ks : List Key) (vs : List ℕ) (n : ℕ) : Type 0 where
   pub at : (s : ℕ) → 0 < s → s < n → getD vs s 0 ≡ sum (volume K) (select s ks)
 
--- the key of a fanin: at least one input and at most K, with few tables below
-pub record FaninKey (K : ℕ) (a : Key) : Type 0 where
-  pub some : 1 ≤ a .width
-  pub most : a .width ≤ K
-  pub few : a .below ≤ mostBelow
+-- there are no more leaves under the fanins with these keys than under a gate
+abbrev pub FewLeaves : List Key → Type 0
+FewLeaves ks = sum fewestLeaves ks ≤ mostGateLeaves
 
 -- what can be searched: the keys of from 2 to 10 fanins
 pub record GoodKeys (K : ℕ) (ks : List Key) : Type 0 where
   pub table : (leastInputs ≤ K) × (K ≤ mostInputs)
   pub count : (fewestFanins ≤ length ks) × (length ks ≤ mostFanins)
-  pub keys : Every (FaninKey K) ks
+  pub keys : Every (Small K) ks
+  pub few : FewLeaves ks
 
 -- and the arrays for it: one place for each mask of ten fanins
 pub record Fillable (K count : ℕ) (keys : List Key) (bs ws us vs : List ℕ) : Type 0 where

@@ -13,14 +13,14 @@ use Rattle.lists.specs.Sequences.{sum}
 use Rattle.lists.specs.NumberLaws.{sum-inserted, sum-mix}
 use Rattle.plan.specs.declared.Key.{Key}
 use Rattle.plan.specs.Key.{leaf-key, join}
-use Rattle.plan.specs.Limits.{mostInputs, mostReached}
+use Rattle.plan.specs.Limits.{mostInputs, mostGateLeaves}
 use Rattle.plan.specs.Masks.{select, MaskWithin}
 use Rattle.plan.specs.MaskLaws.{within-le, within-top, select-mix, select-top, select-none, select-every}
 use Rattle.plan.specs.MaskSearch.{mask-one, mask-step}
 use Rattle.plan.specs.Reach.{Wide}
-use Rattle.plan.specs.ReachBounds.{select-small}
-use Rattle.plan.specs.Entries.{entry, Smalls, BestJoin, Entered, Entries, Volumes, GoodKeys}
-use Rattle.plan.specs.Volume.{volume}
+use Rattle.plan.specs.ReachBounds.{reach-leaves, select-small, select-few}
+use Rattle.plan.specs.Entries.{entry, FewUnder, Smalls, BestJoin, Entered, Entries, Volumes, GoodKeys}
+use Rattle.plan.specs.Volume.{volume, fewestLeaves}
 use Rattle.plan.specs.VolumeLaws.{volume-most, join-volume, reach-volume}
 
 kept : (xs : List ℕ) (i x s : ℕ) → s < i → getD (set xs i x) s 0 ≡ getD xs s 0
@@ -121,8 +121,25 @@ module _ {K : ℕ} {ks : List Key} (good : GoodKeys K ks) where
         join-volume K (good .table .0) (entry bs ws (s - u)) (entry bs ws u) (m (s - u) q k .most) (m u p l .most),
       )
 
+  -- few leaves stand under a mask, and under a submask and the rest
+  entry-leaves : {bs ws us : List ℕ} {n : ℕ} → Entries K ks bs ws us n → (s : ℕ) → 0 < s → s < n →
+      fewestLeaves (entry bs ws s) ≤ sum fewestLeaves (select s ks)
+  entry-leaves es s p l = reach-leaves K (good .table .0) (es .at s p l .least .reach)
+
+  pub join-few : {bs ws us : List ℕ} {s : ℕ} → Entries K ks bs ws us s → (u : ℕ) → 0 < u → u < s → MaskWithin u s →
+      FewUnder (entry bs ws (s - u)) (entry bs ws u)
+  join-few {s = s} es u p l w =
+      omega (
+        arith,
+        sum-mix fewestLeaves (select-mix ks u s w),
+        entry-leaves es (s - u) (omega arith) (omega arith),
+        entry-leaves es u p l,
+        select-few good s,
+      )
+
   pub volumes-few : {bs ws us vs : List ℕ} {n : ℕ} → Entries K ks bs ws us n → Volumes K ks vs n → (s : ℕ) → 0 < s → s < n →
-      getD vs s 0 ≤ (mostInputs - 1) * mostReached + mostInputs
+      getD vs s 0 ≤ (mostInputs - 1) * mostGateLeaves + mostInputs
   volumes-few {bs} {ws} es f s p l =
       let m = entries-small es s p l in
-      omega (arith, f .at s p l, entry-volume es s p l, volume-most {a = entry bs ws s} mostInputs mostReached (good .table .1) (m .most) (m .few))
+      let b = volume-most {a = entry bs ws s} mostInputs mostGateLeaves (good .table .1) (m .most) (omega (arith, entry-leaves es s p l, select-few good s)) in
+      omega (arith, f .at s p l, entry-volume es s p l)

@@ -9,6 +9,7 @@ use lib.Dec.{leb}
 use Rattle.lists.specs.Cases.{by-leb, if-leb}
 use Rattle.plan.specs.declared.Key.{Key}
 use Rattle.plan.specs.Key.{key, _≼_, better, _⊕_, pack, join, cuts, KeyTaken, held, cut, Way}
+use Rattle.plan.specs.Volume.{fewestLeaves}
 
 key-path : {a b : Key} → a .below ≡ b .below → a .width ≡ b .width → a ≡ b
 key-path p q = λ i. key (p i) (q i)
@@ -64,10 +65,6 @@ is-pack r K c w m h =
     (λ f g. let e = h .1 f g in key-path (e .0) (e .1))
     (λ f g. let e = h .2 f g in key-path (e .0) (e .1))
 
--- a join has at most two tables more than its operands have
-pub join-below : (K : ℕ) (a b : Key) → (join K a b) .below ≤ a .below + b .below + 2
-join-below K a b = pack-cases K _ _ _ (λ r. r .below ≤ a .below + b .below + 2) (omega arith) (omega arith) (omega arith)
-
 pub join-comm : (K : ℕ) (a b : Key) → join K a b ≡ join K b a
 join-comm K a b = rw (add-comm (a .below), add-comm (a .width), min-comm (a .width))
 
@@ -118,6 +115,10 @@ module _ (K : ℕ) (two : 2 ≤ K) where
       let s = w .took-left in
       let t = w .took-right in
       rw (w .is) (join-low (≼-trans h (taken-above s)) (≼-trans k (taken-above t)) (taken-wide s u) (taken-wide t v) (w .fits))
+
+  -- what it places has two inputs or more
+  pub join-leaves : (a b : Key) → fewestLeaves (join K a b) ≤ fewestLeaves a + fewestLeaves b
+  join-leaves a b = pack-cases K _ _ _ (λ r. fewestLeaves r ≤ fewestLeaves a + fewestLeaves b) (omega arith) (omega arith) (omega arith)
 
   pub join-width : (a b : Key) → 1 ≤ a .width → 1 ≤ b .width → (2 ≤ (join K a b) .width) × ((join K a b) .width ≤ K)
   join-width a b u v = pack-cases K _ _ _ (λ r. (2 ≤ r .width) × (r .width ≤ K)) (omega arith) (omega arith) (omega arith)

@@ -1,6 +1,5 @@
 -- The numbers that bound the search for one gate, each named once; the code's are in src/lib.rt. Internal definitions.
-use Prim.Native.Nat.{ℕ, _+_, _-_, _*_}
-use Rattle.tree.specs.Trusted.Limits.{mostFanins}
+use Prim.Native.Nat.{ℕ}
 
 -- a table has from 2 to 6 inputs
 abbrev pub leastInputs : ℕ
@@ -9,17 +8,9 @@ leastInputs = 2
 abbrev pub mostInputs : ℕ
 mostInputs = 6
 
--- the most tables below one fanin's root
-abbrev pub mostBelow : ℕ
-mostBelow = 255
-
--- and below the root of a gate of at most that many fanins: each fanin adds its own and two, the first its own alone
-abbrev pub mostReached : ℕ
-mostReached = mostFanins * (mostBelow + 2) - 2
-
--- and below a join of two such
-abbrev pub mostJoined : ℕ
-mostJoined = 2 * mostReached + 2
+-- the most leaves under a gate: then a byte holds each number of tables below it
+abbrev pub mostGateLeaves : ℕ
+mostGateLeaves = 256
 
 -- the sets of at most that many fanins
 abbrev pub masks : ℕ

@@ -9,7 +9,7 @@ use Rattle.plan.specs.PlanOf.{faninTest, goodInput}
 
 -- two fanins, of which the second has the key, and others past them
 unfoldable two : ℕ → ℕ → Key → Bool
-two K count a = goodInput K count (leaf-key ∷ a ∷ key 999 9 ∷ [])
+two K count a = goodInput K count (leaf-key ∷ a ∷ key 255 9 ∷ [])
 
 good : (two 2 2 leaf-key ≡ true) × (two 6 2 (key 255 6) ≡ true)
 unfolding two goodInput faninTest
@@ -19,6 +19,6 @@ bad-limits : (two 1 2 leaf-key ≡ false) × (two 7 2 leaf-key ≡ false) × (tw
 unfolding two goodInput faninTest
 bad-limits = (refl, refl, refl, refl)
 
-bad-keys : (two 4 2 (key 0 0) ≡ false) × (two 4 2 (key 0 5) ≡ false) × (two 4 2 (key 256 2) ≡ false) × (two 4 3 leaf-key ≡ false)
+bad-keys : (two 4 2 (key 0 0) ≡ false) × (two 4 2 (key 0 5) ≡ false) × (two 4 3 leaf-key ≡ false)
 unfolding two goodInput faninTest
-bad-keys = (refl, refl, refl, refl)
+bad-keys = (refl, refl, refl)

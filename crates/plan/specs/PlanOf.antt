@@ -3,7 +3,6 @@ use Prim.Native.Nat.{ℕ, _+_, _*_}
 use mathlib.Core.Path.{_≡_}
 use mathlib.Core.Bool.{Bool, true, false, _&&_}
 use mathlib.Core.List.{List}
-use lib.Dec.{leb}
 use lib.ListN.{length, take, replicate}
 use Rattle.lists.specs.Sequences.{upto}
 use Rattle.lists.specs.Trusted.Tests.{all, within, either}
@@ -12,14 +11,14 @@ use Rattle.plan.specs.declared.Token.the-variants.{Push as push}
 use Rattle.plan.specs.declared.Plan.{Plan}
 use Rattle.plan.specs.Key.{key}
 use Rattle.tree.specs.Trusted.Limits.{fewestFanins, mostFanins}
-use Rattle.plan.specs.Limits.{leastInputs, mostInputs, mostBelow, mostSteps}
+use Rattle.plan.specs.Limits.{leastInputs, mostInputs, mostSteps}
 use Rattle.plan.specs.Plans.{Planned}
 use Rattle.plan.specs.Reach.{LeastReach}
 use Rattle.plan.specs.Steps.{tokens}
 
--- the key of a fanin has from 1 to K inputs, and few enough tables below
+-- the key of a fanin has from 1 to K inputs
 unfoldable pub faninTest : ℕ → Key → Bool
-faninTest K a = within 1 K (a .width) && leb (a .below) mostBelow
+faninTest K a = within 1 K (a .width)
 
 -- the first `count` keys can be searched
 unfoldable pub goodInput : ℕ → ℕ → List Key → Bool

@@ -8,28 +8,26 @@ use lib.ListN.{length, take}
 use lib.Seq.{length-take-le}
 use Rattle.lists.specs.Cases.{and-split}
 use Rattle.lists.specs.Trusted.Tests.{within}
-use Rattle.lists.specs.TestLaws.{reflects-le, reflects-map, reflects-and, reflects-all, reflects-within, by-either}
+use Rattle.lists.specs.TestLaws.{reflects-map, reflects-and, reflects-all, reflects-within, by-either}
 use Rattle.lists.specs.Trusted.Tests.{Reflects}
 use Rattle.plan.specs.declared.Key.{Key}
 use Rattle.plan.specs.declared.Plan.{Plan}
 use Rattle.tree.specs.Trusted.Limits.{fewestFanins, mostFanins}
-use Rattle.plan.specs.Limits.{leastInputs, mostInputs, mostBelow, mostSteps}
-use Rattle.plan.specs.Entries.{FaninKey, GoodKeys}
+use Rattle.plan.specs.Limits.{leastInputs, mostInputs, mostSteps}
+use Rattle.plan.specs.Entries.{Small, FewLeaves, GoodKeys}
 use Rattle.plan.specs.PlanOf.{faninTest, goodInput, PlanAnswer, PlanOf}
 
-reflects-fanin : (K : ℕ) (a : Key) → Reflects (faninTest K a) (FaninKey K a)
+reflects-fanin : (K : ℕ) (a : Key) → Reflects (faninTest K a) (Small K a)
 unfolding faninTest
-reflects-fanin K a =
-    reflects-map (λ h. record { some = h .0 .0; most = h .0 .1; few = h .1 }) (λ f. ((f .some, f .most), f .few))
-    (reflects-and (reflects-within 1 K (a .width)) (reflects-le (a .below) mostBelow))
+reflects-fanin K a = reflects-map (λ h. record { some = h .0; most = h .1 }) (λ f. (f .some, f .most)) (reflects-within 1 K (a .width))
 
 -- the input is good where its keys can be searched
-pub reflects-good : (K count : ℕ) (keys : List Key) → length (take count keys) ≡ count →
+pub reflects-good : (K count : ℕ) (keys : List Key) → length (take count keys) ≡ count → FewLeaves (take count keys) →
     Reflects (goodInput K count keys) (GoodKeys K (take count keys))
 unfolding goodInput
-reflects-good K count keys e =
+reflects-good K count keys e few =
     reflects-map
-    (λ h. record { table = h .0; count = rw e (h .1 .0); keys = h .1 .1 })
+    (λ h. record { table = h .0; count = rw e (h .1 .0); keys = h .1 .1; few = few })
     (λ g. (g .table, (rw e at (g .count), g .keys)))
     (reflects-and (reflects-within leastInputs mostInputs K)
     (reflects-and (reflects-within fewestFanins mostFanins count) (reflects-all (faninTest K) (reflects-fanin K) (take count keys))))
@@ -45,7 +43,7 @@ good-size K count keys l h =
 -- good input has an answer
 pub plan-answer : (K count : ℕ) (keys : List Key) {r : Plan} → length (take count keys) ≡ count → GoodKeys K (take count keys) →
     PlanOf K count keys r → PlanAnswer K (take count keys) r
-plan-answer K count keys e g = by-either (reflects-good K count keys e) (λ h a. a) (λ n z. absurd (n g))
+plan-answer K count keys e g = by-either (reflects-good K count keys e (g .few)) (λ h a. a) (λ n z. absurd (n g))
 
 module _ {K : ℕ} {ks : List Key} {r : Plan} (a : PlanAnswer K ks r) where
   pub answer-most : GoodKeys K ks → r .len ≤ mostSteps

@@ -5,9 +5,6 @@ pub const LEAST_INPUTS: u8 = 2;
 
 pub const MOST_INPUTS: u8 = 6;
 
-// The most tables below the root of a fanin.
-pub const MOST_BELOW: u16 = 255;
-
 // The sets of fanins, and the most steps of a plan.
 pub const MASKS: usize = 1024;
 
@@ -15,7 +12,7 @@ pub const MOST_STEPS: usize = 19;
 
 // What matters of a cover of a tree: the tables below the one that holds the root, and the inputs of that one.
 pub struct Key {
-    pub below: u16,
+    pub below: u8,
     pub width: u8,
 }
 

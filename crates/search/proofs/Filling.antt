@@ -18,7 +18,7 @@ use Rattle.tree.specs.Trusted.Limits.{mostFanins}
 use Rattle.plan.specs.Limits.{masks}
 use Rattle.plan.specs.Key.{leaf-key}
 use Rattle.plan.specs.Entries.{BestJoin, Entered, Entries, Volumes, Joined, Split, GoodKeys}
-use Rattle.plan.specs.EntryLaws.{entries-more, entries-small, entered-one, entered-join, volumes-more, volumes-few, volume-one, join-bound}
+use Rattle.plan.specs.EntryLaws.{entries-more, entries-small, entered-one, entered-join, volumes-more, volumes-few, volume-one, join-bound, join-few}
 use Rattle.plan.specs.Masks.{select, MaskWithin}
 use Rattle.plan.specs.MaskLaws.{within-le, within-top, select-mix}
 use Rattle.plan.specs.Volume.{volume}
@@ -97,7 +97,7 @@ module _ {K count : ℕ} {ks : List Key} where
     pub fanin-joined : h < count → (a : Key) → a ≡ getD ks h leaf-key → Joined K a
     fanin-joined l a k =
         let g = every-at ks h leaf-key (good .keys) (omega arith) in
-        rw k (record { table = good .table; most = g .most; few = omega (arith, g .few) })
+        rw k (record { table = good .table; most = g .most })
 
     pub filling-one : s ≡ next → h < count → (a : Key) (v : ℕ) → a ≡ getD ks h leaf-key → v ≡ volume K a →
         Filling K count ks (set bs s (a .below)) (set ws s (a .width)) (set us s 0) (set vs s v) (h + 1) s (s + s) (s + 1)
@@ -141,6 +141,9 @@ module _ {K count : ℕ} {ks : List Key} where
           let e : 2 ^ g .0 + (s - top) ≡ s = omega (arith, g .2, g .3) in
           rw e at (within-top (g .0) (s - top) v (omega (arith, rest-below, g .2)) i)
 
+      part-less : (v : ℕ) → MaskWithin v (s - top) → v < s
+      part-less v i = omega (arith, within-le v (s - top) i, rest-below)
+
       -- the highest bit's volume and that of the others
       abbrev least : ℕ
       least = getD vs top 0 + getD vs (s - top) 0
@@ -175,9 +178,8 @@ module _ {K count : ℕ} {ks : List Key} where
             below = rest-below;
             within = omega arith;
             keys = rw e (entries-small good (f .entries));
-            bound = λ v p i.
-                rw (e, least-sum)
-                (join-bound good (f .entries) v p (omega (arith, within-le v (s - top) i, rest-below)) (rest-within v i));
+            few = λ v p i. rw e (join-few good (f .entries) v p (part-less v i) (rest-within v i));
+            bound = λ v p i. rw (e, least-sum) (join-bound good (f .entries) v p (part-less v i) (rest-within v i));
           }
 
       joined : (g r : ℕ) {a : Key} {u : ℕ} → top ≡ 2 ^ g → top + r ≡ s → g < length ks → 0 < r → r < top →

@@ -19,7 +19,7 @@ use Rattle.plan.specs.MaskLaws.{select-all}
 use Rattle.plan.specs.Reach.{LeastReach}
 use Rattle.plan.specs.Plans.{Planned}
 use Rattle.plan.specs.PlanBounds.{planned-length}
-use Rattle.plan.specs.Entries.{entry, Entries, GoodKeys}
+use Rattle.plan.specs.Entries.{entry, Entries, FewLeaves, GoodKeys}
 use Rattle.plan.specs.Steps.{Writable, Writes}
 use Rattle.plan.specs.PlanOfLaws.{reflects-good, good-size}
 use Rattle.plan.specs.PlanOf.{goodInput, emptyPlan, PlanAnswer, PlanOf}
@@ -70,12 +70,12 @@ module _ {K : ℕ} {ks : List Key} (good : GoodKeys K ks) {n : ℕ} (size : n �
         }
 
 -- what the test tells of the keys
-pub plan-keys : (K count : ℕ) (keys : List Key) → length keys ≡ mostFanins → goodInput K count keys ≡ true →
+pub plan-keys : (K count : ℕ) (keys : List Key) → length keys ≡ mostFanins → FewLeaves (take count keys) → goodInput K count keys ≡ true →
     (length (take count keys) ≡ count) × GoodKeys K (take count keys)
-plan-keys K count keys l e =
+plan-keys K count keys l few e =
     let t = subst T (sym e) tt in
     let s = good-size K count keys (omega arith) t in
-    (s, (reflects-good K count keys s) .to t)
+    (s, (reflects-good K count keys s few) .to t)
 
 -- the promise, by the test's result
 pub plan-refused : (K count : ℕ) (keys : List Key) {r : Plan} → goodInput K count keys ≡ false → r ≡ emptyPlan false (key 0 0) →

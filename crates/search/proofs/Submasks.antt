@@ -9,7 +9,7 @@ use mathlib.Core.List.{List}
 use lib.Bits.{bitAnd, and-self}
 use Rattle.plan.specs.declared.Key.{Key}
 use Rattle.plan.specs.Key.{_≼_, join}
-use Rattle.plan.specs.KeyLaws.{≼-refl, ≼-trans, join-below, join-width}
+use Rattle.plan.specs.KeyLaws.{≼-refl, ≼-trans, join-width}
 use Rattle.plan.specs.Masks.{MaskWithin}
 use Rattle.plan.specs.MaskLaws.{within-le, next-within, next-greatest}
 use Rattle.plan.specs.Entries.{entry, JoinableAt, Joined, Split, Made, BestJoin}
@@ -28,17 +28,23 @@ module _ (K : ℕ) (bs ws : List ℕ) (top r : ℕ) where
   abbrev by : ℕ → Key
   by u = join K (entry bs ws (top + r - u)) (entry bs ws u)
 
-  pub joinable-at : {least : ℕ} → Split K top r least bs ws → (u : ℕ) → 0 < u → u ≤ r → JoinableAt K bs ws (top + r - u) u
-  joinable-at h u p l = record {
-    places = (omega arith, omega arith);
-    keys =
-        record { table = h .table; left = h .keys (top + r - u) (omega arith) (omega arith); right = h .keys u p (omega arith) };
-  }
+  pub joinable-at : {least : ℕ} → Split K top r least bs ws → (u : ℕ) → 0 < u → MaskWithin u r → JoinableAt K bs ws (top + r - u) u
+  joinable-at h u p w =
+      let l = within-le u r w in
+      record {
+        places = (omega arith, omega arith);
+        keys = record {
+          table = h .table;
+          left = h .keys (top + r - u) (omega arith) (omega arith);
+          right = h .keys u p (omega arith);
+          few = h .few u p w;
+        };
+      }
 
   -- that join has from 2 to K inputs
   by-width : {least : ℕ} → Split K top r least bs ws → (u : ℕ) → 0 < u → MaskWithin u r → (2 ≤ (by u) .width) × ((by u) .width ≤ K)
   by-width h u p w =
-      let j = joinable-at h u p (within-le u r w) .keys in
+      let j = joinable-at h u p w .keys in
       join-width K (h .table .0) _ _ (j .left .some) (j .right .some)
 
   -- a submask above the next one is u or above u
@@ -79,14 +85,7 @@ module _ (K : ℕ) (bs ws : List ℕ) (top r : ℕ) where
 
   -- the volume of a join can be asked for
   pub made-joined : {least : ℕ} {a : Key} {w : ℕ} → Split K top r least bs ws → Made K bs ws top r a w → Joined K a
-  made-joined {w = w} h m =
-      let j = joinable-at h w (m .some) (within-le w r (m .part)) .keys in
-      rw (m .is)
-      (record {
-        table = h .table;
-        most = by-width h w (m .some) (m .part) .1;
-        few = omega (arith, join-below K (entry bs ws (top + r - w)) (entry bs ws w));
-      })
+  made-joined {w = w} h m = rw (m .is) (record { table = h .table; most = by-width h w (m .some) (m .part) .1 })
 
   -- no submask is left
   pub tried-last : {a : Key} {w u : ℕ} → Tried K bs ws top r a w u → u ≡ 0 → BestJoin K bs ws top r a w

@@ -28,7 +28,7 @@ use Rattle.plan.specs.MaskLaws.{select-mix, select-some}
 use Rattle.plan.specs.MaskPlans.{MaskPlanned, mask-plan-one, mask-plan-join}
 use Rattle.plan.specs.PlanBounds.{planned-length}
 use Rattle.plan.specs.Entries.{entry, JoinableAt, Entered, Entries, OneBit}
-use Rattle.plan.specs.EntryLaws.{entries-small}
+use Rattle.plan.specs.EntryLaws.{entries-small, join-few}
 use Rattle.plan.specs.Steps.{tokens, stepped, joinToken, Took, Writable, StepsWritten, Writes}
 
 -- how many of the at most ten fanins a mask has
@@ -189,7 +189,12 @@ module _ {K : ℕ} {bs ws us : List ℕ} {s : ℕ} {p : Plan} (w : Writable K bs
             let m = entries-small (w .good) (w .entries) in (
               record {
                 places = (omega arith, omega arith);
-                keys = record { table = w .good .table; left = m (s - u) (omega arith) (omega arith); right = m u some (omega arith) };
+                keys = record {
+                  table = w .good .table;
+                  left = m (s - u) (omega arith) (omega arith);
+                  right = m u some (omega arith);
+                  few = join-few (w .good) (entries-below (omega arith) (w .entries)) u some l (proper-part .0);
+                };
               },
               join-room,
             )

@@ -9,7 +9,7 @@ ghost use Rattle.tree.specs.Trusted.Limits.{mostFanins};
 ghost use Rattle.plan.specs.Limits.{masks, mostSteps};
 ghost use Rattle.plan.specs.PlanOf.{faninTest, goodInput, emptyPlan, PlanOf};
 ghost use Rattle.plan.specs.Steps.{stepped, joinToken, Took, Writable, Writes};
-ghost use Rattle.plan.specs.Entries.{Joinable, JoinableAt, Split, BestJoin, Fillable, Entries, OneBit, entry};
+ghost use Rattle.plan.specs.Entries.{Joinable, JoinableAt, Split, BestJoin, FewLeaves, Fillable, Entries, OneBit, entry};
 use keys::cuts_of;
 use keys::join;
 use keys::precedes;
@@ -17,7 +17,6 @@ use keys::volume;
 use plan::Key;
 use plan::LEAST_INPUTS;
 use plan::MASKS;
-use plan::MOST_BELOW;
 use plan::MOST_INPUTS;
 use plan::MOST_STEPS;
 use plan::Plan;
@@ -36,7 +35,7 @@ fn join_token(k: u8, a: Key, b: Key) -> Token
 }
 
 // The key at a mask.
-fn key_at<'a>(s: usize, below: &'a [u16; MASKS], width: &'a [u8; MASKS]) -> Key
+fn key_at<'a>(s: usize, below: &'a [u8; MASKS], width: &'a [u8; MASKS]) -> Key
     requires { ⌜ s < masks ⌝ }
     ensures { λ r. ⌜ r ≡ entry (now (below .entry)) (now (width .entry)) s ⌝ }
 {
@@ -47,7 +46,7 @@ fn key_at<'a>(s: usize, below: &'a [u16; MASKS], width: &'a [u8; MASKS]) -> Key
 }
 
 // The join of the keys at two masks.
-fn join_at<'a>(k: u8, x: usize, y: usize, below: &'a [u16; MASKS], width: &'a [u8; MASKS]) -> Key
+fn join_at<'a>(k: u8, x: usize, y: usize, below: &'a [u8; MASKS], width: &'a [u8; MASKS]) -> Key
     requires { ⌜ JoinableAt k (now below) (now width) x y ⌝ }
     ensures { λ r. ⌜ r ≡ joinOf k (entry (now (below .entry)) (now (width .entry)) x) (entry (now (below .entry)) (now (width .entry)) y) ⌝ }
 {
@@ -69,7 +68,7 @@ fn best_join<'a>(
     top: usize,
     r: usize,
     least: u16,
-    below: &'a [u16; MASKS],
+    below: &'a [u8; MASKS],
     width: &'a [u8; MASKS],
 ) -> Choice
     requires { ⌜ Split k top r least (now below) (now width) ⌝ }
@@ -100,7 +99,7 @@ fn fill(
     k: u8,
     count: usize,
     keys: [Key; MOST_FANINS],
-    below: &mut [u16; MASKS],
+    below: &mut [u8; MASKS],
     width: &mut [u8; MASKS],
     split: &mut [u16; MASKS],
     volumes: &mut [u16; MASKS],
@@ -182,7 +181,7 @@ fn with_join<'a>(
     k: u8,
     x: usize,
     y: usize,
-    below: &'a [u16; MASKS],
+    below: &'a [u8; MASKS],
     width: &'a [u8; MASKS],
     plan: Plan,
 ) -> Plan
@@ -199,7 +198,7 @@ fn with_join<'a>(
 fn with_steps<'a>(
     k: u8,
     s: usize,
-    below: &'a [u16; MASKS],
+    below: &'a [u8; MASKS],
     width: &'a [u8; MASKS],
     split: &'a [u16; MASKS],
     plan: Plan,
@@ -217,17 +216,14 @@ fn with_steps<'a>(
     with_join(k, rest, u, below, width, second)
 }
 
-// Whether a fanin has such a key: from 1 to k inputs, and few enough tables below.
+// Whether a fanin has such a key: from 1 to k inputs.
 fn is_fanin(k: u8, a: Key) -> bool
     ensures { λ r. ⌜ r ≡ faninTest k a ⌝ }
 {
     if a.width < 1 {
         return false;
     }
-    if k < a.width {
-        return false;
-    }
-    a.below <= MOST_BELOW
+    a.width <= k
 }
 
 // Whether each of the first count keys is a fanin's.
@@ -283,14 +279,15 @@ fn blank(ok: bool, key: Key) -> Plan
 }
 
 // The best key for a gate whose first count fanins have these keys, and the plan that gives it. Input that is not good is
-// answered by a plan that is not ok, of zeros.
+// answered by a plan that is not ok, of zeros. So few leaves stand under a sheet's gate that a byte holds each count.
 pub fn best_plan(k: u8, count: u8, keys: [Key; MOST_FANINS]) -> Plan
+    requires { ⌜ FewLeaves (take count keys) ⌝ }
     ensures { λ r. ⌜ PlanOf k count keys r ⌝ }
 {
     if !is_good(k, count, keys) {
         return blank(false, Key { below: 0, width: 0 });
     }
-    let mut below = [0u16; MASKS];
+    let mut below = [0u8; MASKS];
     let mut width = [0u8; MASKS];
     let mut split = [0u16; MASKS];
     let mut volumes = [0u16; MASKS];

@@ -1,13 +1,19 @@
-// Runs the search on the gates of the worked examples, on input that is not good, and on 200 gates with keys from a fixed
-// generator. For each it prints a line: ok or not, the tables below, the inputs, and the steps of the plan.
+// Runs the search on the gates of the worked examples, on input that is not good, on gates with the most leaves, and on 200 gates with
+// keys from a fixed generator. For each it prints a line: ok or not, the tables below, the inputs, and the steps of the plan.
 // The expected lines are those of tests/cover/exhaustive.py, which tries every tree.
 use plan::Key;
 use plan::Plan;
-ghost use Prim.Native.Nat.{_<_};
+ghost use mathlib.Core.Path.{_≡_};
+ghost use Prim.Native.Nat.{_+_, _≤_, _<_};
+ghost use Rattle.lists.specs.Trusted.Lists.{Every};
+ghost use Rattle.plan.specs.Key.{leaf-key};
+ghost use Rattle.plan.specs.Volume.{fewestLeaves};
 
 const OUT: i32 = 1;
 
-fn leaf() -> Key {
+fn leaf() -> Key
+    ensures { λ r. ⌜ r ≡ leaf-key ⌝ }
+{
     Key { below: 0, width: 1 }
 }
 
@@ -31,7 +37,9 @@ fn show(p: Plan) {
 }
 
 // The key of a gate of that many leaves, or of a leaf.
-fn gate_of(k: u8, leaves: u8) -> Key {
+fn gate_of(k: u8, leaves: u8) -> Key
+    ensures { λ r. ⌜ fewestLeaves r ≤ 25 ⌝ }
+{
     if leaves == 1 {
         return leaf();
     }
@@ -63,28 +71,46 @@ fn examples() {
     example(5, 3, [3, 3, 3, 1, 1, 1, 1, 1, 1, 1]);
 }
 
-// A gate of three fanins, the first with the key.
-fn with_key(k: u8, count: u8, key: Key) {
+// A gate whose first two fanins have the keys; the others are leaves.
+fn with_keys(k: u8, count: u8, a: Key, b: Key)
+    requires { ⌜ fewestLeaves a + fewestLeaves b ≤ 248 ⌝ }
+{
     let mut keys = [leaf(); 10];
-    keys[0] = key;
+    keys[0] = a;
+    keys[1] = b;
     show(search::best_plan(k, count, keys));
 }
 
 fn not_good() {
-    with_key(1, 3, leaf());
-    with_key(7, 3, leaf());
-    with_key(4, 1, leaf());
-    with_key(4, 11, leaf());
-    with_key(4, 3, Key { below: 0, width: 0 });
-    with_key(4, 3, Key { below: 0, width: 5 });
-    with_key(
-        4,
-        3,
+    with_keys(1, 3, leaf(), leaf());
+    with_keys(7, 3, leaf(), leaf());
+    with_keys(4, 1, leaf(), leaf());
+    with_keys(4, 11, leaf(), leaf());
+    with_keys(4, 3, Key { below: 0, width: 0 }, leaf());
+    with_keys(4, 3, Key { below: 0, width: 5 }, leaf());
+}
+
+// Gates of at least 256 leaves.
+fn most_leaves() {
+    with_keys(
+        2,
+        10,
         Key {
-            below: 256,
+            below: 245,
             width: 2,
         },
+        leaf(),
     );
+    let pair = Key {
+        below: 122,
+        width: 2,
+    };
+    with_keys(2, 10, pair, pair);
+    let wide = Key {
+        below: 118,
+        width: 6,
+    };
+    with_keys(6, 10, wide, wide);
 }
 
 // The generator: its next state, and a number from the upper bits.
@@ -104,8 +130,10 @@ struct Drawn {
 }
 
 // A key of at most k inputs.
-fn key_from(k: u8, a: u64, b: u64) -> Key {
-    let below = (a / 65536 % 4) as u16;
+fn key_from(k: u8, a: u64, b: u64) -> Key
+    ensures { λ r. ⌜ fewestLeaves r ≤ 25 ⌝ }
+{
+    let below = (a / 65536 % 4) as u8;
     let width = (1 + b / 65536 % 6) as u8;
     if k < width {
         Key { below, width: k }
@@ -116,7 +144,7 @@ fn key_from(k: u8, a: u64, b: u64) -> Key {
 
 fn draw(start: u64) -> Drawn
     requires { ⌜ start < 2147483648 ⌝ }
-    ensures { λ r. ⌜ r .state < 2147483648 ⌝ }
+    ensures { λ r. ⌜ (r .state < 2147483648) × Every (λ a. fewestLeaves a ≤ 25) (r .keys) ⌝ }
 {
     let first = next(start);
     let second = next(first);
@@ -155,5 +183,6 @@ fn generated() {
 fn main() {
     examples();
     not_good();
+    most_leaves();
     generated();
 }

@@ -7,5 +7,6 @@ pub mod TreeLaws
 pub mod ValueLaws
 pub mod CutLaws
 pub mod SizeLaws
+pub mod ByteLaws
 pub mod FrontLaws
 pub mod Checks

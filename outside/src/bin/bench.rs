@@ -2,10 +2,12 @@
 //!
 //!     bench [ROUNDS]
 //!     bench once INPUT none | own | proved
+//!     bench print INPUT own | proved
 //!
 //! Each figure is the least time of the rounds for one whole input that is mapped, or one list that is read back, in microseconds; the
 //! ratio is the proved code's time over the independent one's. The two are measured by turns, so that both meet the same load. `once`
-//! takes one input (a row, from 1) one time, for a count of instructions, and with `none` does all but that.
+//! takes one input (a row, from 1) one time, for a count of instructions, and with `none` does all but that. `print` prints what a mapper
+//! prints for one input, so that two builds can be compared.
 
 use std::hint::black_box;
 use std::process::ExitCode;
@@ -118,11 +120,14 @@ fn measure(rounds: usize, sample: &Sample) {
     println!("{:<34}{ours:>14.1}", sample.name);
 }
 
-/// Takes one input one time.
-fn once(row: &str, by: &str) -> Result<(), String> {
+/// The input of this row.
+fn sample(row: &str) -> Result<Sample, String> {
     let row = row.parse::<usize>().ok().and_then(|row| row.checked_sub(1));
-    let samples = samples();
-    let sample = row.and_then(|row| samples.get(row)).ok_or("no such input")?;
+    row.and_then(|row| samples().into_iter().nth(row)).ok_or("no such input".into())
+}
+
+/// Takes one input one time.
+fn once(sample: &Sample, by: &str) -> Result<String, String> {
     match by {
         "none" => (),
         "own" => own(sample),
@@ -130,22 +135,38 @@ fn once(row: &str, by: &str) -> Result<(), String> {
         "proved" => Proved::of(sample.task).run(sample),
         _ => return Err(format!("{by:?} is neither none nor own nor proved")),
     }
-    Ok(())
+    Ok(String::new())
 }
 
-fn run() -> Result<(), String> {
+/// What a mapper prints for one input.
+fn print(sample: &Sample, by: &str) -> Result<String, String> {
+    match by {
+        "own" => Ok(program::print(sample.text.as_bytes())),
+        #[cfg(feature = "linked")]
+        "proved" => {
+            let mut output = vec![0; outside::linked::LONGEST];
+            let printed = outside::linked::map(sample.text.as_bytes(), &mut output);
+            Ok(String::from_utf8_lossy(printed).into())
+        }
+        _ => Err(format!("{by:?} is neither own nor proved")),
+    }
+}
+
+fn run() -> Result<String, String> {
     let arguments: Vec<String> = std::env::args().skip(1).collect();
-    if let [_, row, by] = &arguments[..] {
-        return once(row, by);
+    match &arguments.iter().map(String::as_str).collect::<Vec<&str>>()[..] {
+        ["once", row, by] => return once(&sample(row)?, by),
+        ["print", row, by] => return print(&sample(row)?, by),
+        _ => (),
     }
     let rounds = arguments.first().map_or(Ok(50), |rounds| rounds.parse().map_err(|_| format!("{rounds:?} is no number")))?;
     println!("{:<34}{:>14}{:>14}{:>10}", "input", "independent", "proved", "ratio");
     for sample in samples() {
         measure(rounds, &sample);
     }
-    Ok(())
+    Ok(String::new())
 }
 
 fn main() -> ExitCode {
-    finish("bench", run().map(|()| String::new()))
+    finish("bench", run())
 }

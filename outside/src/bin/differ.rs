@@ -1,12 +1,14 @@
 //! Differential tests: generated inputs are given to a mapper, and what it prints is checked against 01.
 //!
-//!     differ [--count N] [--seed S] [--first I] [--save FOLDER] own | linked | command PROGRAM
+//!     differ [--count N] [--seed S] [--first I] [--save FOLDER] [--write FILE] own | linked | command PROGRAM
 //!
 //! `own` is the independent mapper, `linked` the archive linked in (feature `linked`), `command` a program that reads standard
 //! input and writes standard output. A case is known by its seed and index. The first ten failing inputs are saved.
+//! With `--write`, what the mapper prints in all cases goes into a file, so that two builds can be compared.
 
 use std::collections::BTreeMap;
-use std::io::{Read, Write};
+use std::fs::File;
+use std::io::{BufWriter, Read, Write};
 use std::process::{Command, ExitCode, Stdio};
 
 use outside::check::check_answer;
@@ -67,11 +69,16 @@ fn run_cases() -> Result<usize, String> {
     let mut mapper = Mapper::of(&options.words)?;
     let mut outcomes: BTreeMap<u32, usize> = BTreeMap::new();
     let mut failures = Failures::none(&options);
+    let mut file = options.write.as_ref().map(File::create).transpose().map_err(|error| format!("--write: {error}"))?.map(BufWriter::new);
     for index in options.first..options.first + options.count {
         let case = case(options.seed, index);
         let answer = program::read(&case.input);
         *outcomes.entry(answer.as_ref().map_or_else(|refusal| refusal.number, |_| 0)).or_default() += 1;
-        let checked = mapper.map(&case.input).and_then(|printed| check_answer(&answer, &printed));
+        let printed = mapper.map(&case.input);
+        if let (Some(file), Ok(printed)) = (&mut file, &printed) {
+            file.write_all(printed).map_err(|error| format!("--write: {error}"))?;
+        }
+        let checked = printed.and_then(|printed| check_answer(&answer, &printed));
         if !failures.take(&index.to_string(), case.name, &case.input, checked)? {
             break;
         }

@@ -11,7 +11,7 @@ use Rattle.sheet.specs.declared.Edge.{Edge}
 use Rattle.sheet.specs.Trusted.Limits.{mostGates, faninRoom}
 use Rattle.sheet.specs.declared.Gate.{Gate}
 use Rattle.sheet.specs.Trusted.Answers.{drawnGate, drawnSheet}
-use Rattle.mapper_laws.specs.CodeMap.{noHeld, Reaches, Gathers, Mappable, GateMapped, Staging, Staged, Going}
+use Rattle.mapper_laws.specs.CodeMap.{noHeld, Reaches, Gathers, Mappable, GateMapped, mostTables, Staging, Staged, Going}
 use Rattle.mapper_laws.specs.declared.Operands.{Operands}
 use Rattle.mapper_laws.specs.declared.Held.{Held}
 use Rattle.mapper_laws.specs.declared.MappedGate.{MappedGate}
@@ -162,7 +162,7 @@ module _ (c : tie.After-map-pair Inv-loop2 μ-loop2 Inv-loop μ-loop) where
   room : length (c .map-pair .result .tables) ≡ 2
   room = rw (c .map-pair .ensures) (pair-room (low-edge r .inverted) (low r) (high-edge r .inverted) (high r) (mappable r) kind)
 
-  space : m .count + c .map-pair .result .placed ≤ 256
+  space : m .count + c .map-pair .result .placed ≤ mostTables
   space =
       omega (
         arith,
@@ -184,6 +184,9 @@ mul-gate c = omega (arith, c .loop-test .taken, gates-most (c .before .before .b
 
 element-copy-out-gate : tie.Need-element-copy-out-gate Inv-loop2 μ-loop2 Inv-loop μ-loop
 element-copy-out-gate c = omega (arith, c .loop-test .taken, gates-most (c .before .before .before .before))
+
+cast-first : tie.Need-cast-first Inv-loop2 μ-loop2 Inv-loop μ-loop
+cast-first c = search needs
 
 add-first : tie.Need-add-first Inv-loop2 μ-loop2 Inv-loop μ-loop
 add-first c = search needs
@@ -276,9 +279,6 @@ loop2-again : tie.Need-loop2-again Inv-loop2 μ-loop2 Inv-loop μ-loop
 loop2-again c =
     staging-next (m (c .before .before .before .before)) (stagedOf (c .before .before .before .before .map-pair .result)) (space (c .before .before .before .before)) (c .before .loop2-test .taken) (omega (arith, few (c .before .before .before .before), room (c .before .before .before .before))) (c .before .before .loop2 .inv)
 
-cast-m : tie.Need-cast-m Inv-loop2 μ-loop2 Inv-loop μ-loop
-cast-m c = search needs
-
 add-m : tie.Need-add-m Inv-loop2 μ-loop2 Inv-loop μ-loop
 add-m c = record { fits = omega (arith, space (c .before .before .before)) }
 
@@ -355,7 +355,7 @@ array-copy-out-root c =
     omega (arith, gates-most s, some-gates (s .args .t1) (s .pre) (gates-room s) (gates-most s))
 
 -- the root's table fits, and has its place
-last-room : (c : tie.After-root-table Inv-loop2 μ-loop2 Inv-loop μ-loop) → c .before .before .before .before .loop .m .count < 256
+last-room : (c : tie.After-root-table Inv-loop2 μ-loop2 Inv-loop μ-loop) → c .before .before .before .before .loop .m .count < mostTables
 last-room c =
     let s = c .before .before .before .before .before .before .before in
     end-room (s .args .t1) (s .pre) (gates-room s) (gates-most s) (c .before .before .before .before .loop .inv) (c .before .before .before .loop-test .left) .0
@@ -398,6 +398,7 @@ map-spec =
     loop-holds
     mul-gate
     element-copy-out-gate
+    cast-first
     add-first
     fanin-count-requires
     cast-place
@@ -428,7 +429,6 @@ map-spec =
     add-i
     loop2-less
     loop2-again
-    cast-m
     add-m
     add-g
     loop-less

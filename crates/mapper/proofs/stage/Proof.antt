@@ -4,7 +4,7 @@ use lib.ListN.{length, length-map}
 use Rattle.table.proofs.Table.{the-field}
 use Prim.Native.Nat.{_-_}
 use borrow.Author.Needs.{needs}
-use Rattle.mapper_laws.specs.CodeMap.{Staging}
+use Rattle.mapper_laws.specs.CodeMap.{mostTables, Staging}
 use Rattle.mapper_laws.specs.CodeMapLaws.{staging-start, staging-next, staging-end}
 use Rattle.mapper.proofs.stage.Statement.{statement}
 use Rattle.mapper.proofs.stage.Tie as tie
@@ -16,7 +16,7 @@ abbrev μ-loop : tie.MeasureT-loop
 μ-loop mapping run placed start m₀ i₀ m i = placed - i
 
 -- the arrays' lengths: their types say so
-mapping-room : (s : tie.Start Inv-loop μ-loop) → length (s .args .mapping .tables) ≡ 256
+mapping-room : (s : tie.Start Inv-loop μ-loop) → length (s .args .mapping .tables) ≡ mostTables
 mapping-room s = sym (length-map (s .args .mapping .tables) (the-field .into)) ∙ s .good .0 .1 .1 .1 .0 .1 .0 .1
 
 run-room : (s : tie.Start Inv-loop μ-loop) → length (s .args .t2 .tables) ≡ 18
@@ -58,9 +58,6 @@ loop-again c =
     let l = c .before .loop-test .taken in
     staging-next (s .args .mapping) (s .args .t2) (s .pre .0) l (omega (arith, s .pre .1, run-room s)) (c .before .before .loop .inv)
 
-cast-m : tie.Need-cast-m Inv-loop μ-loop
-cast-m c = search needs
-
 add-m : tie.Need-add-m Inv-loop μ-loop
 add-m c = search needs
 
@@ -86,6 +83,5 @@ stage-spec =
     add-i
     loop-less
     loop-again
-    cast-m
     add-m
     returns)

@@ -4,6 +4,7 @@ use mathlib.Core.Logic.{⊎-elim}
 use mathlib.Core.Path.{_≡_, sym, _∙_}
 use mathlib.Core.Bool.{true}
 use native.Mathlib.Omega.{arith}
+use lib.Bits.{and-self}
 use borrow.Author.Needs.{needs}
 use borrow.Author.Tests.{eqb-true, not-false}
 use Rattle.plan.specs.MaskLaws.{within-le, next-less}
@@ -27,7 +28,7 @@ sub-join-at c = omega arith
 join-at-requires : tie.Need-join-at-requires Inv-loop μ-loop
 join-at-requires c κs =
     let a = c .args in
-    joinable-at _ _ _ _ _ (c .pre) (a .r) (c .pre .some) (omega arith)
+    joinable-at _ _ _ _ _ (c .pre) (a .r) (c .pre .some) (and-self (a .r))
 
 volume-requires : tie.Need-volume-requires Inv-loop μ-loop
 volume-requires c κs =
@@ -48,7 +49,7 @@ sub-join-at-2 c = omega arith
 join-at-requires-2 : tie.Need-join-at-requires-2 Inv-loop μ-loop
 join-at-requires-2 c κs =
     let d = c .before .before in
-    joinable-at _ _ _ _ _ (d .before .before .before .pre) (d .loop .u) (omega arith) (omega arith)
+    joinable-at _ _ _ _ _ (d .before .before .before .pre) (d .loop .u) (omega arith) (d .loop .inv .0 .at)
 
 precedes-requires : tie.Need-precedes-requires Inv-loop μ-loop
 precedes-requires c κs = search needs

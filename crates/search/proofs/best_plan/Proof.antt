@@ -21,7 +21,7 @@ found : (c : tie.Else1) →
     (length (take (a .count) (a .keys)) ≡ a .count) × GoodKeys (a .k) (take (a .count) (a .keys))
 found c =
     let d = c .before .before in
-    plan-keys (d .args .k) (d .args .count) (d .args .keys) (d .good .1 .1 .0 .1 .0 .1) (passed c)
+    plan-keys (d .args .k) (d .args .count) (d .args .keys) (d .good .1 .1 .0 .1 .0 .1) (d .pre) (passed c)
 
 -- the arrays are full
 abbrev at-else : tie.After-fill → tie.Else1

@@ -56,9 +56,6 @@ mul-key c = omega (arith, one c)
 array-copy-out-key : tie.Need-array-copy-out-key Inv-loop μ-loop
 array-copy-out-key c = omega (arith, one c)
 
-mul-below : tie.Need-mul-below Inv-loop μ-loop
-mul-below c = omega (arith, one (c .before))
-
 element-write-below : tie.Need-element-write-below Inv-loop μ-loop
 element-write-below c = omega (arith, one (c .before))
 
@@ -136,9 +133,6 @@ best-join-requires c κs =
     let d = o .before in
     filling-split (d .before .pre .good) (d .before .pre .size) (d .loop .inv) (o .if1 .left)
 
-mul-below-2 : tie.Need-mul-below-2 Inv-loop μ-loop
-mul-below-2 c = omega (arith, other (at-else c))
-
 element-write-below-2 : tie.Need-element-write-below-2 Inv-loop μ-loop
 element-write-below-2 c = omega (arith, other (at-else c))
 
@@ -173,7 +167,6 @@ fill-spec =
     returns
     mul-key
     array-copy-out-key
-    mul-below
     element-write-below
     element-write-width
     mul-split
@@ -196,7 +189,6 @@ fill-spec =
     element-write-volumes-2
     sub-best-join
     best-join-requires
-    mul-below-2
     element-write-below-2
     element-write-width-2
     mul-split-2

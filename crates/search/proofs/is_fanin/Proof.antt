@@ -10,11 +10,7 @@ returns c = simp (lt-leb _ _ (c .if1 .taken))
 
 returns-2 : tie.Need-returns-2
 unfolding faninTest
-returns-2 c = simp (le-leb _ _ (c .before .before .if1 .left), lt-leb _ _ (c .if2 .taken))
-
-returns-3 : tie.Need-returns-3
-unfolding faninTest
-returns-3 c = simp (le-leb _ _ (c .before .before .before .if1 .left), le-leb _ _ (c .before .if2 .left))
+returns-2 c = simp (le-leb _ _ (c .before .if1 .left))
 
 pub is-fanin-spec : {M : Type 1} → statement M
-is-fanin-spec = tie.close (tie.spec returns returns-2 returns-3)
+is-fanin-spec = tie.close (tie.spec returns returns-2)

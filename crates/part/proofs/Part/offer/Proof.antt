@@ -40,10 +40,10 @@ abbrev μ-loop : tie.MeasureT-loop
 μ-loop sheet self used first out uses₀ i₀ uses i = self .used - i
 
 abbrev Inv-loop2 : tie.InvT-loop2
-Inv-loop2 self₀ used first out i mapping count n₀ self n = (n ≤ mapping .count) × (self ≡ holding self₀ (pasted self₀ mapping n))
+Inv-loop2 self₀ used first out i mapping needed count n₀ self n = (n ≤ mapping .count) × (self ≡ holding self₀ (pasted self₀ mapping n))
 
 abbrev μ-loop2 : tie.MeasureT-loop2
-μ-loop2 self₀ used first out i mapping count n₀ self n = mapping .count - n
+μ-loop2 self₀ used first out i mapping needed count n₀ self n = mapping .count - n
 
 -- ---- what is known on the way
 
@@ -114,6 +114,9 @@ returns-2 c =
 
 map-requires : tie.Need-map-requires Inv-loop μ-loop Inv-loop2 μ-loop2
 map-requires c κs = search needs
+
+cast-needed : tie.Need-cast-needed Inv-loop μ-loop Inv-loop2 μ-loop2
+cast-needed c = search needs
 
 sub-if3 : tie.Need-sub-if3 Inv-loop μ-loop Inv-loop2 μ-loop2
 sub-if3 c = omega arith
@@ -206,6 +209,7 @@ offer-spec =
     refused-requires-2
     returns-2
     map-requires
+    cast-needed
     sub-if3
     refused-requires-3
     returns-3
