@@ -299,9 +299,9 @@ module _ {K used : ℕ} {s : DrawnSheet} {g : ℕ} {held : List Held} {m : Mappi
   pub root-room : (m .count < mostTables) × Tabled (rootHeld .table)
   root-room = (
     (
-      let c = added (replicate used rootTable) (length-replicate used rootTable) .fewest .some in
-      omega (arith, formed-tables w (c .1), c .2, length-append (tablesIn (m .count) (m .tables)) (rootTable ∷ []), records-count)
-    ),
+        let c = added (replicate used rootTable) (length-replicate used rootTable) .fewest .some in
+        omega (arith, formed-tables w (c .1), c .2, length-append (tablesIn (m .count) (m .tables)) (rootTable ∷ []), records-count)
+        ),
     rw (root-held .table) (tabled-record 0 (sorted (codes* codeBase (root .body))) (held* codeBase (root .body) (root .kind)) (omega (arith, root-held .width, root-held .fits .1))),
   )
 

@@ -3,16 +3,15 @@
 // The expected lines are those of tests/cover/exhaustive.py, which tries every tree.
 use plan::Key;
 use plan::Plan;
-ghost use mathlib.Core.Path.{_≡_};
-ghost use Prim.Native.Nat.{_+_, _≤_, _<_};
-ghost use Rattle.lists.specs.Trusted.Lists.{Every};
-ghost use Rattle.plan.specs.Key.{leaf-key};
+ghost use Prim.Native.Nat.{ℕ, _+_, _≤_, _<_};
+ghost use lib.ListN.{take};
+ghost use Rattle.plan.specs.Entries.{FewLeaves};
 ghost use Rattle.plan.specs.Volume.{fewestLeaves};
 
 const OUT: i32 = 1;
 
 fn leaf() -> Key
-    ensures { λ r. ⌜ r ≡ leaf-key ⌝ }
+    ensures { λ r. ⌜ fewestLeaves r ≤ 1 ⌝ }
 {
     Key { below: 0, width: 1 }
 }
@@ -144,7 +143,7 @@ fn key_from(k: u8, a: u64, b: u64) -> Key
 
 fn draw(start: u64) -> Drawn
     requires { ⌜ start < 2147483648 ⌝ }
-    ensures { λ r. ⌜ (r .state < 2147483648) × Every (λ a. fewestLeaves a ≤ 25) (r .keys) ⌝ }
+    ensures { λ r. ⌜ (r .state < 2147483648) × ((n : ℕ) → FewLeaves (take n (r .keys))) ⌝ }
 {
     let first = next(start);
     let second = next(first);

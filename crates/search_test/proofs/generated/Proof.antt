@@ -17,7 +17,7 @@ draw-requires : tie.Need-draw-requires Inv-loop μ-loop
 draw-requires c κs = search needs
 
 best-plan-requires : tie.Need-best-plan-requires Inv-loop μ-loop
-best-plan-requires c κs = search needs
+best-plan-requires c κs = c .before .draw .ensures .1 (c .before .draw .result .count)
 
 show-requires : tie.Need-show-requires Inv-loop μ-loop
 show-requires c κs = search needs
