@@ -15,7 +15,7 @@ use Rattle.plan.specs.Volume.{fewestLeaves}
 use Rattle.cover.specs.Trusted.Tables.{LookupTable, numbered}
 use Rattle.cover.specs.Eval.{numbered-length}
 use Rattle.tree.specs.Trusted.Tree.{Node}
-use Rattle.sheet.specs.Trusted.Sheet.{DrawnGate, leafNets, gatesRead}
+use Rattle.sheet.specs.Trusted.Sheet.{DrawnGate, gatesRead}
 use Rattle.sheet.specs.NumberLaws.{drawn-out, in-from}
 use Rattle.mapper_laws.specs.Mapping.{GatesMapped, unmapped, mappedAt, leafCount, Stood, innerOf, Progress}
 
