@@ -25,7 +25,7 @@ use Rattle.cover.specs.Trusted.Tables.{LookupTable}
 use Rattle.sheet.specs.declared.Source.{Source}
 use Rattle.sheet.specs.declared.Source.the-variants.{Net, Gate}
 use Rattle.sheet.specs.declared.Edge.{Edge}
-use Rattle.sheet.specs.Trusted.Limits.{mostGates}
+use Rattle.sheet.specs.Trusted.Limits.{mostGates, mostLeaves}
 use Rattle.sheet.specs.Trusted.Sheet.{DrawnGate, DrawnSheet, gateOf, faninNets, faninGates, leafNets, gatesRead}
 use Rattle.sheet.specs.Trusted.Trees.{drawn}
 use Rattle.sheet.specs.ByteLaws.{formed-tables}
@@ -82,7 +82,7 @@ pub record Facts (s : DrawnSheet) (g : ℕ) (x : DrawnGate) : Type 0 where
   pub many : (2 ≤ length (x .fanins)) × (length (x .fanins) ≤ 10)
   pub before : Every (λ j. (1 ≤ j) × (j ≤ g)) (faninGates (x .fanins))
   pub nets : Every (λ n. n ≤ codeBase) (faninNets (x .fanins))
-  pub leaves : length (leafNets (take (suc g) (s .gates))) ≤ 256
+  pub leaves : length (leafNets (take (suc g) (s .gates))) ≤ mostLeaves
   pub once : Distinct (gatesRead (take (suc g) (s .gates)))
 
 pub facts : (s : DrawnSheet) → WellFormed s → (g : ℕ) (z : DrawnGate) → g < length (s .gates) → Facts s g (getD (s .gates) g z)
@@ -139,8 +139,8 @@ module _ {K used : ℕ} {s : DrawnSheet} {g : ℕ} {held : List Held} {m : Mappi
   read-once : Distinct (gatesRead (take g (s .gates) ++ (x ∷ [])))
   read-once = subst (λ gs. Distinct (gatesRead gs)) last-gate (f .once)
 
-  few-leaves : length (leafNets (take g (s .gates) ++ (x ∷ []))) ≤ 256
-  few-leaves = subst (λ gs. length (leafNets gs) ≤ 256) last-gate (f .leaves)
+  few-leaves : length (leafNets (take g (s .gates) ++ (x ∷ []))) ≤ mostLeaves
+  few-leaves = subst (λ gs. length (leafNets gs) ≤ mostLeaves) last-gate (f .leaves)
 
   few-keys : FewLeaves (keysIn o)
   few-keys = rw (all-gathered .keys) (omega (arith, next-keys codeBase used K two (y .progress) x are-mapped read-once, few-leaves))
@@ -296,12 +296,15 @@ module _ {K used : ℕ} {s : DrawnSheet} {g : ℕ} {held : List Held} {m : Mappi
   records-count : length (tablesIn (m .count) (m .tables)) ≡ m .count
   records-count = length-map (take (m .count) (m .tables)) tableOf ∙ length-take-le (m .count) (m .tables) (omega (arith, y .few, y .table-room))
 
+  -- there is room for the root's table: no cover has more tables than there are places
+  root-count : m .count < mostTables
+  root-count =
+      let c = added (replicate used rootTable) (length-replicate used rootTable) .fewest .some in
+      omega (arith, formed-tables w (c .1), c .2, length-append (tablesIn (m .count) (m .tables)) (rootTable ∷ []), records-count)
+
   pub root-room : (m .count < mostTables) × Tabled (rootHeld .table)
   root-room = (
-    (
-        let c = added (replicate used rootTable) (length-replicate used rootTable) .fewest .some in
-        omega (arith, formed-tables w (c .1), c .2, length-append (tablesIn (m .count) (m .tables)) (rootTable ∷ []), records-count)
-        ),
+    root-count,
     rw (root-held .table) (tabled-record 0 (sorted (codes* codeBase (root .body))) (held* codeBase (root .body) (root .kind)) (omega (arith, root-held .width, root-held .fits .1))),
   )
 
