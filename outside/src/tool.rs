@@ -35,16 +35,14 @@ pub struct Options {
     pub seed: u64,
     pub first: u64,
     pub save: String,
-    /// The file that takes what is printed in each case, if there is one.
-    pub write: Option<String>,
     /// What stands besides options.
     pub words: Vec<String>,
 }
 
 impl Options {
-    /// The options that the program was called with: `[--count N] [--seed S] [--first I] [--save FOLDER] [--write FILE]`, and other words.
+    /// The options that the program was called with: `[--count N] [--seed S] [--first I] [--save FOLDER]`, and other words.
     pub fn read(count: u64) -> Result<Options, String> {
-        let mut options = Options { count, seed: 1, first: 0, save: ".".into(), write: None, words: Vec::new() };
+        let mut options = Options { count, seed: 1, first: 0, save: ".".into(), words: Vec::new() };
         let mut arguments = std::env::args().skip(1);
         while let Some(name) = arguments.next() {
             let mut value = || arguments.next().ok_or(format!("{name} needs a value"));
@@ -54,7 +52,6 @@ impl Options {
                 "--seed" => options.seed = number(value()?)?,
                 "--first" => options.first = number(value()?)?,
                 "--save" => options.save = value()?,
-                "--write" => options.write = Some(value()?),
                 _ => options.words.push(name),
             }
         }

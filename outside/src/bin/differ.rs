@@ -64,12 +64,19 @@ fn run(program: &str, input: &[u8]) -> std::io::Result<Vec<u8>> {
     }
 }
 
+fn created(name: &str) -> Result<File, String> {
+    File::create(name).map_err(|error| format!("{name}: {error}"))
+}
+
 fn run_cases() -> Result<usize, String> {
     let options = Options::read(2000)?;
-    let mut mapper = Mapper::of(&options.words)?;
+    let (mut file, words) = match &options.words[..] {
+        [name, file, words @ ..] if name == "--write" => (Some(BufWriter::new(created(file)?)), words),
+        words => (None, words),
+    };
+    let mut mapper = Mapper::of(words)?;
     let mut outcomes: BTreeMap<u32, usize> = BTreeMap::new();
     let mut failures = Failures::none(&options);
-    let mut file = options.write.as_ref().map(File::create).transpose().map_err(|error| format!("--write: {error}"))?.map(BufWriter::new);
     for index in options.first..options.first + options.count {
         let case = case(options.seed, index);
         let answer = program::read(&case.input);
@@ -82,6 +89,9 @@ fn run_cases() -> Result<usize, String> {
         if !failures.take(&index.to_string(), case.name, &case.input, checked)? {
             break;
         }
+    }
+    if let Some(file) = &mut file {
+        file.flush().map_err(|error| format!("--write: {error}"))?;
     }
     for (number, count) in &outcomes {
         let outcome = if *number == 0 { "accepted".into() } else { format!("refusal {number}") };
