@@ -116,7 +116,7 @@ module _ (K : ℕ) (two : 2 ≤ K) where
       let t = w .took-right in
       rw (w .is) (join-low (≼-trans h (taken-above s)) (≼-trans k (taken-above t)) (taken-wide s u) (taken-wide t v) (w .fits))
 
-  -- what it places has two inputs or more
+  -- a join asks for no more leaves than its operands: what it places has two inputs or more
   pub join-leaves : (a b : Key) → fewestLeaves (join K a b) ≤ fewestLeaves a + fewestLeaves b
   join-leaves a b = pack-cases K _ _ _ (λ r. fewestLeaves r ≤ fewestLeaves a + fewestLeaves b) (omega arith) (omega arith) (omega arith)
 
