@@ -279,7 +279,7 @@ fn blank(ok: bool, key: Key) -> Plan
 }
 
 // The best key for a gate whose first count fanins have these keys, and the plan that gives it. Input that is not good is
-// answered by a plan that is not ok, of zeros. So few leaves stand under a sheet's gate that a byte holds each count.
+// answered by a plan that is not ok, of zeros. It asks for fanins with at most 256 leaves under them: then a byte holds each count.
 pub fn best_plan(k: u8, count: u8, keys: [Key; MOST_FANINS]) -> Plan
     requires { ⌜ FewLeaves (take count keys) ⌝ }
     ensures { λ r. ⌜ PlanOf k count keys r ⌝ }
