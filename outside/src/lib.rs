@@ -14,6 +14,7 @@ pub mod explain;
 pub mod fuzz;
 pub mod generate;
 pub mod least;
+pub mod level;
 #[cfg(feature = "linked")]
 pub mod linked;
 pub mod list;

@@ -14,7 +14,7 @@ extern "C" {
     /// Reads the `text_len` bytes at `text` as a list, and gives 0 where they are one, else 65536 × the refusal's number + the line.
     fn pailinstant_check_list(text: *const u8, text_len: usize) -> u32;
 
-    /// The same, and writes the list's numbers to `numbers`, which has room for `numbers_len` of them: 3, and 9 for each table. It gives
+    /// The same, and writes the list's numbers to `numbers`, which has room for `numbers_len` of them: 3, and 10 for each table. It gives
     /// 65536 × 14 where the text is a list and the room is too small, which `NUMBERS` never are. A refused call writes nothing.
     fn pailinstant_read_list(text: *const u8, text_len: usize, numbers: *mut u64, numbers_len: usize) -> u32;
 }
@@ -39,8 +39,8 @@ pub fn refusal(number: u32, output: &mut [u8]) -> &[u8] {
     &output[..count as usize]
 }
 
-/// The numbers of the longest list: K, capacity and used, and nine for each of 800 tables.
-pub const NUMBERS: usize = 7_203;
+/// The numbers of the longest list: K, capacity and used, and ten for each of 800 tables.
+pub const NUMBERS: usize = 8_003;
 
 /// A list that is turned away: 2, 3, 31 or 32 with the line, from 0, or 14 with line 0.
 #[derive(Clone, Copy, Debug, PartialEq, Eq)]
@@ -63,10 +63,10 @@ pub fn check_list(text: &[u8]) -> Result<(), Refused> {
     accepted(unsafe { pailinstant_check_list(text.as_ptr(), text.len()) })
 }
 
-/// The numbers of the part whose list `text` is, written to the front of `numbers`: K, capacity, used, then nine for each table: net,
-/// u, six inputs (unused ones 0) and truth table. Where the text is refused, or `numbers` has too little room, it is left as it is.
+/// The numbers of the part whose list `text` is, written to the front of `numbers`: K, capacity, used, then ten for each table: net,
+/// u, six inputs (unused ones 0), truth table and level. Where the text is refused, or `numbers` has too little room, it is left as it is.
 pub fn read_list<'a>(text: &[u8], numbers: &'a mut [u64]) -> Result<&'a [u64], Refused> {
     // SAFETY: both pointers are to memory that is ours for the whole call, as much as the lengths say, and the two do not overlap.
     accepted(unsafe { pailinstant_read_list(text.as_ptr(), text.len(), numbers.as_mut_ptr(), numbers.len()) })?;
-    Ok(&numbers[..3 + 9 * numbers[2] as usize])
+    Ok(&numbers[..3 + 10 * numbers[2] as usize])
 }

@@ -89,7 +89,8 @@ fn mapped(rng: &mut Rng) -> Part {
     (0..).find_map(|index| program::map(&generate::case(seed, index).input).ok()).expect("an accepted input")
 }
 
-/// A sound part of `least` to `most` tables: each table has any inputs that it may have, and drives any net that it may.
+/// A sound part of `least` to `most` tables: each table has any inputs that it may have, and drives any net that it may. In one of three
+/// each table reads the one before it, so that its level is its number, and in another every second one or so.
 fn any_part(rng: &mut Rng, least: usize, most: usize) -> Part {
     let used = rng.between(least, most);
     let capacity = *rng.pick(&[used, used + 1, TABLES]);
@@ -99,18 +100,32 @@ fn any_part(rng: &mut Rng, least: usize, most: usize) -> Part {
         1 => (NETS as u16 - 11..=NETS as u16).collect(),
         _ => rng.draw((1..=NETS as u16).collect(), 2 * used + 12),
     };
+    let once_in = *rng.pick(&[1, 2, 50]);
     while part.tables.len() < used {
-        let table = any_table(rng, &part, &nets);
+        let last = part.tables.last().filter(|_| rng.once_in(once_in)).map(|last| source(last, part.tables.len()));
+        let table = any_table(rng, &part, &nets, last);
         part.tables.push(table);
     }
     part
 }
 
-fn any_table(rng: &mut Rng, part: &Part, nets: &[u16]) -> Table {
-    let without_net = (1u16..).zip(&part.tables).filter(|(_, table)| table.net == 0).map(|(number, _)| CODES as u16 + number);
+/// The input that reads table `number`: the net that it drives, or the table itself.
+fn source(table: &Table, number: usize) -> u16 {
+    match table.net {
+        0 => CODES as u16 + number as u16,
+        net => net,
+    }
+}
+
+/// A table that may stand next in a part; it reads `last`, if that is given.
+fn any_table(rng: &mut Rng, part: &Part, nets: &[u16], last: Option<u16>) -> Table {
+    let without_net = (1..).zip(&part.tables).filter(|(_, table)| table.net == 0).map(|(number, table)| source(table, number));
     let codes: Vec<u16> = nets.iter().copied().chain(without_net).collect();
     let u = rng.between(2, part.k);
     let mut inputs = rng.draw(codes, u);
+    if let Some(last) = last.filter(|last| !inputs.contains(last)) {
+        inputs[0] = last;
+    }
     inputs.sort();
     let taken = |net: u16| part.tables.iter().any(|table| table.net == net || table.inputs.contains(&net));
     let net = *rng.pick(nets);

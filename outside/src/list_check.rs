@@ -2,13 +2,14 @@
 
 use std::collections::BTreeSet;
 
+use crate::level::levels;
 use crate::list::{self, Answer, Fault};
 use crate::list_cases::Case;
 use crate::part::Part;
 use crate::{INPUTS, TABLES};
 
-/// The numbers of the largest part: K, capacity, used, and nine for each of 800 tables.
-pub const NUMBERS: usize = 3 + 9 * TABLES;
+/// The numbers of the largest part: K, capacity, used, and ten for each of 800 tables.
+pub const NUMBERS: usize = 3 + 10 * TABLES;
 
 /// The refusal of a reading into too little room, at line 0.
 const NO_ROOM: (u32, usize) = (14, 0);
@@ -27,13 +28,13 @@ pub struct Reader<'a> {
     pub read: &'a Read,
 }
 
-/// The numbers of a part: K, capacity, used, then of each table its net, u, six inputs (unused ones 0) and truth table.
+/// The numbers of a part: K, capacity, used, then of each table its net, u, six inputs (unused ones 0), truth table and level.
 pub fn numbers(part: &Part) -> Vec<u64> {
     let mut numbers = [part.k, part.capacity, part.tables.len()].map(|number| number as u64).to_vec();
-    for table in &part.tables {
+    for (table, level) in part.tables.iter().zip(levels(&part.tables)) {
         numbers.extend([table.net.into(), table.inputs.len() as u64]);
         numbers.extend((0..INPUTS).map(|place| table.inputs.get(place).map_or(0, |&input| input.into())));
-        numbers.push(table.truth);
+        numbers.extend([table.truth, level as u64]);
     }
     numbers
 }

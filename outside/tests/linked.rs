@@ -24,10 +24,10 @@ fn the_example() {
 
 #[test]
 fn the_example_read_back() {
-    let numbers = [4, 8, 2, 20, 4, 1, 2, 3, 4, 0, 0, 61152, 21, 2, 5, 20, 0, 0, 0, 0, 11];
+    let numbers = [4, 8, 2, 20, 4, 1, 2, 3, 4, 0, 0, 61152, 1, 21, 2, 5, 20, 0, 0, 0, 0, 11, 2];
     assert_eq!(read_list(LIST.as_bytes(), &mut [0; NUMBERS]), Ok(&numbers[..]));
-    assert_eq!(read_list(LIST.as_bytes(), &mut [0; 21]), Ok(&numbers[..]));
-    assert_eq!(read_list(LIST.as_bytes(), &mut [0; 20]), Err(Refused { number: 14, line: 0 }));
+    assert_eq!(read_list(LIST.as_bytes(), &mut [0; 23]), Ok(&numbers[..]));
+    assert_eq!(read_list(LIST.as_bytes(), &mut [0; 22]), Err(Refused { number: 14, line: 0 }));
     assert_eq!(check_list(LIST.as_bytes()), Ok(()));
     assert_eq!(check_list(&LIST.as_bytes()[..100]), Err(Refused { number: 31, line: 2 }));
 }

@@ -4,9 +4,11 @@
 mod common;
 
 use common::line;
+use outside::level::levels;
 use outside::list::{self, Answer, Fault, Kind};
 use outside::list_cases::cases;
 use outside::list_check::{check_own, check_reader, numbers, Check, Read, Reader, NUMBERS};
+use outside::part::Table;
 
 /// 01's list.
 const EXAMPLE: &str = "     4     8     2
@@ -48,7 +50,7 @@ fn good_lists() {
 #[test]
 fn the_part_of_the_example() {
     let part = list::read(EXAMPLE.as_bytes()).expect("a list");
-    assert_eq!(numbers(&part), [4, 8, 2, 20, 4, 1, 2, 3, 4, 0, 0, 61152, 21, 2, 5, 20, 0, 0, 0, 0, 11]);
+    assert_eq!(numbers(&part), [4, 8, 2, 20, 4, 1, 2, 3, 4, 0, 0, 61152, 1, 21, 2, 5, 20, 0, 0, 0, 0, 11, 2]);
 }
 
 #[test]
@@ -266,5 +268,42 @@ fn wrong_numbers() {
     ];
     for (index, wrong) in wrong.iter().enumerate() {
         assert!(!right(&check, wrong), "wrong read {index}");
+    }
+}
+
+/// What makes levels of a list's tables.
+type Levels = fn(Vec<Table>) -> Vec<usize>;
+
+/// The reader with these levels.
+fn read_with(levels: Levels, text: &[u8], room: &mut [u64]) -> Answer<usize> {
+    let count = read(text, room)?;
+    let tables = list::read(text).expect("a list").tables;
+    for (numbers, level) in room[3..count].chunks_mut(10).zip(levels(tables)) {
+        numbers[9] = level as u64;
+    }
+    Ok(count)
+}
+
+/// The levels of the tables as `change` leaves them.
+fn changed(change: fn(&mut Table), mut tables: Vec<Table>) -> Vec<usize> {
+    tables.iter_mut().for_each(change);
+    levels(&tables)
+}
+
+#[test]
+fn wrong_levels() {
+    let wrong: [(&str, Levels); 8] = [
+        ("from 0", |tables| levels(&tables).iter().map(|level| level - 1).collect()),
+        ("all 1", |tables| vec![1; tables.len()]),
+        ("the line's number", |tables| (1..=tables.len()).collect()),
+        ("in a byte", |tables| levels(&tables).iter().map(|level| level % 256).collect()),
+        ("driven nets taken for free ones", |tables| changed(|table| table.net = 0, tables)),
+        ("tables not counted", |tables| changed(|table| table.inputs.retain(|&input| input < 10_000), tables)),
+        ("of the first input alone", |tables| changed(|table| table.inputs.truncate(1), tables)),
+        ("of the last input alone", |tables| changed(|table| drop(table.inputs.drain(..table.inputs.len() - 1)), tables)),
+    ];
+    assert!(right(&check, &|text, room| read_with(|tables| levels(&tables), text, room)));
+    for (name, wrong) in wrong {
+        assert!(!right(&check, &move |text, room| read_with(wrong, text, room)), "{name}");
     }
 }

@@ -42,7 +42,7 @@ static void print_list(const uint64_t *numbers)
     uint64_t table;
     print_numbers(numbers, 3);
     for (table = 0; table < numbers[2]; table++)
-        print_numbers(numbers + 3 + 9 * table, 9);
+        print_numbers(numbers + 3 + 10 * table, 10);
 }
 
 static void print_refusal(uint32_t answer)

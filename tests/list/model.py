@@ -1,9 +1,9 @@
-"""The expected output of the program list_reader_test: the reading of a list as request 101 (02) has it, over "List" of the user's scope
-paper (01), from the papers alone. The rules of a sound part and the lines of a list are those of tests/part/model.py. CASES.md has the
-answers worked out by hand.
+"""The expected output of the program list_reader_test: the reading of a list as requests 101 and 103 (02) have it, over "List" of the
+user's scope paper (01), from the papers alone. The rules of a sound part, the levels and the lines of a list are those of
+tests/part/model.py. CASES.md has the answers worked out by hand.
 
 Run: python3 tests/list/model.py > crates/list_reader_test/stdout
-     python3 tests/list/model.py --answers    (each file's name, and its refusal's number and line or "good")
+     python3 tests/list/model.py --answers    (each file's name, and its refusal's number and line, or "good" and the levels)
 """
 
 import importlib.util
@@ -41,7 +41,7 @@ def numbers(text, widths):
 
 
 def table(text, t):
-    """The record of line t, whatever numbers it holds; None where the line is not laid out as the list has it."""
+    """The record of line t, without its level, whatever numbers it holds; None where the line is not laid out as the list has it."""
     for u in range(2, 7):
         found = numbers(text, [6] * (3 + u) + [21])
         if found and found[0] == t and found[2] == u and found[-1] < 2**64:
@@ -74,13 +74,17 @@ def read(text):
     part.used = used
     if any(lines[used + 1 :]):
         raise Refused(31, used + 1)
+    in_use = part.records[:used]
+    for record, level in zip(in_use, PART.levels(in_use)):  # "the list reader works them out"
+        record.level = level
     return part
 
 
 def case(name):
     """What is printed for a file, and its answer."""
     try:
-        return PART.whole_list(read((CRATE / "data" / name).read_bytes())), "good"
+        part = read((CRATE / "data" / name).read_bytes())
+        return PART.whole_list(part) + PART.line_of_levels(part), f"good {PART.told(PART.levels_in_use(part))}"
     except Refused as refused:
         number, line = refused.args
         return b"%6d%6d%6d\n" % (-number, 0, line), f"{number} {line}"

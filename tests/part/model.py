@@ -1,19 +1,19 @@
 """The expected output of the program part_test: the user's scope paper (01), sections "Part", "List" and the tables of refusals, with the
-nets and codes of request 102, written down once more from the papers alone, with nothing shared with crates/. CASES.md has the answers
-worked out by hand.
+nets and codes of request 102 and the levels of request 103, written down once more from the papers alone, with nothing shared with
+crates/. CASES.md has the answers worked out by hand.
 
 An add reads its sheet by tests/sheet/model.py, and has its least number of tables from tests/cover/exhaustive.py.
 
 Run: python3 tests/part/model.py < crates/part_test/stdin > crates/part_test/stdout
      python3 tests/part/model.py --answers < crates/part_test/stdin    (line and answer of each step that CASES.md has)
-     python3 tests/part/model.py --lists < crates/part_test/stdin      (the list after each accepted add)
+     python3 tests/part/model.py --lists < crates/part_test/stdin      (the list after each accepted add, of a long one some lines)
 """
 
 import importlib.util
 import pathlib
 import sys
 
-COLUMNS, FIELDS, RECORDS, BUFFER = 6, 11, 800, 4096
+COLUMNS, FIELDS, RECORDS, BUFFER = 6, 12, 800, 4096
 AND = 1
 TESTS = pathlib.Path(__file__).parents[1]
 CRATE = TESTS.parent / "crates/part_test"
@@ -32,10 +32,10 @@ CODES = 10000  # gate g is CODES + g in a fanin, table t CODES + t in a table's 
 
 
 class Record:
-    """One table: net driven, input count u, six inputs, truth table."""
+    """One table: net driven, input count u, six inputs, truth table, level."""
 
-    def __init__(self, net=0, u=0, inputs=(0, 0, 0, 0, 0, 0), truth=0):
-        self.net, self.u, self.inputs, self.truth = net, u, list(inputs), truth
+    def __init__(self, net=0, u=0, inputs=(0, 0, 0, 0, 0, 0), truth=0, level=0):
+        self.net, self.u, self.inputs, self.truth, self.level = net, u, list(inputs), truth, level
 
 
 class Part:
@@ -69,13 +69,35 @@ def sound(part):
     if not (2 <= part.k <= 6 and 1 <= part.capacity <= 800 and part.used <= part.capacity):
         return False
     for record in part.records[part.used :]:
-        if record.net or record.u or any(record.inputs) or record.truth:
+        if record.net or record.u or any(record.inputs) or record.truth or record.level:
             return False
-    return keeps_rules(part.records[: part.used], part.k)
+    return sound_tables(part.records[: part.used], part.k)
+
+
+def sound_tables(tables, k):
+    """The tables in use keep 01's rules and have their levels: "a part with a wrong level is not sound"."""
+    return keeps_rules(tables, k) and [table.level for table in tables] == levels(tables)
+
+
+def levels(tables):
+    """The levels of tables that keep the rules: "1 plus the greatest level among the tables and driven nets it reads, free nets being 0".
+    In turns: of the tables that are left, those that read none of these have the next level."""
+    drivers = {table.net: t for t, table in enumerate(tables) if table.net}
+    reads = []
+    for table in tables:
+        named = [drivers.get(code) if is_net(code) else table_named(code) - 1 for code in table.inputs[: table.u]]
+        reads.append({t for t in named if t is not None})
+    found, left, level = {}, set(range(len(tables))), 0
+    while left:
+        level += 1
+        turn = {t for t in left if not reads[t] & left}
+        found.update(dict.fromkeys(turn, level))
+        left -= turn
+    return [found[t] for t in range(len(tables))]
 
 
 def keeps_rules(tables, k):
-    """The other points, about the tables in use, in the paper's order and words."""
+    """01's other points, about the tables in use, in the paper's order and words."""
     for t, table in enumerate(tables, 1):
         if any(table.inputs[table.u :]):
             return False  # an unused input is not zero
@@ -147,18 +169,20 @@ def least(k, gates):
 
 
 def chosen_gates(k, gates):
-    """The gates of a least cover, where 01 leaves no freedom: the root alone, or at K 2 each gate of a chain of two-fanin gates."""
+    """The gates of a least cover, where 01 leaves no freedom: the root alone, or of two-fanin gates all at K 2, and in a chain, of which a
+    table holds at most K - 1, each (K - 1)th where none is left over. At K 2 01 leaves the order of branches open: here the sheet's."""
     count = least(k, gates)
     if count == 1:
         return [len(gates)]
-    assert k == 2 and count == len(gates), "a sheet whose tables 01 leaves open"
-    for _, fanin_count, *fanins in gates:
-        assert fanin_count == 2 and any(map(is_net, map(abs, fanins))), "a sheet whose tables 01 leaves open"
-    return list(range(1, len(gates) + 1))
+    assert all(fanin_count == 2 for _, fanin_count, *_ in gates), "a sheet whose tables 01 leaves open"
+    chain = all(any(map(is_net, map(abs, fanins))) for _, _, *fanins in gates)
+    assert (chain or k == 2) and count * (k - 1) == len(gates), "a sheet whose tables 01 leaves open"
+    return list(range(k - 1, len(gates) + 1, k - 1))
 
 
 def tables(k, used, lines):
-    """The records of a sheet that was read, for a part with some tables already. The list of a record's inputs is padded with zeros."""
+    """The records of a sheet that was read, without levels, for a part with some tables already. The list of a record's inputs is padded
+    with zeros."""
     (out, _), *gates = lines
     number = {gate: used + t for t, gate in enumerate(chosen_gates(k, gates), 1)}
 
@@ -210,11 +234,52 @@ def add(part, text):
     for record in tables(part.k, part.used, lines):
         part.records[part.used] = record
         part.used += 1
+    in_use = part.records[: part.used]
+    for record, level in zip(in_use, levels(in_use)):
+        record.level = level
     return 0, 0
 
 
 def whole_list(part):
     return b"".join(line(part, t) for t in range(part.used + 1))
+
+
+def shown_list(part):
+    """What CASES.md has of a list: all of it, or of a long one the lines 0 to 3 and the last."""
+    if part.used <= 16:
+        return whole_list(part)
+    return b"".join(line(part, t) for t in (0, 1, 2, 3, part.used))
+
+
+def levels_in_use(part):
+    """The levels of the records in use, whatever the part holds."""
+    return [record.level for record in part.records[: part.used]]
+
+
+def line_of_levels(part):
+    """The line that step 11 prints, and list_reader_test after a list."""
+    return b"".join(b"%6d" % level for level in levels_in_use(part)) + b"\n"
+
+
+def run_length(numbers, step):
+    """How many numbers at the front rise by that step."""
+    return next((i for i, n in enumerate(numbers) if n != numbers[0] + step * i), len(numbers))
+
+
+def told(numbers):
+    """How CASES.md has levels: 1x800 for a run of one number and 1..51 for a run that rises by one, from three on; none for no level."""
+    words = []
+    while numbers:
+        same, rising = run_length(numbers, 0), run_length(numbers, 1)
+        if same >= 3:
+            word, taken = f"{numbers[0]}x{same}", same
+        elif rising >= 3:
+            word, taken = f"{numbers[0]}..{numbers[rising - 1]}", rising
+        else:
+            word, taken = str(numbers[0]), 1
+        words.append(word)
+        numbers = numbers[taken:]
+    return " ".join(words) or "none"
 
 
 def run(script):
@@ -223,7 +288,7 @@ def run(script):
     part, output, answers, lists = Part(), b"", [], b""
     sheets = (CRATE / "args").read_text().split("\n")
     for at, row in enumerate(script.splitlines(), 1):
-        assert len(row) == COLUMNS * FIELDS, f"line {at} is not eleven fields"
+        assert len(row) == COLUMNS * FIELDS, f"line {at} is not twelve fields"
         step, *given = (int(row[i : i + COLUMNS]) for i in range(0, len(row), COLUMNS))
         answer, buffer = None, None
         if step == 0:
@@ -235,13 +300,13 @@ def run(script):
         elif step == 3:
             part.used = given[0]
         elif step == 4:
-            t, net, u, *inputs, truth = given
-            part.records[t - 1] = Record(net, u, inputs, truth)
+            t, net, u, *inputs, truth, level = given
+            part.records[t - 1] = Record(net, u, inputs, truth, level)
         elif step == 5:
             part.records[given[0] - 1].truth = 2**64 - 1
         elif step == 6:
             for t in range(given[0]):
-                part.records[t] = Record(0, 2, (1, 2, 0, 0, 0, 0), 8)
+                part.records[t] = Record(0, 2, (1, 2, 0, 0, 0, 0), 8, 1)
         elif step == 7:
             answer = int(sound(part))
         elif step == 8:
@@ -253,7 +318,12 @@ def run(script):
             after = whole_list(part) if sound(part) else b""
             output += b"%6d%6d\n" % (number, place) + after
             answers.append((at, number, place))
-            lists += after if number == 0 else b""
+            lists += shown_list(part) if number == 0 else b""
+        elif step == 11:
+            output += line_of_levels(part)
+            answers.append((at, told(levels_in_use(part))))
+        elif step == 12:
+            part.records[given[0] - 1].level = given[1]
         if answer is not None:
             output += b"%6d\n" % answer
             if (step, answer) != (0, 0):

@@ -13,8 +13,8 @@ use Rattle.tree.specs.declared.Kind.{Kind}
 use Rattle.tree.specs.Trusted.Tree.{Node, leaf, gate, Edges, none, edge, turned, meet}
 use Rattle.tree.specs.Measures.{value, values}
 use Rattle.tree.specs.Measures.{leaves, leaves*}
-use Rattle.cover.specs.Trusted.Tables.{LookupTable, Placed, numbered, writes, run, settled}
-use Rattle.cover.specs.Eval.{Agree, driven-in, numbered-is, settled-append, ValuesHold, uses, Untouched, holds-on, run-holds}
+use Rattle.cover.specs.Trusted.Tables.{LookupTable, output, Placed, numbered, writes, run, settled}
+use Rattle.cover.specs.Eval.{Agree, output-same, driven-in, numbered-is, settled-append, ValuesHold, uses, Untouched, holds-on, run-holds}
 use Rattle.cover.specs.Trusted.Placed.{rootNumber}
 use Rattle.cover.specs.Value.{root-value}
 use Rattle.cover.specs.Inputs.{Tidy}
@@ -63,9 +63,9 @@ module _ (base K : ℕ) (old new : List LookupTable) (s : Circuit) (legal : Lega
   new-clear : (p : Placed) → LowCodes p → Every (λ q. p .0 < q .0 → Untouched base p q) (numbered (length old) new)
   new-clear p u q m l c i j = ⊎-elim (λ e. let h = u c i .0 in omega arith) (λ f. let h = u c i .1 (f .0) in omega arith) (new-writes q m c j)
 
-  pub new-holds : (e : ℕ → Bool) → Every (ValuesHold base (run base (numbered (length old) new) e)) (numbered (length old) new)
+  pub new-holds : (e : ℕ → Bool) → Every (ValuesHold base (run base output (numbered (length old) new) e)) (numbered (length old) new)
   new-holds e =
-      run-holds base (length old) new e
+      run-holds base output output-same (length old) new e
       (λ p m c i j. ⊎-elim (λ e. let h = a .earlier p m c i in omega arith) (λ f. new-tidy p m .1 c i (f .0)) (new-writes p m c j))
       (λ p m. new-clear p (new-low p m))
 
@@ -75,7 +75,7 @@ module _ (base K : ℕ) (old new : List LookupTable) (s : Circuit) (legal : Lega
 
   -- a table of the part goes on holding, where it uses no later one, and not the output net
   pub old-holds : Fresh s old → Every (λ p. Every (λ c. c ≤ base + p .0) (uses base p)) (numbered 0 old) → (e : ℕ → Bool) →
-      Every (ValuesHold base e) (numbered 0 old) → Every (ValuesHold base (run base (numbered (length old) new) e)) (numbered 0 old)
+      Every (ValuesHold base e) (numbered 0 old) → Every (ValuesHold base (run base output (numbered (length old) new) e)) (numbered 0 old)
   old-holds f l e h p m =
       let r = numbered-is 0 old p m in
       let g = f (p .1) (r .2) in
@@ -83,7 +83,7 @@ module _ (base K : ℕ) (old new : List LookupTable) (s : Circuit) (legal : Lega
       every-append (writes base p) (p .1 .inputs)
       (every-cons (omega (arith, legal .out-net)) (λ c i e. g .0 (sym (driven-in (p .1 .drives) c i .0) ∙ e)))
       (λ c i e. g .1 (Memᴰ·cast (sym e) i)) in
-      holds-on base p (numbered (length old) new) e
+      holds-on base output output-same p (numbered (length old) new) e
       (λ q n. new-clear p (λ c i. (l p m c i, λ e. absurd (u c i e))) q n (omega (arith, numbered-is (length old) new q n .0))) (h p m)
 
   -- THE VALUE OF ONE SHEET: after the tables are added, the output net has the value of the tree

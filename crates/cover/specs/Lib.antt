@@ -2,6 +2,7 @@ pub mod Trusted
 pub mod Nets
 pub mod BitLaws
 pub mod Eval
+pub mod LevelLaws
 pub mod Value
 pub mod Inputs
 pub mod Size

@@ -11,6 +11,7 @@ use Rattle.lists.specs.TestLaws.{reflects-le, reflects-eq, reflects-any, reflec
 use Rattle.lists.specs.Trusted.Tests.{Reflects}
 use Rattle.tree.specs.Trusted.Limits.{codeBase}
 use Rattle.lists.specs.Trusted.Checked.{Checked, passed, refused as unread}
+use Rattle.cover.specs.Eval.{every-numbered}
 use Rattle.cover.specs.Trusted.Cover.{Least}
 use Rattle.plan.specs.Least.{least-unique}
 use Rattle.cover.specs.Trusted.Tables.{LookupTable}
@@ -26,7 +27,7 @@ use Rattle.part.specs.Trusted.Answers.{Answer, accepted, refused}
 use Rattle.part.specs.Trusted.Add.{isDriven, isRead, Refused, Accepted, Take, Add}
 use Rattle.demands.specs.Trusted.Nets.{Driven, Read}
 use Rattle.demands.specs.ReadingLaws.{reads-right}
-use Rattle.demands.specs.ExtendLaws.{every-numbered, extended-shaped, extended-sound}
+use Rattle.demands.specs.ExtendLaws.{extended-shaped, extended-sound}
 use Rattle.part.specs.declared.Part.{Part}
 
 -- ---- adding

@@ -17,7 +17,7 @@ use Rattle.part.specs.Trusted.Answers.{Answer, accepted, refused, Result}
 use Rattle.part.specs.Trusted.Add.{Refused, Accepted}
 use Rattle.part.specs.declared.Part.{Part}
 use Rattle.demands.specs.ReadingLaws.{refused-below}
-use Rattle.demands.specs.ExtendLaws.{extended-inUse, extended-tables}
+use Rattle.part.specs.ExtendedLaws.{extended-inUse, extended-tables}
 use Rattle.demands.specs.AddLaws.{Kept, AddCase, unsound, misread, driven, read, full, taken, add-case, kept, same-kept, not-refused}
 use Rattle.demands.specs.Trusted.Calls.{Call, add, final, sheetsRead, ifAccepted, Promise, sheetsOf, Chain, done, call, acceptedIn, Link, here, next}
 use Rattle.demands.specs.Trusted.Demands.{Total, none, more, left, Passes, Taken, RoomTold, CallAccounted, Demand3}

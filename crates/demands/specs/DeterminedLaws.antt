@@ -25,7 +25,8 @@ use Rattle.part.specs.SoundLaws.{sound-reflects}
 use Rattle.part.specs.Trusted.Reading.{readOf}
 use Rattle.part.specs.Trusted.Answers.{Answer, accepted, refused, Result}
 use Rattle.part.specs.Trusted.Add.{isDriven, isRead, Refused, Accepted, Fill, Offer, Take, Add}
-use Rattle.demands.specs.ExtendLaws.{extended-tables, extended-sound}
+use Rattle.part.specs.ExtendedLaws.{extended-tables}
+use Rattle.demands.specs.ExtendLaws.{extended-sound}
 use Rattle.demands.specs.Trusted.Nets.{Driven, Read}
 use Rattle.demands.specs.AddLaws.{driven-reflects, read-reflects, AddCase, unsound, misread, driven, read, full, taken as took, add-case, not-refused}
 use Rattle.demands.specs.LeafLaws.{reads-after, reads-still, drives-after, drives-still}

@@ -5,25 +5,25 @@ use mathlib.Core.Path.{_≡_, refl, sym, ap, ap₂, _∙_, subst}
 use mathlib.Core.Logic.{_⊎_, inl, inr, _≢_, ⊎-elim}
 use mathlib.Core.List.{List, [], _∷_, _++_, map, Memᴰ·append-right}
 use lib.ListN.{length, drop, length-append, length-map, length-drop, length-replicate}
-use lib.Seq.{drop-append-seam, take-at, drop-at, drop-drop}
+use lib.Seq.{drop-append-seam, drop-at, drop-drop}
 use Rattle.lists.specs.Trusted.Lists.{_∈_, first, later, Every}
 use Rattle.lists.specs.ListLaws.{every-none, every-cons, every-head, every-tail, every-append, every-take, every-drop, every-replicate}
 use Rattle.tree.specs.Trusted.Limits.{codeBase}
-use Rattle.cover.specs.Trusted.Tables.{LookupTable, Placed, numbered}
-use Rattle.cover.specs.Eval.{numbered-is}
+use Rattle.cover.specs.Trusted.Tables.{LookupTable, Placed, numbered, levelsAfter}
+use Rattle.cover.specs.Eval.{numbered-is, every-numbered}
 use Rattle.cover.specs.Trusted.Placed.{rootNumber}
 use Rattle.cover.specs.Trusted.CoverTables.{Circuit, CoverTables, Fresh}
 use Rattle.cover.specs.Legal.{Legal}
 use Rattle.cover.specs.CoverTableLaws.{added-sized, added-rising, added-tidy, added-inputs, added-drives}
 use Rattle.table.specs.Trusted.Limits.{inputRoom}
-use Rattle.table.specs.Trusted.Records.{tableOf, recordOf}
-use Rattle.table.specs.RecordLaws.{read-back, all-back}
+use Rattle.table.specs.Trusted.Records.{tableOf, recordOf, recordsAfter}
+use Rattle.table.specs.RecordLaws.{read-back, every-record, after-back, after-levels}
 use Rattle.table.specs.Trusted.Rules.{Padded, Coded, Sized, Sourced, DrivenOnce, ReadAfter, EveryTwo, places}
-use Rattle.table.specs.RuleLaws.{map-append, placesAfter, Follows, rules-append}
+use Rattle.table.specs.RuleLaws.{placesAfter, Follows, rules-append}
 use Rattle.part.specs.Trusted.Parts.{inUse, tablesOf, Shaped}
 use Rattle.part.specs.Trusted.Sound.{Sound}
-use Rattle.part.specs.SoundLaws.{used-count}
 use Rattle.part.specs.Trusted.Add.{extended}
+use Rattle.part.specs.ExtendedLaws.{front-length, extended-inUse}
 use Rattle.table.specs.declared.Table.{Table}
 use Rattle.part.specs.declared.Part.{Part}
 
@@ -33,11 +33,6 @@ module _ {A : Type 0} where
   pub every-map : {B : Type 0} (P : A → Type 0) (f : B → A) (xs : List B) → Every (λ x. P (f x)) xs → Every P (map f xs)
   every-map P f [] h = every-none _
   every-map P f (x ∷ xs) h = every-cons (every-head h) (every-map P f xs (every-tail h))
-
--- what holds of numbered tables holds of the tables
-pub every-numbered : (P : LookupTable → Type 0) (n : ℕ) (ts : List LookupTable) → Every (λ p. P (p .1)) (numbered n ts) → Every P ts
-every-numbered P n [] h = every-none _
-every-numbered P n (t ∷ ts) h = every-cons (every-head h) (every-numbered P (suc n) ts (every-tail h))
 
 -- each number is that of a table
 numbered-at : (n : ℕ) (ts : List LookupTable) (i : ℕ) → i < length ts → (q : Placed) × (q ∈ numbered n ts) × (q .0 ≡ suc (n + i))
@@ -49,11 +44,11 @@ numbered-at n (t ∷ ts) (suc i) h =
 
 -- ---- records and tables
 
-record-padded : (t : LookupTable) → Padded (recordOf t)
-record-padded t = rw drop-append-seam (every-replicate (λ x. x ≡ 0) (inputRoom - length (t .inputs)) 0 refl)
+record-padded : (t : LookupTable) (l : ℕ) → Padded (recordOf l t)
+record-padded t l = rw drop-append-seam (every-replicate (λ x. x ≡ 0) (inputRoom - length (t .inputs)) 0 refl)
 
-record-room : (t : LookupTable) → length (t .inputs) ≤ inputRoom → length ((recordOf t) .inputs) ≡ inputRoom
-record-room t h = simp (length-append, length-replicate) (omega arith)
+record-room : (t : LookupTable) (l : ℕ) → length (t .inputs) ≤ inputRoom → length ((recordOf l t) .inputs) ≡ inputRoom
+record-room t l h = simp (length-append, length-replicate) (omega arith)
 
 -- ---- the tables of a sheet, after the records of a part
 
@@ -62,9 +57,9 @@ module _ (k : ℕ) (old : List Table) (new : List LookupTable) (s : Circuit) (le
   ps : List Placed
   ps = numbered (length (map tableOf old)) new
 
-  places-new : placesAfter old (map recordOf new) ≡ ps
+  places-new : placesAfter old (recordsAfter (map tableOf old) new) ≡ ps
   unfolding ps
-  places-new = ap₂ numbered (sym (length-map old tableOf)) (all-back new)
+  places-new = ap₂ numbered (sym (length-map old tableOf)) (after-back (map tableOf old) new)
 
   -- an input is a leaf of the sheet, or names an earlier one of the new tables
   input-cases : (Z : Type 0) (p : Placed) → p ∈ ps → (x : ℕ) → x ∈ p .1 .inputs → ((0 < x) × (x < codeBase) × (x ≢ s .out) → Z) →
@@ -77,18 +72,18 @@ module _ (k : ℕ) (old : List Table) (new : List LookupTable) (s : Circuit) (le
   unfolding ps
   drive-cases p m = added-tidy codeBase k (map tableOf old) new s a p m .0
 
-  new-coded : Every (λ t. Coded (recordOf t)) new
+  new-coded : Every (λ t. (l : ℕ) → Coded (recordOf l t)) new
   unfolding ps
-  new-coded = every-numbered (λ t. Coded (recordOf t)) (length (map tableOf old)) new (λ p m. (
+  new-coded = every-numbered (λ t. (l : ℕ) → Coded (recordOf l t)) (length (map tableOf old)) new (λ p m l. (
     ⊎-elim (λ e. omega arith) (λ e. omega (arith, e .0, legal .out-net)) (drive-cases p m),
-    rw (ap (λ t. t .inputs) (read-back (p .1))) (λ x i. input-cases _ p m x i (λ l. inl (omega (arith, l))) (λ t. inr (omega (arith, t .1, t .2)))),
+    rw (ap (λ t. t .inputs) (read-back l (p .1))) (λ x i. input-cases _ p m x i (λ n. inl (omega (arith, n))) (λ t. inr (omega (arith, t .1, t .2)))),
   ))
 
-  new-sized : Every (λ t. Sized k (recordOf t)) new
+  new-sized : Every (λ t. (l : ℕ) → Sized k (recordOf l t)) new
   unfolding ps
-  new-sized = every-numbered (λ t. Sized k (recordOf t)) (length (map tableOf old)) new (λ p m.
+  new-sized = every-numbered (λ t. (l : ℕ) → Sized k (recordOf l t)) (length (map tableOf old)) new (λ p m l.
       let z = added-sized codeBase k (map tableOf old) new s a p m in
-      (z .least, z .most, rw (ap (λ t. t .inputs) (read-back (p .1))) (added-rising codeBase k (map tableOf old) new s a legal p m), z .bits))
+      (z .least, z .most, rw (ap (λ t. t .inputs) (read-back l (p .1))) (added-rising codeBase k (map tableOf old) new s a legal p m), z .bits))
 
   new-sourced : Every (Sourced (places old ++ ps)) ps
   unfolding ps
@@ -124,41 +119,34 @@ module _ (k : ℕ) (old : List Table) (new : List LookupTable) (s : Circuit) (le
       (λ d. subst (λ n. (q .1 .drives ≢ n) × (¬ (n ∈ q .1 .inputs))) (sym (d .0)) (f (q .1) (numbered-is 0 (map tableOf old) q j .2)))
       (drive-cases p m)
 
-  pub added-follows : Fresh s (map tableOf old) → Follows k old (map recordOf new)
+  pub added-follows : Fresh s (map tableOf old) → Follows k old (recordsAfter (map tableOf old) new)
   added-follows f = record {
-    padded = every-map Padded recordOf new (λ t m. record-padded t);
-    coded = every-map Coded recordOf new new-coded;
-    sized = every-map (Sized k) recordOf new new-sized;
+    padded = every-record Padded levels new (λ t m. record-padded t);
+    coded = every-record Coded levels new new-coded;
+    sized = every-record (Sized k) levels new new-sized;
     sourced = rw places-new new-sourced;
     driven-once = rw places-new new-once;
     read-after = rw places-new new-after;
     fresh = rw places-new (new-fresh f);
+    levels = after-levels (map tableOf old) new ∙ sym (ap (levelsAfter codeBase (map tableOf old)) (after-back (map tableOf old) new));
   }
+    where
+      levels : List ℕ
+      levels = levelsAfter codeBase (map tableOf old) new
 
 -- ---- the part
 
 module _ (p : Part) (shape : Shaped p) (h : Sound p) (new : List LookupTable) where
-  front-length : length (inUse p ++ map recordOf new) ≡ p .used + length new
-  front-length = simp (length-append, length-map) (omega (arith, used-count p shape h))
-
-  pub extended-inUse : inUse (extended p new) ≡ inUse p ++ map recordOf new
-  extended-inUse = take-at (inUse p ++ map recordOf new) (drop (p .used + length new) (p .tables)) (p .used + length new) front-length
-
-  -- the new tables stand after the old ones
-  pub extended-tables : tablesOf (extended p new) ≡ tablesOf p ++ new
-  extended-tables =
-      ap (map tableOf) extended-inUse ∙ map-append tableOf (inUse p) (map recordOf new) ∙ ap (_++_ (tablesOf p)) (all-back new)
-
   extended-rest : drop ((extended p new) .used) ((extended p new) .tables) ≡ drop (p .used + length new) (p .tables)
-  extended-rest = drop-at (inUse p ++ map recordOf new) (drop (p .used + length new) (p .tables)) (p .used + length new) front-length
+  extended-rest = drop-at (inUse p ++ recordsAfter (tablesOf p) new) (drop (p .used + length new) (p .tables)) (p .used + length new) (front-length p shape h new)
 
   pub extended-shaped : p .used + length new ≤ p .capacity → Every (λ t. length (t .inputs) ≤ inputRoom) new → Shaped (extended p new)
   extended-shaped room w = record {
-    records = length-append (inUse p ++ map recordOf new) (drop (p .used + length new) (p .tables))
-        ∙ omega (arith, front-length, length-drop (p .used + length new) (p .tables), shape .records, h .capacity-range .1, room);
-    inputs = every-append (inUse p ++ map recordOf new) (drop (p .used + length new) (p .tables))
-        (every-append (inUse p) (map recordOf new) (every-take (p .used) (p .tables) (shape .inputs))
-        (every-map (λ r. length (r .inputs) ≡ inputRoom) recordOf new (λ t m. record-room t (w t m))))
+    records = length-append (inUse p ++ recordsAfter (tablesOf p) new) (drop (p .used + length new) (p .tables))
+        ∙ omega (arith, front-length p shape h new, length-drop (p .used + length new) (p .tables), shape .records, h .capacity-range .1, room);
+    inputs = every-append (inUse p ++ recordsAfter (tablesOf p) new) (drop (p .used + length new) (p .tables))
+        (every-append (inUse p) (recordsAfter (tablesOf p) new) (every-take (p .used) (p .tables) (shape .inputs))
+        (every-record (λ r. length (r .inputs) ≡ inputRoom) (levelsAfter codeBase (tablesOf p) new) new (λ t m l. record-room t l (w t m))))
         (every-drop (p .used + length new) (p .tables) (shape .inputs));
   }
 
@@ -169,5 +157,5 @@ module _ (p : Part) (shape : Shaped p) (h : Sound p) (new : List LookupTable) wh
     capacity-range = h .capacity-range;
     used-fits = room;
     rest-blank = rw extended-rest (rw drop-drop at (every-drop (length new) (drop (p .used) (p .tables)) (h .rest-blank)));
-    rules = rw extended-inUse (rules-append (p .k) (inUse p) (map recordOf new) (h .rules) (added-follows (p .k) (inUse p) new s l a f));
+    rules = rw (extended-inUse p shape h new) (rules-append (p .k) (inUse p) (recordsAfter (tablesOf p) new) (h .rules) (added-follows (p .k) (inUse p) new s l a f));
   }

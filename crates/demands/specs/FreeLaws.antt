@@ -2,17 +2,15 @@
 -- makes no difference.
 use Prim.Native.Nat.{ℕ, suc, _+_, _≤_, _<_}
 use native.Mathlib.Omega.{arith}
-use mathlib.Core.Path.{_≡_, refl, sym, ap, ap₂, _∙_, subst}
+use mathlib.Core.Path.{_≡_, refl, sym, ap, _∙_, subst}
 use mathlib.Core.Logic.{_⊎_, inl, inr, ⊎-elim}
-use mathlib.Core.Bool.{Bool, cond}
+use mathlib.Core.Bool.{Bool}
 use mathlib.Core.List.{List, [], _∷_, map, Memᴰ·cast, Memᴰ·of-map, List·Memᴰ·not-nil}
-use Rattle.lists.specs.Cases.{by-eqb}
 use Rattle.lists.specs.Trusted.Lists.{_∈_, first, later, Every}
-use Rattle.lists.specs.ListLaws.{not-first, every-head, every-tail}
+use Rattle.lists.specs.ListLaws.{every-head, every-tail}
 use Rattle.tree.specs.Trusted.Limits.{codeBase}
-use Rattle.cover.specs.Trusted.Bits.{bit, index}
-use Rattle.cover.specs.Trusted.Tables.{LookupTable, output, Placed, numbered, put, writes, step, run, settled}
-use Rattle.cover.specs.Eval.{in-driven, driven-in, numbered-is}
+use Rattle.cover.specs.Trusted.Tables.{LookupTable, output, Placed, numbered, writes, step, run, settled}
+use Rattle.cover.specs.Eval.{output-same, put-same, in-driven, driven-in, numbered-is}
 use Rattle.table.specs.Trusted.Records.{tableOf}
 use Rattle.table.specs.Trusted.Rules.{IsNet, places, Rules}
 use Rattle.part.specs.Trusted.Parts.{inUse, tablesOf}
@@ -20,15 +18,6 @@ use Rattle.part.specs.Trusted.Sound.{Sound}
 use Rattle.demands.specs.Trusted.Nets.{Driven}
 use Rattle.table.specs.declared.Table.{Table}
 use Rattle.part.specs.declared.Part.{Part}
-
-map-same : (d e : ℕ → Bool) (xs : List ℕ) → Every (λ x. d x ≡ e x) xs → map d xs ≡ map e xs
-map-same d e [] h = refl
-map-same d e (x ∷ xs) h = ap₂ _∷_ (every-head h) (map-same d e xs (every-tail h))
-
-put-same : (xs : List ℕ) (a b : Bool) (d e : ℕ → Bool) (c : ℕ) → a ≡ b → (¬ (c ∈ xs) → d c ≡ e c) → put xs a d c ≡ put xs b e c
-put-same [] a b d e c f h = h List·Memᴰ·not-nil
-put-same (x ∷ xs) a b d e c f h =
-    by-eqb (λ t. cond t a (put xs a d c) ≡ cond t b (put xs b e c)) c x (λ q. f) (λ n. put-same xs a b d e c f (λ m. h (λ i. m (not-first n i))))
 
 -- a table of the list has a number
 numbered-in : (n : ℕ) (ts : List LookupTable) (t : LookupTable) → t ∈ ts → (p : Placed) × (p ∈ numbered n ts) × (p .1 ≡ t)
@@ -60,10 +49,10 @@ module _ (k : ℕ) (rs : List Table) (h : Rules k rs) where
 
   values-same : (n : ℕ) (ts : List LookupTable) → Every (λ p. p ∈ places rs) (numbered n ts) → (d e : ℕ → Bool) →
       ((c : ℕ) → Valid c → ¬ (Written (numbered n ts) c) → d c ≡ e c) → (c : ℕ) → Valid c →
-      run codeBase (numbered n ts) d c ≡ run codeBase (numbered n ts) e c
+      run codeBase output (numbered n ts) d c ≡ run codeBase output (numbered n ts) e c
   values-same n [] f d e g c v = g c v (λ w. List·Memᴰ·not-nil (w .1))
   values-same n (t ∷ ts) f d e g c v =
-      values-same (suc n) ts (every-tail f) (step codeBase (suc n, t) d) (step codeBase (suc n, t) e)
+      values-same (suc n) ts (every-tail f) (step codeBase output (suc n, t) d) (step codeBase output (suc n, t) e)
       (λ x u w. put-same (writes codeBase (suc n, t)) (output t d) (output t e) d e x out (λ o. g x u (other x w o))) c v
     where
       other : (x : ℕ) → ¬ (Written (numbered (suc n) ts) x) → ¬ (x ∈ writes codeBase (suc n, t)) → ¬ (Written ((suc n, t) ∷ numbered (suc n) ts) x)
@@ -78,7 +67,7 @@ module _ (k : ℕ) (rs : List Table) (h : Rules k rs) where
           (numbered-is n (t ∷ ts) (y .0) (y .1) .0) (y .2))
 
       out : output t d ≡ output t e
-      out = ap (λ bs. bit (t .truth) (index bs)) (map-same d e (t .inputs) reads)
+      out = output-same t d e reads
 
 -- THE VALUES OF A SOUND PART depend on the free nets alone
 pub values-by-free-nets : (p : Part) → Sound p → (σ τ : ℕ → Bool) → ((n : ℕ) → IsNet n → ¬ (Driven n (tablesOf p)) → σ n ≡ τ n) → (n : ℕ) → IsNet n →

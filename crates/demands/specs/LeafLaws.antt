@@ -16,12 +16,11 @@ use Rattle.tree.specs.Measures.{leaves}
 use Rattle.cover.specs.Trusted.Cover.{Cover, net, top, Fanins, end, old, new, SplitOf, Rooted, rooted}
 use Rattle.cover.specs.Nets.{nets, nets*, split-nets}
 use Rattle.cover.specs.Trusted.Tables.{LookupTable, Placed, numbered}
-use Rattle.cover.specs.Eval.{numbered-is}
+use Rattle.cover.specs.Eval.{numbered-is, every-numbered}
 use Rattle.cover.specs.Trusted.Placed.{rootNumber, placed, code, codes, codes*, gateTable, records, records*}
 use Rattle.cover.specs.Inputs.{root-in}
 use Rattle.cover.specs.Trusted.CoverTables.{Circuit, CoverTables}
 use Rattle.cover.specs.CoverTableLaws.{added-inputs, added-tidy}
-use Rattle.demands.specs.ExtendLaws.{every-numbered}
 use Rattle.demands.specs.Trusted.Nets.{Driven, Read}
 
 module _ (base : ℕ) where

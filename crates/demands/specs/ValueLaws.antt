@@ -25,7 +25,8 @@ use Rattle.part.specs.Trusted.Reading.{readOf}
 use Rattle.part.specs.Trusted.Answers.{Answer, accepted, refused, Result}
 use Rattle.part.specs.Trusted.Add.{opened, Refused}
 use Rattle.demands.specs.ReadingLaws.{drawn-back, reads-right}
-use Rattle.demands.specs.ExtendLaws.{every-map, extended-tables}
+use Rattle.part.specs.ExtendedLaws.{extended-tables}
+use Rattle.demands.specs.ExtendLaws.{every-map}
 use Rattle.part.specs.OpenLaws.{opened-shaped, opened-empty}
 use Rattle.demands.specs.AddLaws.{AddCase, unsound, misread, driven, read, full, taken, add-case}
 use Rattle.demands.specs.Trusted.Calls.{Call, add, final, sheetsRead, ifAccepted, Promise, sheetsOf, Chain, done, call, acceptedIn, Link, here, next}

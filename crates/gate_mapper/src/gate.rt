@@ -21,7 +21,7 @@ use tree::Kind;
 fn no_operands() -> Operands
     ensures { λ r. ⌜ Begun r ⌝ }
 {
-    let table = table::blank();
+    let table = pending::zero_lut();
     let none = Pending {
         inverted: false,
         table,

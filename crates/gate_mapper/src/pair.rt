@@ -10,8 +10,8 @@ use keys::join;
 use mapper_laws::Held;
 use mapper_laws::MappedPair;
 use merge::merge;
+use pending::Lut;
 use pending::Pending;
-use table::Table;
 use tree::Kind;
 
 fn count_if(flag: bool) -> u8
@@ -21,7 +21,7 @@ fn count_if(flag: bool) -> u8
 }
 
 // The tables of two operands, of which the left one may not be placed.
-fn two_tables(left: bool, x: Table, y: Table) -> [Table; 2]
+fn two_tables(left: bool, x: Lut, y: Lut) -> [Lut; 2]
     ensures { λ r. ⌜ r ≡ twoTables left x y ⌝ }
 {
     if left { [x, y] } else { [y, y] }

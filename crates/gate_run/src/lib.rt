@@ -6,10 +6,10 @@ use mapper_laws::Operands;
 use mapper_laws::PlanRun;
 use merge::merge;
 use merge::single;
+use pending::Lut;
 use pending::Pending;
 use plan::Plan;
 use plan::Token;
-use table::Table;
 use tree::Kind;
 
 // One operand more.
@@ -26,7 +26,7 @@ fn push(run: PlanRun, x: Pending) -> PlanRun
 }
 
 // A table placed, where the flag says so.
-fn place(run: PlanRun, cut: bool, t: Table) -> PlanRun
+fn place(run: PlanRun, cut: bool, t: Lut) -> PlanRun
     requires { ⌜ run .placed < 18 ⌝ }
     ensures { λ r. ⌜ r ≡ placedIf cut run t ⌝ }
 {
@@ -49,7 +49,7 @@ pub fn operand(run: PlanRun, i: usize) -> Pending
 }
 
 // The two operands on top replaced by one that is read upright.
-fn replace(run: PlanRun, t: Table) -> PlanRun
+fn replace(run: PlanRun, t: Lut) -> PlanRun
     requires { ⌜ (2 ≤ run .depth) × (run .depth ≤ 10) ⌝ }
     ensures { λ r. ⌜ r ≡ replaced run t ⌝ }
 {
@@ -114,7 +114,7 @@ fn advance(run: PlanRun, first: u16, kind: Kind, operands: Operands, token: Toke
 fn start() -> PlanRun
     ensures { λ r. ⌜ Holds r × (r .depth ≡ 0) × (r .placed ≡ 0) ⌝ }
 {
-    let table = Table {
+    let table = Lut {
         net: 0,
         count: 0,
         inputs: [0; 6],

@@ -1,5 +1,5 @@
 -- A LINE IS READ EXACTLY AS IT IS WRITTEN: reading what the writer wrote gives the numbers back, and what is read is what the writer
--- writes of them.
+-- writes of them. Only the level, which no line says, is read as 0.
 use Prim.Native.Nat.{ℕ, _-_, _^_, _≤_, _<_}
 use native.Mathlib.Omega.{arith}
 use mathlib.Core.Path.{_≡_, refl, sym, ap, ap₂, _∙_, subst}
@@ -26,6 +26,7 @@ use Rattle.table.specs.declared.Table.{Table}
 use Rattle.list_line.specs.Trusted.TableLine.{tableLine}
 use Rattle.list_layout.specs.Trusted.Layout.{takeNumber, takeNumbers, takeTop, takeTable}
 use Rattle.list_layout.specs.Trusted.LineSays.{FieldFits, LineSays}
+use Rattle.list_layout.specs.Taken.{atLevel}
 use Rattle.list_layout.specs.FieldLaws.{bind-some, given-bind, given-cond, number-taken, number-found, field-word, numbers-taken, NumbersText, numbers-text, line-feed-text}
 
 -- a number in a field
@@ -75,18 +76,22 @@ zeros-are (x ∷ xs) h = ap₂ _∷_ (every-head h) (zeros-are xs (every-tail h)
 says-count : (r : Table) → LineSays r → length (reads r) ≡ r .count
 says-count r h = length-take-le (r .count) (r .inputs) (omega (arith, h .count .1, h .shaped))
 
--- a record that a line can say is the record of its table
-pub says-record : (r : Table) → LineSays r → recordOf (tableOf r) ≡ r
-says-record r h =
+-- whatever its level
+pub says-level : (l : ℕ) (r : Table) → LineSays r → LineSays (atLevel l r)
+says-level l r h = record { count = h .count; shaped = h .shaped; padded = h .padded; numbers = h .numbers; truth = h .truth }
+
+-- a record that a line can say is, but for its level, the record of its table
+says-record : (l : ℕ) (r : Table) → LineSays r → recordOf l (tableOf r) ≡ atLevel l r
+says-record l r h =
     let u = says-count r h in
     let z : length (drop (r .count) (r .inputs)) ≡ inputRoom - length (reads r) = simp length-drop (omega (arith, u, h .shaped)) in
     let i : reads r ++ replicate (inputRoom - length (reads r)) 0 ≡ r .inputs =
     ap (λ n. reads r ++ replicate n 0) (sym z) ∙ ap (λ l. reads r ++ l) (sym (zeros-are (drop (r .count) (r .inputs)) (h .padded))) ∙ take-append-drop (r .count) (r .inputs) in
-    ap₂ (λ n l. record { net = r .net; count = n; inputs = l; truth = r .truth }) u i
+    ap₂ (λ n xs. record { net = r .net; count = n; inputs = xs; truth = r .truth; level = l }) u i
 
 -- the record of numbers that a line can say
 record-says : (l : LookupTable) → 2 ≤ length (l .inputs) → length (l .inputs) ≤ inputRoom → Every FieldFits (l .drives ∷ l .inputs) → l .truth < 2 ^ 64 →
-    LineSays (recordOf l)
+    LineSays (recordOf 0 l)
 record-says l low high fits word =
     let zeros : List ℕ = replicate (inputRoom - length (l .inputs)) 0 in
     record {
@@ -113,7 +118,7 @@ inputs-taken t r w h =
     (ap (λ n. takeNumbers n (fieldsOf (reads r) ++ w)) (sym (says-count r h)) ∙ numbers-taken (reads r) w (every-tail (h .numbers)))
 
 module _ (t : ℕ) where
-  pub table-taken : (r : Table) (rest : List ℕ) → FieldFits t → LineSays r → takeTable t (tableLine t r ++ rest) ≡ some (r, rest)
+  pub table-taken : (r : Table) (rest : List ℕ) → FieldFits t → LineSays r → takeTable t (tableLine t r ++ rest) ≡ some (atLevel 0 r, rest)
   table-taken r rest ht h =
       let f = fieldOf columns in
       let w = fieldOf 21 (r .truth) ++ 10 ∷ rest in
@@ -124,14 +129,14 @@ module _ (t : ℕ) where
       ∙ bind-some _ _ (inputs-taken t r w h)
       ∙ bind-some _ _ (number-taken 21 (r .truth) (10 ∷ rest) (omega arith) (omega (arith, h .truth)) (h .truth))
       ∙ bind-some _ _ refl
-      ∙ ap (λ q. some (q, rest)) (says-record r h)
+      ∙ ap (λ q. some (q, rest)) (says-record 0 r h)
 
   abbrev TableText : List ℕ → Table × List ℕ → Type 0
   TableText text (r, rest) = FieldFits t × LineSays r × (text ≡ tableLine t r ++ rest)
 
   -- the line by its numbers, and by the record of them
   same-line : (n net u : ℕ) (inputs : List ℕ) (truth : ℕ) (rest : List ℕ) → n ≡ t → length inputs ≡ u →
-      (fieldsOf (n ∷ net ∷ u ∷ inputs) ++ (fieldOf 21 truth ++ 10 ∷ [])) ++ rest ≡ tableLine t (recordOf (record { drives = net; inputs = inputs; truth = truth })) ++ rest
+      (fieldsOf (n ∷ net ∷ u ∷ inputs) ++ (fieldOf 21 truth ++ 10 ∷ [])) ++ rest ≡ tableLine t (recordOf 0 (record { drives = net; inputs = inputs; truth = truth })) ++ rest
   same-line n net u inputs truth rest e f =
       let end = fieldOf 21 truth ++ 10 ∷ [] in
       ap₂ (λ m v. (fieldsOf (m ∷ net ∷ v ∷ inputs) ++ end) ++ rest) e (sym f)

@@ -91,7 +91,7 @@ module _ (text : List ℕ) (f : FieldNumbers) (h : NumbersTaken text 0 3 f) wher
 
 -- after the inputs: the truth table and the line feed
 abbrev afterInputs : ℕ → List ℕ × List ℕ → Option (Table × List ℕ)
-afterInputs net q = bind (takeNumber 21 (q .1)) (λ x. bind (takeLineFeed (x .1)) (λ rest. some (recordOf (record { drives = net; inputs = q .0; truth = x .0 }), rest)))
+afterInputs net q = bind (takeNumber 21 (q .1)) (λ x. bind (takeLineFeed (x .1)) (λ rest. some (recordOf 0 (record { drives = net; inputs = q .0; truth = x .0 }), rest)))
 
 -- after the first three numbers
 abbrev tableRest : ℕ → ℕ → ℕ → ℕ → List ℕ → Option (Table × List ℕ)
@@ -184,7 +184,7 @@ module _ (text : List ℕ) (at t : ℕ) (head : FieldNumbers) (h : NumbersTaken 
 
       module _ {truth : ℕ} (f : firstNumber 21 (drop place text) ≡ some truth) where
         abbrev said : Table
-        said = recordOf (record { drives = net; inputs = take n (inputs .numbers); truth = truth })
+        said = recordOf 0 (record { drives = net; inputs = take n (inputs .numbers); truth = truth })
 
         line-is : (b : Bool) → LineFeedTaken text (place + 21) b → takeTable t (drop at text) ≡ cond b (some (said, drop (place + 21 + 1) text)) none
         line-is b l =
@@ -195,11 +195,11 @@ module _ (text : List ℕ) (at t : ℕ) (head : FieldNumbers) (h : NumbersTaken 
         feed-not l = not-taken text at t (line-is false l)
 
         pub table-there : length (inputs .numbers) ≡ inputRoom → LineFeedTaken text (place + 21) true → (r : TableRead) → r .laid ≡ true → r .end ≡ place + 21 + 1 →
-            r .table ≡ record { net = narrow net; count = n; inputs = map narrow (inputs .numbers); truth = truth } → TableTaken text at t r
+            r .table ≡ record { net = narrow net; count = n; inputs = map narrow (inputs .numbers); truth = truth; level = 0 } → TableTaken text at t r
         table-there w l r a b c = record {
           says = said;
           same = line-is true l ∙ sym (ap₂ (λ b n. cond b (some (said, drop n text)) none) a b);
-          held = λ d. c ∙ ap₂ (λ m xs. record { net = narrow net; count = m; inputs = map narrow xs; truth = truth }) (sym count) (sym whole);
+          held = λ d. c ∙ ap₂ (λ m xs. record { net = narrow net; count = m; inputs = map narrow xs; truth = truth; level = 0 }) (sym count) (sym whole);
           ends = λ d. let m = l .ends refl in omega (arith, m, b);
         }
           where

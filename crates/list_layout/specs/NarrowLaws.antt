@@ -1,4 +1,4 @@
--- A record keeps the rules where it does so as it is held, and is then held as it is: 65535 is no net, and names no table.
+-- A record keeps 01's points where it does so as it is held, and is then held as it is: 65535 is no net, and names no table.
 use Prim.Native.Nat.{ℕ, _+_, _≤_}
 use native.Mathlib.Omega.{arith}
 use mathlib.Core.Path.{_≡_, refl, sym, ap₂, subst}
@@ -11,10 +11,10 @@ use Rattle.lists.specs.ListLaws.{every-none, every-cons, every-head, every-tail
 use Rattle.lists.specs.TestLaws.{reflects-same}
 use Rattle.tree.specs.Trusted.Limits.{codeBase}
 use Rattle.table.specs.Trusted.Limits.{tableRoom}
-use Rattle.table.specs.Trusted.RecordTest.{keeps}
+use Rattle.table.specs.Trusted.RecordTest.{keepsPoints}
 use Rattle.table.specs.ResultLaws.{says-true}
-use Rattle.table.specs.RuleLaws.{Keeps}
-use Rattle.table.specs.TestedLaws.{keeps-reflects}
+use Rattle.table.specs.RuleLaws.{Points}
+use Rattle.table.specs.TestedLaws.{points-reflect}
 use Rattle.table.specs.declared.Table.{Table}
 use Rattle.list_layout.specs.Taken.{narrow, narrowed}
 
@@ -34,8 +34,8 @@ small-held [] h = every-none _
 small-held (x ∷ xs) h = every-cons (let l = every-head h in omega (arith, l)) (small-held xs (every-tail h))
 
 module _ (k : ℕ) (before : List Table) (room : length before ≤ tableRoom) where
-  -- the numbers of a record that keeps the rules
-  kept-small : (r : Table) → Keeps k before r → Small (r .net) × Every Small (r .inputs)
+  -- the numbers of a record that keeps them
+  kept-small : (r : Table) → Points k before r → Small (r .net) × Every Small (r .inputs)
   kept-small r h = (
     omega (arith, h .coded .0),
     subst (Every Small) (take-append-drop (r .count) (r .inputs))
@@ -46,19 +46,20 @@ module _ (k : ℕ) (before : List Table) (room : length before ≤ tableRoom) wh
 
   module _ (r : Table) where
     same-record : Small (narrow (r .net)) → Every Small (map narrow (r .inputs)) → narrowed r ≡ r
-    same-record h g = ap₂ (λ n l. record { net = n; count = r .count; inputs = l; truth = r .truth }) (narrow-one (r .net) h) (narrow-all (r .inputs) g)
+    same-record h g =
+        ap₂ (λ n xs. record { net = n; count = r .count; inputs = xs; truth = r .truth; level = r .level }) (narrow-one (r .net) h) (narrow-all (r .inputs) g)
 
-    held-kept : Keeps k before (narrowed r) → narrowed r ≡ r
+    held-kept : Points k before (narrowed r) → narrowed r ≡ r
     held-kept h = let s = kept-small (narrowed r) h in same-record (s .0) (s .1)
 
-    kept-held : Keeps k before r → narrowed r ≡ r
+    kept-held : Points k before r → narrowed r ≡ r
     kept-held h = let s = kept-small r h in same-record (let l = s .0 in omega (arith, l)) (small-held (r .inputs) (s .1))
 
-    pub keeps-held : keeps k before (narrowed r) ≡ keeps k before r
-    keeps-held =
-        reflects-same (keeps-reflects k before (narrowed r)) (keeps-reflects k before r)
-        (λ h. subst (Keeps k before) (held-kept h) h)
-        (λ h. subst (Keeps k before) (sym (kept-held h)) h)
+    pub points-held : keepsPoints k before (narrowed r) ≡ keepsPoints k before r
+    points-held =
+        reflects-same (points-reflect k before (narrowed r)) (points-reflect k before r)
+        (λ h. subst (Points k before) (held-kept h) h)
+        (λ h. subst (Points k before) (sym (kept-held h)) h)
 
-    pub kept-same : keeps k before r ≡ true → narrowed r ≡ r
-    kept-same e = kept-held (says-true (keeps-reflects k before r) e)
+    pub kept-same : keepsPoints k before r ≡ true → narrowed r ≡ r
+    kept-same e = kept-held (says-true (points-reflect k before r) e)

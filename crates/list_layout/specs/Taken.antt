@@ -16,12 +16,16 @@ use Rattle.list_layout.specs.declared.TopRead.{TopRead}
 use Rattle.list_layout.specs.declared.TableRead.{TableRead}
 use Rattle.list_layout.specs.Trusted.Layout.{takeNumbers, takeLineFeed, takeTop, takeTable}
 
+-- the record with this level
+abbrev pub atLevel : ℕ → Table → Table
+atLevel l r = record { net = r .net; count = r .count; inputs = r .inputs; truth = r .truth; level = l }
+
 -- as a record holds it
 abbrev pub narrow : ℕ → ℕ
 narrow n = min n 65535
 
 abbrev pub narrowed : Table → Table
-narrowed r = record { net = narrow (r .net); count = r .count; inputs = map narrow (r .inputs); truth = r .truth }
+narrowed r = record { net = narrow (r .net); count = r .count; inputs = map narrow (r .inputs); truth = r .truth; level = r .level }
 
 -- the numbers of n fields from the place on
 pub record NumbersTaken (text : List ℕ) (at n : ℕ) (r : FieldNumbers) : Type 0 where

@@ -139,7 +139,7 @@ fn not_laid() -> TableRead
     }
 }
 
-// The line of table t, from the place on.
+// The line of table t, from the place on. It does not say the level, which is held as 0.
 pub fn read_table(text: &[u8], at: usize, t: u16) -> TableRead
     ensures { λ r. ⌜ TableTaken (now (text .entry)) at t r ⌝ }
 {
@@ -169,6 +169,7 @@ pub fn read_table(text: &[u8], at: usize, t: u16) -> TableRead
         count: n as u8,
         inputs: held,
         truth,
+        level: 0,
     };
     TableRead {
         laid: true,

@@ -8,16 +8,16 @@ use Rattle.list_reading.specs.PartExamples.{part}
 use Rattle.list_numbers.specs.Trusted.Numbers.{partNumbers, listCode, numbersRead}
 
 abbrev numbers : List ℕ
-numbers = 4 ∷ 8 ∷ 2 ∷ 20 ∷ 4 ∷ 1 ∷ 2 ∷ 3 ∷ 4 ∷ 0 ∷ 0 ∷ 61152 ∷ 21 ∷ 2 ∷ 5 ∷ 20 ∷ 0 ∷ 0 ∷ 0 ∷ 0 ∷ 11 ∷ []
+numbers = 4 ∷ 8 ∷ 2 ∷ 20 ∷ 4 ∷ 1 ∷ 2 ∷ 3 ∷ 4 ∷ 0 ∷ 0 ∷ 61152 ∷ 1 ∷ 21 ∷ 2 ∷ 5 ∷ 20 ∷ 0 ∷ 0 ∷ 0 ∷ 0 ∷ 11 ∷ 2 ∷ []
 
 part-is : partNumbers part ≡ numbers
 part-is = refl
 
 -- two numbers of the buffer are left
-handed : numbersRead (passed part) (replicate 23 7) ≡ record { code = 0; numbers = numbers ++ 7 ∷ 7 ∷ [] }
+handed : numbersRead (passed part) (replicate 25 7) ≡ record { code = 0; numbers = numbers ++ 7 ∷ 7 ∷ [] }
 handed = refl
 
-short : numbersRead (passed part) (replicate 20 7) ≡ record { code = 917504; numbers = replicate 20 7 }
+short : numbersRead (passed part) (replicate 22 7) ≡ record { code = 917504; numbers = replicate 22 7 }
 short = refl
 
 -- a rule broken at line 2: 32 times 65536, and 2

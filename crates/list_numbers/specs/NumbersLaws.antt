@@ -29,18 +29,18 @@ use Rattle.list_numbers.specs.Answered.{cameOf, answerCode}
 
 -- ---- the numbers of the tables
 
-records-length : (rs : List Table) → Every (λ r. length (r .inputs) ≡ inputRoom) rs → length (gather recordNumbers rs) ≡ 9 * length rs
+records-length : (rs : List Table) → Every (λ r. length (r .inputs) ≡ inputRoom) rs → length (gather recordNumbers rs) ≡ 10 * length rs
 records-length [] h = refl
 records-length (r ∷ rs) h =
-    omega (arith, length-append (recordNumbers r) (gather recordNumbers rs), length-append (r .inputs) (r .truth ∷ []), every-head h, records-length rs (every-tail h))
+    omega (arith, length-append (recordNumbers r) (gather recordNumbers rs), length-append (r .inputs) (r .truth ∷ r .level ∷ []), every-head h, records-length rs (every-tail h))
 
 module _ (p : Part) (s : Shaped p) where
   -- the numbers of the first n tables
-  pub tables-numbers : (n : ℕ) → n ≤ 800 → length (gather recordNumbers (take n (p .tables))) ≡ 9 * n
+  pub tables-numbers : (n : ℕ) → n ≤ 800 → length (gather recordNumbers (take n (p .tables))) ≡ 10 * n
   tables-numbers n h =
-      records-length (take n (p .tables)) (every-take n (p .tables) (s .inputs)) ∙ ap (λ m. 9 * m) (length-take-le n (p .tables) (omega (arith, s .records)))
+      records-length (take n (p .tables)) (every-take n (p .tables) (s .inputs)) ∙ ap (λ m. 10 * m) (length-take-le n (p .tables) (omega (arith, s .records)))
 
-  pub part-numbers : p .used ≤ 800 → length (partNumbers p) ≡ 3 + 9 * p .used
+  pub part-numbers : p .used ≤ 800 → length (partNumbers p) ≡ 3 + 10 * p .used
   part-numbers h = omega (arith, tables-numbers (p .used) h)
 
 -- one table more
@@ -96,13 +96,13 @@ used-at-most (refused number line) h = omega arith
 pub read-used : (text : List ℕ) → (readResult (readList text)) .part .used ≤ 800
 read-used text = used-at-most (readList text) (read-room text)
 
-room-told : (c : Checked Part) → ((p : Part) → c ≡ passed p → Shaped p × (p .used ≤ 800)) → (old : List ℕ) → 7203 ≤ length old → (numbersRead c old) .code ≡ listCode c
+room-told : (c : Checked Part) → ((p : Part) → c ≡ passed p → Shaped p × (p .used ≤ 800)) → (old : List ℕ) → 8003 ≤ length old → (numbersRead c old) .code ≡ listCode c
 room-told (passed p) h old l =
     let s = h p refl in
     let fits : length (partNumbers p) ≤ length old = omega (arith, part-numbers p (s .0) (s .1), s .1) in
     rw (le-leb (length (partNumbers p)) (length old) fits)
 room-told (refused number line) h old l = refl
 
--- 7203 NUMBERS ARE ALWAYS ENOUGH: there is no 14
-pub always-room : (text old : List ℕ) → 7203 ≤ length old → (numbersRead (readList text) old) .code ≡ listCode (readList text)
+-- 8003 NUMBERS ARE ALWAYS ENOUGH: there is no 14
+pub always-room : (text old : List ℕ) → 8003 ≤ length old → (numbersRead (readList text) old) .code ≡ listCode (readList text)
 always-room text = room-told (readList text) (read-room text)

@@ -18,7 +18,7 @@ use table::Table;
 // The numbers before those of the tables, and the numbers of a table.
 const TOP: usize = 3;
 
-const RECORD: usize = 9;
+const RECORD: usize = 10;
 
 // A refusal's code is so many times its number, and the line. A buffer that is too short is refused with 14.
 const NUMBER: u32 = 65536;
@@ -45,9 +45,9 @@ fn put_inputs(numbers: &mut [u64], at: usize, inputs: [u16; 6])
     }
 }
 
-// The nine numbers of a table, from the place on.
+// The ten numbers of a table, from the place on.
 fn put_record(numbers: &mut [u64], at: usize, r: Table)
-    requires { ⌜ at + 9 ≤ length (now numbers) ⌝ }
+    requires { ⌜ at + 10 ≤ length (now numbers) ⌝ }
     ensures { λ _. ⌜ now (numbers .exit) ≡ pasted (now (numbers .entry)) at (recordNumbers r) ⌝ }
 {
     let inputs = r.inputs;
@@ -55,11 +55,12 @@ fn put_record(numbers: &mut [u64], at: usize, r: Table)
     put_number(numbers, at + 1, r.count as u16);
     put_inputs(numbers, at + 2, inputs);
     numbers[at + 8] = r.truth;
+    put_number(numbers, at + 9, r.level);
 }
 
 // The numbers of the tables in use, from the place on.
 fn put_records(numbers: &mut [u64], at: usize, p: Part)
-    requires { ⌜ (p .used ≤ 800) × (at + 9 * p .used ≤ length (now numbers)) ⌝ }
+    requires { ⌜ (p .used ≤ 800) × (at + 10 * p .used ≤ length (now numbers)) ⌝ }
     ensures { λ _. ⌜ now (numbers .exit) ≡ pasted (now (numbers .entry)) at (gather recordNumbers (inUse p)) ⌝ }
 {
     let used = p.used as usize;

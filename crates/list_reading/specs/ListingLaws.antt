@@ -1,25 +1,27 @@
--- A number can be read off its field, and so a part off its lines: two sound parts with the same lines are the same part.
+-- A number can be read off its field, and so a part off its lines: two sound parts with the same lines are the same part. No line says a
+-- level, but the rules fix the levels by the rest.
 use Prim.Native.Nat.{ℕ, zero, suc, _^_, _≤_, _<_}
 use native.Mathlib.Nat.{pow-le-pow-right}
 use native.Mathlib.Omega.{arith}
 use mathlib.Core.Path.{_≡_, refl, sym, ap, ap₂, _∙_, subst}
 use mathlib.Core.Logic.{⊎-elim}
 use mathlib.Core.List.{List, [], _∷_, _++_, append-assoc, map, Memᴰ·map, Memᴰ·of-map}
-use lib.ListN.{length, drop, getD, length-take, length-drop, take-append-drop}
+use lib.ListN.{length, drop, getD, length-take, length-drop, length-map, take-append-drop, List·getD-map}
 use lib.Seq.{getD-take, ext-getD, length-take-le}
 use Rattle.lists.specs.NumberLaws.{from-one}
 use Rattle.lists.specs.Trusted.Lists.{_∈_, first, later, Every, gather}
 use Rattle.lists.specs.Sequences.{upto}
 use Rattle.lists.specs.ListLaws.{every-none, every-at, every-cons, every-head, every-tail, every-take, every-drop}
-use Rattle.tree.specs.Trusted.Limits.{greatestNet}
+use Rattle.tree.specs.Trusted.Limits.{greatestNet, codeBase}
 use Rattle.decimal.specs.Trusted.Columns.{fieldOf, fieldsOf}
 use Rattle.decimal.specs.ColumnLaws.{field-only, fields-only}
-use Rattle.cover.specs.Trusted.Tables.{Placed}
+use Rattle.cover.specs.Trusted.Tables.{Placed, levelsOf}
 use Rattle.table.specs.Trusted.Limits.{inputRoom}
 use Rattle.table.specs.Trusted.Records.{reads, tableOf, blank}
 use Rattle.table.specs.Trusted.Rules.{AllZero, Blank, NamesTable, Padded, places}
 use Rattle.table.specs.RuleLaws.{old-place, record-placed}
-use Rattle.part.specs.Trusted.Parts.{inUse, Shaped}
+use Rattle.list_layout.specs.Taken.{atLevel}
+use Rattle.part.specs.Trusted.Parts.{inUse, tablesOf, Shaped}
 use Rattle.part.specs.Trusted.Sound.{Sound}
 use Rattle.part.specs.SoundLaws.{used-count}
 use Rattle.list_line.specs.Trusted.TableLine.{tableLine}
@@ -38,8 +40,12 @@ same-by P h (x ∷ xs) (y ∷ ys) l f g = ap₂ _∷_ (h x y (every-head f) (eve
 zeros-same : (xs ys : List ℕ) → length xs ≡ length ys → AllZero xs → AllZero ys → xs ≡ ys
 zeros-same = same-by (λ x. x ≡ 0) (λ a b e f. e ∙ sym f)
 
-same-record : (r s : Table) → r .net ≡ s .net → r .count ≡ s .count → r .inputs ≡ s .inputs → r .truth ≡ s .truth → r ≡ s
-same-record r s a b c d = λ i. record { net = a i; count = b i; inputs = c i; truth = d i }
+same-record : (r s : Table) → r .net ≡ s .net → r .count ≡ s .count → r .inputs ≡ s .inputs → r .truth ≡ s .truth → r .level ≡ s .level → r ≡ s
+same-record r s a b c d e = λ i. record { net = a i; count = b i; inputs = c i; truth = d i; level = e i }
+
+-- two records are the same but for their levels
+abbrev SameBut : Table → Table → Type 0
+SameBut r s = atLevel 0 r ≡ atLevel 0 s
 
 -- what a record of a sound part is
 record Small (r : Table) : Type 0 where
@@ -72,10 +78,10 @@ inputs-same r s f g c e =
     (simp length-drop (omega (arith, c, f .room, g .room))) (f .padded) (g .padded))
     ∙ take-append-drop (s .count) (s .inputs)
 
--- a record is read off its line, and what follows is the same
+-- a record but for its level is read off its line, and what follows is the same
 table-line-only : (t : ℕ) (r s : Table) (xs ys : List ℕ) → t < 10 ^ 6 → Small r → Small s → tableLine t r ++ xs ≡ tableLine t s ++ ys →
-    (r ≡ s) × (xs ≡ ys)
-table-line-only t r s xs ys l f g e = (same-record r s (b .0) (c .0) (inputs-same r s f g (c .0) (d .0)) (h .0), cc (h .1))
+    SameBut r s × (xs ≡ ys)
+table-line-only t r s xs ys l f g e = (same-record (atLevel 0 r) (atLevel 0 s) (b .0) (c .0) (inputs-same r s f g (c .0) (d .0)) (h .0) refl, cc (h .1))
   where
     after : Table → List ℕ → List ℕ
     after u zs = (fieldOf 21 (u .truth) ++ 10 ∷ []) ++ zs
@@ -150,18 +156,34 @@ in-upto (suc n) (suc t) l = later (Memᴰ·map suc (in-upto n t (omega arith)))
 blank-same : (r s : Table) → Blank r × (length (r .inputs) ≡ inputRoom) → Blank s × (length (s .inputs) ≡ inputRoom) → r ≡ s
 blank-same r s f g =
     same-record r s (f .0 .net ∙ sym (g .0 .net)) (f .0 .count ∙ sym (g .0 .count))
-    (zeros-same (r .inputs) (s .inputs) (f .1 ∙ sym (g .1)) (f .0 .inputs) (g .0 .inputs)) (f .0 .truth ∙ sym (g .0 .truth))
+    (zeros-same (r .inputs) (s .inputs) (f .1 ∙ sym (g .1)) (f .0 .inputs) (g .0 .inputs)) (f .0 .truth ∙ sym (g .0 .truth)) (f .0 .level ∙ sym (g .0 .level))
 
 module _ (p q : Part) (fp : Shaped p) (fq : Shaped q) (hp : Sound p) (hq : Sound q) where
   same-part : p .k ≡ q .k → p .capacity ≡ q .capacity → p .used ≡ q .used →
-      ((t : ℕ) → t < p .used → getD (p .tables) t blank ≡ getD (q .tables) t blank) → p ≡ q
+      ((t : ℕ) → t < p .used → SameBut (getD (p .tables) t blank) (getD (q .tables) t blank)) → p ≡ q
   same-part a b c d = λ i. record { k = a i; capacity = b i; used = c i; tables = tables i }
     where
-      front : inUse p ≡ inUse q
-      front = ext-getD blank (inUse p) (inUse q) (used-count p fp hp ∙ c ∙ sym (used-count q fq hq)) (λ i l.
+      count : length (inUse p) ≡ length (inUse q)
+      count = used-count p fp hp ∙ c ∙ sym (used-count q fq hq)
+
+      same-at : (i : ℕ) → i < length (inUse p) → SameBut (getD (inUse p) i blank) (getD (inUse q) i blank)
+      same-at i l =
           let m : i < p .used = omega (arith, l, used-count p fp hp) in
           let n : i < q .used = omega (arith, m, c) in
-          getD-take (p .used) (p .tables) i blank m ∙ d i m ∙ sym (getD-take (q .used) (q .tables) i blank n))
+          ap (atLevel 0) (getD-take (p .used) (p .tables) i blank m) ∙ d i m ∙ ap (atLevel 0) (sym (getD-take (q .used) (q .tables) i blank n))
+
+      -- the tables are the same, and so their levels
+      same-tables : tablesOf p ≡ tablesOf q
+      same-tables = ext-getD (tableOf blank) (tablesOf p) (tablesOf q) (length-map (inUse p) tableOf ∙ count ∙ sym (length-map (inUse q) tableOf)) (λ i l.
+          List·getD-map tableOf (inUse p) i blank ∙ ap tableOf (same-at i (omega (arith, l, length-map (inUse p) tableOf))) ∙ sym (List·getD-map tableOf (inUse q) i blank))
+
+      same-levels : map (λ r. r .level) (inUse p) ≡ map (λ r. r .level) (inUse q)
+      same-levels = hp .rules .levels ∙ ap (levelsOf codeBase) same-tables ∙ sym (hq .rules .levels)
+
+      front : inUse p ≡ inUse q
+      front = ext-getD blank (inUse p) (inUse q) count (λ i l.
+          ap₂ (λ r n. atLevel n r) (same-at i l)
+          (sym (List·getD-map (λ r. r .level) (inUse p) i blank) ∙ ap (λ ls. getD ls i 0) same-levels ∙ List·getD-map (λ r. r .level) (inUse q) i blank))
 
       rest : drop (p .used) (p .tables) ≡ drop (q .used) (q .tables)
       rest = same-by (λ r. Blank r × (length (r .inputs) ≡ inputRoom)) blank-same (drop (p .used) (p .tables)) (drop (q .used) (q .tables))
@@ -183,7 +205,7 @@ module _ (p q : Part) (fp : Shaped p) (fq : Shaped q) (hp : Sound p) (hq : Sound
 
   -- line t, and what follows it
   line-only : (t : ℕ) (xs ys : List ℕ) → t < p .used → t < q .used → lineOf p (suc t) ++ xs ≡ lineOf q (suc t) ++ ys →
-      (getD (p .tables) t blank ≡ getD (q .tables) t blank) × (xs ≡ ys)
+      SameBut (getD (p .tables) t blank) (getD (q .tables) t blank) × (xs ≡ ys)
   line-only t xs ys l m e =
       table-line-only (suc t) (getD (p .tables) t blank) (getD (q .tables) t blank) xs ys
       (omega (arith, l, hp .used-fits, hp .capacity-range .1)) (small-at p fp hp t l) (small-at q fq hq t m) e
@@ -195,7 +217,7 @@ module _ (p q : Part) (fp : Shaped p) (fq : Shaped q) (hp : Sound p) (hq : Sound
       same-part (a .0) (a .1) (a .2) (λ t l. line-only t [] [] l (omega (arith, l, a .2)) (ap (λ l. l ++ []) (e (suc t) l)) .0)
 
   lines-only : (ts : List ℕ) → Every (λ t. (t < p .used) × (t < q .used)) ts → gather (lineOf p) (map suc ts) ≡ gather (lineOf q) (map suc ts) →
-      Every (λ t. getD (p .tables) t blank ≡ getD (q .tables) t blank) ts
+      Every (λ t. SameBut (getD (p .tables) t blank) (getD (q .tables) t blank)) ts
   lines-only [] f e = every-none _
   lines-only (t ∷ ts) f e =
       let h = every-head f in

@@ -15,16 +15,16 @@ use Rattle.part.specs.Trusted.SoundTest.{sound}
 use Rattle.part.specs.Trusted.Add.{opened}
 use Rattle.listing.specs.Trusted.Listing.{listOf}
 
--- a record with its unused inputs zero
-abbrev made : ℕ → List ℕ → ℕ → Table
-made n xs t = record { net = n; count = length xs; inputs = xs ++ replicate (inputRoom - length xs) 0; truth = t }
+-- a record of this level, with its unused inputs zero
+abbrev made : (level : ℕ) → ℕ → List ℕ → ℕ → Table
+made level n xs t = record { net = n; count = length xs; inputs = xs ++ replicate (inputRoom - length xs) 0; truth = t; level = level }
 
 -- the two tables of 01's list
 abbrev one : Table
-one = made 20 (1 ∷ 2 ∷ 3 ∷ 4 ∷ []) 61152
+one = made 1 20 (1 ∷ 2 ∷ 3 ∷ 4 ∷ []) 61152
 
 abbrev two : Table
-two = made 21 (5 ∷ 20 ∷ []) 11
+two = made 2 21 (5 ∷ 20 ∷ []) 11
 
 abbrev pub part : Part
 part = record { k = 4; capacity = 8; used = 2; tables = one ∷ two ∷ drop 2 blanks }
@@ -84,36 +84,45 @@ runs =
     -- a record of zeros
     ((4, 8, (one ∷ blank ∷ [])), bad 2) ∷
     -- one input
-    ((4, 8, (made 9 (1 ∷ []) 1 ∷ [])), bad 1) ∷
+    ((4, 8, (made 1 9 (1 ∷ []) 1 ∷ [])), bad 1) ∷
     -- an unused input that is not zero
-    ((4, 8, (record { net = 9; count = 2; inputs = 1 ∷ 2 ∷ 3 ∷ 0 ∷ 0 ∷ 0 ∷ []; truth = 8 } ∷ [])), bad 1) ∷
+    ((4, 8, (record { net = 9; count = 2; inputs = 1 ∷ 2 ∷ 3 ∷ 0 ∷ 0 ∷ 0 ∷ []; truth = 8; level = 1 } ∷ [])), bad 1) ∷
     -- a net driven above 9999
-    ((4, 8, (made 10000 (1 ∷ 2 ∷ []) 8 ∷ [])), bad 1) ∷
+    ((4, 8, (made 1 10000 (1 ∷ 2 ∷ []) 8 ∷ [])), bad 1) ∷
     -- inputs 0 and 10000
-    ((4, 8, (made 9 (0 ∷ 2 ∷ []) 8 ∷ [])), bad 1) ∷
-    ((4, 8, (made 9 (1 ∷ 10000 ∷ []) 8 ∷ [])), bad 1) ∷
+    ((4, 8, (made 1 9 (0 ∷ 2 ∷ []) 8 ∷ [])), bad 1) ∷
+    ((4, 8, (made 1 9 (1 ∷ 10000 ∷ []) 8 ∷ [])), bad 1) ∷
     -- nets 1001 and 9999, and what names table 800 or none
-    ((4, 8, (made 9999 (1001 ∷ 9998 ∷ []) 8 ∷ [])), none) ∷
-    ((4, 8, (made 9998 (1001 ∷ 9999 ∷ []) 8 ∷ [])), none) ∷
-    ((4, 8, (made 9 (1 ∷ 10800 ∷ []) 8 ∷ [])), bad 1) ∷
-    ((4, 8, (made 9 (1 ∷ 10801 ∷ []) 8 ∷ [])), bad 1) ∷
+    ((4, 8, (made 1 9999 (1001 ∷ 9998 ∷ []) 8 ∷ [])), none) ∷
+    ((4, 8, (made 1 9998 (1001 ∷ 9999 ∷ []) 8 ∷ [])), none) ∷
+    ((4, 8, (made 1 9 (1 ∷ 10800 ∷ []) 8 ∷ [])), bad 1) ∷
+    ((4, 8, (made 1 9 (1 ∷ 10801 ∷ []) 8 ∷ [])), bad 1) ∷
     -- inputs that do not rise
-    ((4, 8, (made 9 (2 ∷ 2 ∷ []) 8 ∷ [])), bad 1) ∷
+    ((4, 8, (made 1 9 (2 ∷ 2 ∷ []) 8 ∷ [])), bad 1) ∷
     -- a truth table of 2^(2^u)
-    ((4, 8, (made 9 (1 ∷ 2 ∷ []) 16 ∷ [])), bad 1) ∷
-    ((4, 8, (made 9 (1 ∷ 2 ∷ []) 15 ∷ [])), none) ∷
+    ((4, 8, (made 1 9 (1 ∷ 2 ∷ []) 16 ∷ [])), bad 1) ∷
+    ((4, 8, (made 1 9 (1 ∷ 2 ∷ []) 15 ∷ [])), none) ∷
     -- table 1 is read by itself; by an earlier one; by a later one
-    ((4, 8, (made 0 (1 ∷ 10001 ∷ []) 8 ∷ [])), bad 1) ∷
-    ((4, 8, (made 9 (1 ∷ 10002 ∷ []) 8 ∷ made 0 (2 ∷ 3 ∷ []) 8 ∷ [])), bad 1) ∷
-    ((4, 8, (made 0 (2 ∷ 3 ∷ []) 8 ∷ made 9 (1 ∷ 10001 ∷ []) 8 ∷ [])), none) ∷
+    ((4, 8, (made 1 0 (1 ∷ 10001 ∷ []) 8 ∷ [])), bad 1) ∷
+    ((4, 8, (made 1 9 (1 ∷ 10002 ∷ []) 8 ∷ made 1 0 (2 ∷ 3 ∷ []) 8 ∷ [])), bad 1) ∷
+    ((4, 8, (made 1 0 (2 ∷ 3 ∷ []) 8 ∷ made 2 9 (1 ∷ 10001 ∷ []) 8 ∷ [])), none) ∷
     -- a table that drives a net is read as a table
-    ((4, 8, (made 8 (2 ∷ 3 ∷ []) 8 ∷ made 9 (1 ∷ 10001 ∷ []) 8 ∷ [])), bad 2) ∷
+    ((4, 8, (made 1 8 (2 ∷ 3 ∷ []) 8 ∷ made 2 9 (1 ∷ 10001 ∷ []) 8 ∷ [])), bad 2) ∷
     -- a net driven twice
-    ((4, 8, (one ∷ made 20 (6 ∷ 7 ∷ []) 8 ∷ [])), bad 2) ∷
+    ((4, 8, (one ∷ made 1 20 (6 ∷ 7 ∷ []) 8 ∷ [])), bad 2) ∷
     -- a net read and later driven is found at its driver
-    ((4, 8, (two ∷ one ∷ [])), bad 2) ∷
+    ((4, 8, (made 1 21 (5 ∷ 20 ∷ []) 11 ∷ one ∷ [])), bad 2) ∷
     -- a net read by its own driver
-    ((4, 8, (made 9 (1 ∷ 9 ∷ []) 8 ∷ [])), bad 1) ∷ []
+    ((4, 8, (made 1 9 (1 ∷ 9 ∷ []) 8 ∷ [])), bad 1) ∷
+    -- a level that is too low; too high; and that of a net's driver, not one more
+    ((4, 8, (made 0 9 (1 ∷ 2 ∷ []) 8 ∷ [])), bad 1) ∷
+    ((4, 8, (made 2 9 (1 ∷ 2 ∷ []) 8 ∷ [])), bad 1) ∷
+    ((4, 8, (one ∷ made 1 21 (5 ∷ 20 ∷ []) 11 ∷ [])), bad 2) ∷
+    -- a chain of nets and tables
+    ((4, 8, (one ∷ made 2 0 (5 ∷ 20 ∷ []) 11 ∷ made 3 22 (6 ∷ 10002 ∷ []) 8 ∷ made 4 23 (7 ∷ 22 ∷ []) 8 ∷ [])), none) ∷
+    -- one more than the greatest level, and not than the last input's
+    ((4, 8, (one ∷ made 2 21 (5 ∷ 20 ∷ []) 11 ∷ made 1 0 (5 ∷ 6 ∷ []) 8 ∷ made 3 23 (21 ∷ 10003 ∷ []) 8 ∷ [])), none) ∷
+    ((4, 8, (one ∷ made 2 21 (5 ∷ 20 ∷ []) 11 ∷ made 1 0 (5 ∷ 6 ∷ []) 8 ∷ made 2 23 (21 ∷ 10003 ∷ []) 8 ∷ [])), bad 4) ∷ []
 
 abbrev results : List ((ℕ × ℕ × List Table) × Verdict) → List Verdict
 results [] = []

@@ -16,7 +16,7 @@ use Rattle.lists.specs.Trusted.Tests.{Reflects}
 use Rattle.lists.specs.TestLaws.{reflects-le, reflects-within, by-reflects}
 use Rattle.decimal.specs.Trusted.Columns.{fieldsOf}
 use Rattle.table.specs.Trusted.Limits.{inputRoom, tableRoom, KRange, CapacityRange}
-use Rattle.table.specs.Trusted.Records.{blank}
+use Rattle.table.specs.Trusted.Records.{levelAfter, levelled, blank}
 use Rattle.table.specs.Trusted.Rules.{Blank, Rules}
 use Rattle.table.specs.RuleLaws.{Keeps, rules-snoc, rules-keeps, rules-prefix}
 use Rattle.table.specs.TestedLaws.{keeps-reflects, no-records}
@@ -33,7 +33,8 @@ use Rattle.listing.specs.Trusted.Listing.{listOf}
 use Rattle.listing.specs.Lines.{tableLines}
 use Rattle.listing.specs.LineLaws.{list-is, lines-next}
 use Rattle.part.specs.OpenLaws.{opened-shaped, opened-sound}
-use Rattle.list_layout.specs.LayoutLaws.{top-taken, top-text, table-taken, table-text}
+use Rattle.list_layout.specs.Taken.{atLevel}
+use Rattle.list_layout.specs.LayoutLaws.{top-taken, top-text, says-level, table-taken, table-text}
 use Rattle.list_reading.specs.Trusted.ReadList.{readTables, isNil, readList}
 use Rattle.list_reading.specs.Trusted.ListConditions.{TopSays, linesFrom, GoodLines, ListCondition, no-top, bad-k, bad-capacity, used-above, no-line, rule-broken, left-over}
 
@@ -192,7 +193,7 @@ module _ (text : List ℕ) (k : ℕ) where
 
     -- a line that is laid out is taken
     line-read : (rs : List Table) (rest : List ℕ) (r : Table) (more : List ℕ) → GoodLines text k used rs rest → length rs < used → LineSays r →
-        rest ≡ tableLine (suc (length rs)) r ++ more → takeTable (suc (length rs)) rest ≡ some (r, more)
+        rest ≡ tableLine (suc (length rs)) r ++ more → takeTable (suc (length rs)) rest ≡ some (atLevel 0 r, more)
     line-read rs rest r more g l s e =
         ap (takeTable (suc (length rs))) e ∙ table-taken (suc (length rs)) r more (omega (arith, g .used-fits, g .capacity-range)) s
 
@@ -208,9 +209,11 @@ module _ (text : List ℕ) (k : ℕ) where
         (λ z. no-line k used rs rest g (omega arith) (λ r more s q. none-some (sym z ∙ line-read rs rest r more g (omega arith) s q)))
         (λ (r, more) q.
         let h = table-text (suc (length rs)) rest q in
-        by-require 32 (suc (length rs)) _ (keeps-reflects k rs r) (λ c. ListSays text (c >>= finish k (g .capacity) used))
-        (λ b. lines-say n (rs ++ r ∷ []) more (good-next rs rest r more g (omega arith) (h .1) b (h .2)) (rw length-append (omega arith)))
-        (λ b. rule-broken k used rs r more (subst (GoodLines text k used rs) (h .2) g) (omega arith) (h .1) (λ w. b (rules-keeps k rs r w))))
+        let s : Table = levelled rs r in
+        let says = says-level (levelAfter rs r) r (h .1) in
+        by-require 32 (suc (length rs)) _ (keeps-reflects k rs s) (λ c. ListSays text (c >>= finish k (g .capacity) used))
+        (λ b. lines-say n (rs ++ s ∷ []) more (good-next rs rest s more g (omega arith) says b (h .2)) (rw length-append (omega arith)))
+        (λ b. rule-broken k used rs s more (subst (GoodLines text k used rs) (h .2) g) (omega arith) says refl (λ w. b (rules-keeps k rs s w))))
 
 -- no line so far
 good-top : (text : List ℕ) {k capacity used : ℕ} {more : List ℕ} → TopSays text k capacity used more → KRange k → CapacityRange capacity → used ≤ capacity →
@@ -243,6 +246,10 @@ list-says text =
 
 -- ---- the same steps, taken
 
+-- a record whose level is the one worked out
+level-is : (before : List Table) (r : Table) → r .level ≡ levelAfter before r → levelled before r ≡ r
+level-is before r e = ap (λ l. atLevel l r) (sym e)
+
 -- good lines are read
 tables-read : (k : ℕ) (before rs : List Table) (m n : ℕ) (rest : List ℕ) → m ≡ length rs + n → FieldFits (length before + length rs) →
     Every LineSays rs → Rules k (before ++ rs) → readTables k m before (linesFrom (suc (length before)) rs ++ rest) ≡ readTables k n (before ++ rs) rest
@@ -252,7 +259,8 @@ tables-read k before (r ∷ rs) (suc m) n rest e l s h =
     given-on 31 (suc (length before)) _
     (ap (takeTable (suc (length before))) (append-assoc (tableLine (suc (length before)) r) lines rest)
     ∙ table-taken (suc (length before)) r (lines ++ rest) (omega arith) (every-head s))
-    ∙ require-on 32 (suc (length before)) _ (keeps-reflects k before r) (rules-keeps k before r (rules-prefix k (before ++ r ∷ []) rs w))
+    ∙ require-on 32 (suc (length before)) _ (keeps-reflects k before (levelled before r)) (subst (Keeps k before) (sym same) kept)
+    ∙ ap (λ s. readTables k m (before ++ s ∷ []) (lines ++ rest)) same
     ∙ ap (λ t. readTables k m (before ++ r ∷ []) (linesFrom (suc t) rs ++ rest)) (sym d)
     ∙ tables-read k (before ++ r ∷ []) rs m n rest (omega arith) (omega (arith, d)) (every-tail s) w
     ∙ ap (λ b. readTables k n b rest) (append-assoc before (r ∷ []) rs)
@@ -262,6 +270,12 @@ tables-read k before (r ∷ rs) (suc m) n rest e l s h =
 
     w : Rules k ((before ++ r ∷ []) ++ rs)
     w = rw append-assoc h
+
+    kept : Keeps k before r
+    kept = rules-keeps k before r (rules-prefix k (before ++ r ∷ []) rs w)
+
+    same : levelled before r ≡ r
+    same = level-is before r (kept .level)
 
     d : length (before ++ r ∷ []) ≡ suc (length before)
     d = rw length-append (omega arith)
@@ -293,10 +307,10 @@ condition-read text (no-line k used rs rest g l f) =
     ∙ ap (λ c. c >>= finish k (g .capacity) used)
     (given-off 31 (suc (length rs)) _ (is-none (takeTable (suc (length rs)) rest)
     (λ (r, more) e. let h = table-text (suc (length rs)) rest e in f r more (h .1) (h .2))))
-condition-read text (rule-broken k used rs r more g l s b) =
+condition-read text (rule-broken k used rs r more g l s v b) =
     good-read text rs (tableLine (suc (length rs)) r ++ more) g (suc (used - suc (length rs))) (omega arith)
     ∙ ap (λ c. c >>= finish k (g .capacity) used)
     (given-on 31 (suc (length rs)) _ (line-read text k used rs (tableLine (suc (length rs)) r ++ more) r more g l s refl)
-    ∙ require-off 32 (suc (length rs)) _ (keeps-reflects k rs r) (λ h. b (rules-snoc k rs r (g .rules) h)))
+    ∙ require-off 32 (suc (length rs)) _ (keeps-reflects k rs (levelled rs r)) (λ h. b (rules-snoc k rs r (g .rules) (subst (Keeps k rs) (level-is rs r v) h))))
 condition-read text (left-over k rs rest g n) =
     good-read text rs rest g 0 (omega arith) ∙ require-off 31 (suc (length rs)) _ (nil-reflects rest) n

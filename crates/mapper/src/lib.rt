@@ -14,8 +14,8 @@ use mapper_laws::MOST_TABLES;
 use mapper_laws::Mapping;
 use mapper_laws::PlanRun;
 use merge::inverted;
+use pending::Lut;
 use sheet::Sheet;
-use table::Table;
 
 // The tables that a run placed, staged after the others.
 fn stage(mapping: Mapping, run: PlanRun) -> Mapping
@@ -37,7 +37,7 @@ fn stage(mapping: Mapping, run: PlanRun) -> Mapping
 }
 
 // The table with its value turned over, where the flag says so.
-fn flip_if(flip: bool, table: Table) -> Table
+fn flip_if(flip: bool, table: Lut) -> Lut
     requires { ⌜ Tabled table ⌝ }
     ensures { λ r. ⌜ r ≡ flipped flip table ⌝ }
 {
@@ -45,7 +45,7 @@ fn flip_if(flip: bool, table: Table) -> Table
 }
 
 // The root's table: it drives the output net, and has its value turned over where the flag says so.
-fn root_table(out: u16, flip: bool, table: Table) -> Table
+fn root_table(out: u16, flip: bool, table: Lut) -> Lut
     requires { ⌜ Tabled table ⌝ }
     ensures { λ r. ⌜ r ≡ driving out (flipped flip table) ⌝ }
 {
@@ -63,7 +63,7 @@ pub fn map(sheet: Sheet, k: u8, used: u16) -> Mapping
 {
     let gates = sheet.count as usize;
     let mut held = [leaf(0); 255];
-    let none = table::blank();
+    let none = pending::zero_lut();
     let mut m = Mapping {
         count: 0,
         tables: [none; MOST_TABLES],

@@ -23,9 +23,9 @@ use Rattle.sheet.specs.Trusted.Sheet.{DrawnGate, faninGates}
 use Rattle.sheet.specs.Trusted.Answers.{drawnGate, drawnSheet}
 use Rattle.sheet.specs.Trusted.Trees.{drawn}
 use Rattle.sheet.specs.Trusted.Formed.{WellFormed}
-use Rattle.table.specs.declared.Table.{Table}
+use Rattle.pending.specs.declared.Lut.{Lut}
 use Rattle.table.specs.Trusted.Limits.{inputRoom, tableRoom}
-use Rattle.table.specs.Trusted.Records.{tableOf, recordOf}
+use Rattle.pending.specs.Luts.{lutTable, lutOf}
 use Rattle.mapper_laws.specs.declared.Mapping.{Mapping}
 use Rattle.mapper_laws.specs.declared.PlanRun.{PlanRun}
 use Rattle.pending.specs.Pendings.{MergeKept, Neat}
@@ -41,7 +41,7 @@ use mathlib.Core.List.{List, _++_, map}
 
 -- a net as a fanin
 abbrev pub leafOf : ℕ → Held
-leafOf n = record { below = 0; table = recordOf (single n) }
+leafOf n = record { below = 0; table = lutOf (single n) }
 
 -- no fanins
 pub record Begun (o : Operands) : Type 0 where
@@ -84,7 +84,7 @@ pub record GateMapped (K first : ℕ) (k : Kind) (o : Operands) (r : MappedGate)
 
 -- what the code holds of a mapped gate
 pub record HeldIs (h : Held) (d : GatesMapped) : Type 0 where
-  pub table : h .table ≡ recordOf (heldTable codeBase d)
+  pub table : h .table ≡ lutOf (heldTable codeBase d)
   pub below : h .below ≡ d .key .below
   pub width : length (heldTable codeBase d .inputs) ≡ d .key .width
   pub fits : (1 ≤ d .key .width) × (d .key .width ≤ inputRoom)
@@ -150,8 +150,8 @@ pub record Sheetable (K used : ℕ) (s : Sheet) : Type 0 where
   pub formed : WellFormed (drawnSheet s)
 
 -- the tables of the first n records
-abbrev pub tablesIn : ℕ → List Table → List LookupTable
-tablesIn n rs = map tableOf (take n rs)
+abbrev pub tablesIn : ℕ → List Lut → List LookupTable
+tablesIn n rs = map lutTable (take n rs)
 
 -- THE PROMISE OF THE MAPPING: the records are those of the tables of one of the sheet's covers, with the least number of tables, which
 -- follow any tables of that count; which least cover it is, and the order of its tables, inputs before readers, is free
@@ -175,12 +175,12 @@ pub record Going (K used : ℕ) (gs : List DrawnGate) (g : ℕ) (held : List Hel
 -- ---- the root's table
 
 -- it drives the output net, and has the value turned over where the output is inverted
-abbrev pub flipped : Bool → Table → Table
+abbrev pub flipped : Bool → Lut → Lut
 flipped false t = t
 flipped true t = invertedOf t
 
-abbrev pub driving : ℕ → Table → Table
+abbrev pub driving : ℕ → Lut → Lut
 driving out t = record { net = out; count = t .count; inputs = t .inputs; truth = t .truth }
 
-abbrev pub rooted : Mapping → ℕ → Bool → Table → Mapping
+abbrev pub rooted : Mapping → ℕ → Bool → Lut → Mapping
 rooted m out v t = record { count = m .count + 1; tables = set (m .tables) (m .count) (driving out (flipped v t)) }

@@ -22,10 +22,10 @@ use Rattle.plan.specs.PlanOf.{PlanAnswer, PlanOf}
 use Rattle.plan.specs.PlanOfLaws.{plan-answer, answer-most}
 use Rattle.cover.specs.Trusted.Placed.{codes*}
 use Rattle.plan.specs.Steps.{tokens}
-use Rattle.table.specs.declared.Table.{Table}
+use Rattle.pending.specs.declared.Lut.{Lut}
 use Rattle.table.specs.Trusted.Limits.{inputRoom}
-use Rattle.table.specs.Trusted.Records.{tableOf, recordOf}
-use Rattle.table.specs.RecordLaws.{read-back}
+use Rattle.pending.specs.Luts.{lutTable, lutOf}
+use Rattle.pending.specs.LutLaws.{lut-back}
 use Rattle.table.specs.RuleLaws.{map-append}
 use Rattle.sheet.specs.declared.Source.{Source}
 use Rattle.sheet.specs.declared.Source.the-variants.{Net, Gate}
@@ -75,7 +75,7 @@ module _ {K first : ℕ} {o : Operands} (m : Mappable K first o) where
     safe = safe-planned codeBase first k (faninsOf o) (m .keys .table .1) (fanin-count o (m .good) ∙ sym key-count) fanin-widths (m .keys .count .1) (a .planned);
   }
 
-  pub gate-mapped : {p : Plan} {s : PlanRun} → (k : Kind) → PlanAnswer K (keysIn o) p → Ran first k o p s → {t : Table} → t ≡ operandAt s 0 .table →
+  pub gate-mapped : {p : Plan} {s : PlanRun} → (k : Kind) → PlanAnswer K (keysIn o) p → Ran first k o p s → {t : Lut} → t ≡ operandAt s 0 .table →
       GateMapped K first k o (record { held = record { below = p .key .below; table = t }; run = s })
   gate-mapped {p} k a r e = record {
     tokens = tokens p;
@@ -122,7 +122,7 @@ module _ (m : Mapping) (s : PlanRun) where
 
 -- what the code holds of what a fanin reads
 record Reading (done : List MappedOnList) (s : Source) (h : Held) : Type 0 where
-  table : h .table ≡ recordOf (sourceTable codeBase done s)
+  table : h .table ≡ lutOf (sourceTable codeBase done s)
   below : h .below ≡ keyOf done s .below
   width : length (sourceTable codeBase done s .inputs) ≡ keyOf done s .width
   fits : keyOf done s .width ≤ inputRoom
@@ -147,8 +147,8 @@ module _ {done : List MappedOnList} {fs : List Edge} {o : Operands} (room : leng
   abbrev next-key : Key
   next-key = record { below = h .below; width = h .table .count }
 
-  next-table : tableOf (h .table) ≡ sourceTable codeBase done (f .source)
-  next-table = ap tableOf (r .table) ∙ read-back (sourceTable codeBase done (f .source))
+  next-table : lutTable (h .table) ≡ sourceTable codeBase done (f .source)
+  next-table = ap lutTable (r .table) ∙ lut-back (sourceTable codeBase done (f .source))
 
   next-count : h .table .count ≡ keyOf done (f .source) .width
   next-count = ap (λ t. t .count) (r .table) ∙ r .width

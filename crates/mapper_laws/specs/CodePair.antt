@@ -8,8 +8,8 @@ use Rattle.plan.specs.declared.Key.{Key}
 use Rattle.plan.specs.Key.{leaf-key, join, cuts}
 use Rattle.sheet.specs.declared.Source.{Source}
 use Rattle.sheet.specs.declared.Source.the-variants.{Net, Gate}
-use Rattle.table.specs.declared.Table.{Table}
-use Rattle.table.specs.Trusted.Records.{recordOf}
+use Rattle.pending.specs.declared.Lut.{Lut}
+use Rattle.pending.specs.Luts.{lutOf}
 use Rattle.pending.specs.declared.Pending.{Pending}
 use Rattle.mapper_laws.specs.declared.Operands.{Operands}
 use Rattle.mapper_laws.specs.declared.PlanRun.{PlanRun}
@@ -51,7 +51,7 @@ countIf false = 0
 countIf true = 1
 
 -- the left table, where it is placed, and the right one
-abbrev pub twoTables : Bool → Table → Table → List Table
+abbrev pub twoTables : Bool → Lut → Lut → List Lut
 twoTables false s t = t ∷ t ∷ []
 twoTables true s t = s ∷ t ∷ []
 
@@ -64,8 +64,8 @@ pairTaken i x j y = pushed (pushed noRun (pendingOf j y)) (pendingOf i x)
 
 -- the table that holds them
 module _ (first : ℕ) (k : Kind) (l r : Bool) where
-  abbrev pub jointOf : Bool → Held → Bool → Held → Table
-  jointOf i x j y = recordOf (merged k (operandOf (heldIf l first 0 (pendingOf j y))) (operandOf (heldIf r first (countIf l) (pendingOf i x))))
+  abbrev pub jointOf : Bool → Held → Bool → Held → Lut
+  jointOf i x j y = lutOf (merged k (operandOf (heldIf l first 0 (pendingOf j y))) (operandOf (heldIf r first (countIf l) (pendingOf i x))))
 
 module _ (K first : ℕ) (k : Kind) where
   abbrev pub pairMapped : Bool → Held → Bool → Held → MappedPair

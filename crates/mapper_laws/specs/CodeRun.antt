@@ -4,10 +4,10 @@ use mathlib.Core.Bool.{Bool, true, false}
 use mathlib.Core.List.{List, [], _∷_, map}
 use mathlib.Core.Path.{_≡_}
 use lib.ListN.{length, getD, set, take, drop}
-use Rattle.table.specs.declared.Table.{Table}
+use Rattle.pending.specs.declared.Lut.{Lut}
 use Rattle.tree.specs.declared.Kind.{Kind}
 use Rattle.tree.specs.Trusted.Limits.{codeBase}
-use Rattle.table.specs.Trusted.Records.{tableOf, recordOf}
+use Rattle.pending.specs.Luts.{lutTable, lutOf}
 use Rattle.cover.specs.Trusted.Tables.{LookupTable}
 use Rattle.pending.specs.declared.Pending.{Pending}
 use Rattle.mapper_laws.specs.declared.PlanRun.{PlanRun}
@@ -24,12 +24,12 @@ abbrev pub pushed : PlanRun → Pending → PlanRun
 pushed s x = record { depth = s .depth + 1; stack = set (s .stack) (s .depth) x; placed = s .placed; tables = s .tables }
 
 -- a table placed, where the flag says so
-abbrev pub placedIf : Bool → PlanRun → Table → PlanRun
+abbrev pub placedIf : Bool → PlanRun → Lut → PlanRun
 placedIf false s t = s
 placedIf true s t = record { depth = s .depth; stack = s .stack; placed = s .placed + 1; tables = set (s .tables) (s .placed) t }
 
 -- what an array gives past its end: no table, and no operand
-abbrev pub noTable : Table
+abbrev pub noTable : Lut
 noTable = record { net = 0; count = 0; inputs = []; truth = 0 }
 
 abbrev pub noPending : Pending
@@ -40,7 +40,7 @@ abbrev pub operandAt : PlanRun → ℕ → Pending
 operandAt s i = getD (s .stack) i noPending
 
 -- the two operands on top replaced by one that is read upright
-abbrev pub replaced : PlanRun → Table → PlanRun
+abbrev pub replaced : PlanRun → Lut → PlanRun
 replaced s t = record {
   depth = s .depth - 1;
   stack = set (s .stack) (s .depth - 2) (record { inverted = false; table = t });
@@ -51,7 +51,7 @@ replaced s t = record {
 -- an operand held; or the code of the table in which it is placed
 abbrev pub heldIf : Bool → (first placed : ℕ) → Pending → Pending
 heldIf false first placed x = x
-heldIf true first placed x = record { inverted = x .inverted; table = recordOf (single (codeBase + (first + placed) + 1)) }
+heldIf true first placed x = record { inverted = x .inverted; table = lutOf (single (codeBase + (first + placed) + 1)) }
 
 -- the two operands on top joined, each placed first where its flag says so
 module _ (first : ℕ) where
@@ -67,7 +67,7 @@ module _ (first : ℕ) where
 
   abbrev pub joined : Kind → Bool → Bool → PlanRun → PlanRun
   joined k l r s =
-      replaced (placedIf r (leftPlaced l s) (operandAt s (s .depth - 1) .table)) (recordOf (merged k (operandOf (leftOf l s)) (operandOf (rightOf l r s))))
+      replaced (placedIf r (leftPlaced l s) (operandAt s (s .depth - 1) .table)) (lutOf (merged k (operandOf (leftOf l s)) (operandOf (rightOf l r s))))
 
   pub record Joins (l r : Bool) (s : PlanRun) : Type 0 where
     pub before : first < 2000
@@ -83,7 +83,7 @@ stackOf zero ps = []
 stackOf (suc d) ps = operandOf (getD ps d noPending) ∷ stackOf d ps
 
 abbrev pub placedOf : PlanRun → List LookupTable
-placedOf s = map tableOf (take (s .placed) (s .tables))
+placedOf s = map lutTable (take (s .placed) (s .tables))
 
 abbrev pub stateOf : PlanRun → State
 stateOf s = record { stack = stackOf (s .depth) (s .stack); placed = placedOf s }

@@ -14,10 +14,10 @@ use Rattle.lists.specs.NumberLaws.{sorted-sorted}
 use Rattle.tree.specs.declared.Kind.{Kind}
 use Rattle.tree.specs.Trusted.Limits.{codeBase}
 use Rattle.cover.specs.Trusted.Tables.{LookupTable}
-use Rattle.table.specs.declared.Table.{Table}
+use Rattle.pending.specs.declared.Lut.{Lut}
 use Rattle.table.specs.Trusted.Limits.{inputRoom}
-use Rattle.table.specs.Trusted.Records.{tableOf, recordOf}
-use Rattle.table.specs.RecordLaws.{read-back}
+use Rattle.pending.specs.Luts.{lutTable, lutOf}
+use Rattle.pending.specs.LutLaws.{lut-back}
 use Rattle.table.specs.RuleLaws.{map-append}
 use Rattle.pending.specs.declared.Pending.{Pending}
 use Rattle.plan.specs.declared.Plan.{Plan}
@@ -34,30 +34,30 @@ use Rattle.mapper_laws.specs.CodeRun.{pushed, placedIf, noTable, noPendi
 
 -- ---- the code's steps
 
-pub placed-depth : (l : Bool) (s : PlanRun) (t : Table) → placedIf l s t .depth ≡ s .depth
+pub placed-depth : (l : Bool) (s : PlanRun) (t : Lut) → placedIf l s t .depth ≡ s .depth
 placed-depth false s t = refl
 placed-depth true s t = refl
 
-pub placed-count : (l : Bool) (s : PlanRun) (t : Table) → placedIf l s t .placed ≤ s .placed + 1
+pub placed-count : (l : Bool) (s : PlanRun) (t : Lut) → placedIf l s t .placed ≤ s .placed + 1
 placed-count false s t = omega arith
 placed-count true s t = omega arith
 
 -- a join by its parts
-pub joined-by : (first : ℕ) (k : Kind) (l r : Bool) (s : PlanRun) {x y a b : Pending} {left both : PlanRun} {t : Table} {s′ : PlanRun} →
+pub joined-by : (first : ℕ) (k : Kind) (l r : Bool) (s : PlanRun) {x y a b : Pending} {left both : PlanRun} {t : Lut} {s′ : PlanRun} →
     x ≡ operandAt s (s .depth - 2) → y ≡ operandAt s (s .depth - 1) → a ≡ heldIf l first (s .placed) x → left ≡ placedIf l s (x .table) →
-    b ≡ heldIf r first (left .placed) y → both ≡ placedIf r left (y .table) → t ≡ recordOf (merged k (operandOf a) (operandOf b)) →
+    b ≡ heldIf r first (left .placed) y → both ≡ placedIf r left (y .table) → t ≡ lutOf (merged k (operandOf a) (operandOf b)) →
     s′ ≡ replaced both t → s′ ≡ joined first k l r s
 joined-by first k l r s ex ey ea el eb eo et es = cc
 
 -- ---- records of tables
 
-pub record-neat : (t : LookupTable) → length (t .inputs) ≤ inputRoom → Sorted (t .inputs) → Neat (recordOf t)
+pub record-neat : (t : LookupTable) → length (t .inputs) ≤ inputRoom → Sorted (t .inputs) → Neat (lutOf t)
 record-neat t l s = record {
-  kept = record { fits = l; padded = ap recordOf (sym (read-back t)) };
-  sorted = subst Sorted (sym (ap (λ u. u .inputs) (read-back t))) s;
+  kept = record { fits = l; padded = ap lutOf (sym (lut-back t)) };
+  sorted = subst Sorted (sym (ap (λ u. u .inputs) (lut-back t))) s;
 }
 
-pub kept-count : (r : Table) → MergeKept r → r .count ≡ length (tableOf r .inputs)
+pub kept-count : (r : Lut) → MergeKept r → r .count ≡ length (lutTable r .inputs)
 kept-count r k = ap (λ q. q .count) (k .padded)
 
 -- ---- as a run on lists
@@ -79,7 +79,7 @@ stored-all P z xs d x l h p i m =
     (λ e. rw (getD-set-other xs d i x z e) (h i (omega arith)))
 
 pub placed-length : (s : PlanRun) → Holds s → length (placedOf s) ≡ s .placed
-placed-length s h = length-map (take (s .placed) (s .tables)) tableOf ∙ length-take-le (s .placed) (s .tables) (omega (arith, h .placed, h .table-room))
+placed-length s h = length-map (take (s .placed) (s .tables)) lutTable ∙ length-take-le (s .placed) (s .tables) (omega (arith, h .placed, h .table-room))
 
 -- one operand more
 pub pushed-state : (s : PlanRun) (x : Pending) → Holds s → s .depth < 10 → stateOf (pushed s x) ≡ record { stack = operandOf x ∷ stateOf s .stack; placed = placedOf s }
@@ -112,8 +112,8 @@ module _ (first : ℕ) where
   placed-tables : (l : Bool) (s : PlanRun) (x : Pending) → Holds s → s .placed < 18 → placedOf (placedIf l s (x .table)) ≡ tablesAfter codeBase first l (placedOf s) (operandOf x)
   placed-tables false s x h l = refl
   placed-tables true s x h l =
-      ap (map tableOf) (ap (λ n. take n (set (s .tables) (s .placed) (x .table))) (add-one (s .placed)) ∙ take-suc-set (s .tables) (s .placed) (x .table) (omega (arith, h .table-room)))
-      ∙ map-append tableOf (take (s .placed) (s .tables)) (x .table ∷ [])
+      ap (map lutTable) (ap (λ n. take n (set (s .tables) (s .placed) (x .table))) (add-one (s .placed)) ∙ take-suc-set (s .tables) (s .placed) (x .table) (omega (arith, h .table-room)))
+      ∙ map-append lutTable (take (s .placed) (s .tables)) (x .table ∷ [])
 
   placed-holds : (l : Bool) (s : PlanRun) (x : Pending) → Holds s → s .placed < 18 → MergeKept (x .table) → Holds (placedIf l s (x .table))
   placed-holds false s x h m k = h
@@ -128,7 +128,7 @@ module _ (first : ℕ) where
 
   -- ---- joining
 
-  placed-stack : (l : Bool) (s : PlanRun) (t : Table) → placedIf l s t .stack ≡ s .stack
+  placed-stack : (l : Bool) (s : PlanRun) (t : Lut) → placedIf l s t .stack ≡ s .stack
   placed-stack false s t = refl
   placed-stack true s t = refl
 
@@ -236,7 +236,7 @@ module _ (first : ℕ) where
     joint-is : joint ≡ merged k (operand codeBase first l (placedOf s) (operandOf x)) (operand codeBase first r (tablesAfter codeBase first l (placedOf s) (operandOf x)) (operandOf y))
     joint-is = ap₂ (merged k) left-operand right-operand
 
-    joint-neat : Neat (recordOf joint)
+    joint-neat : Neat (lutOf joint)
     joint-neat = record-neat joint
         (omega (
           arith,
@@ -247,13 +247,13 @@ module _ (first : ℕ) where
         ))
         (merged-sorted k (operandOf (leftOf first l s)) (operandOf (rightOf first l r s)))
 
-    top-stack : stackOf (both .depth - 1) (set (both .stack) (both .depth - 2) (record { inverted = false; table = recordOf joint })) ≡
+    top-stack : stackOf (both .depth - 1) (set (both .stack) (both .depth - 2) (record { inverted = false; table = lutOf joint })) ≡
         record { inverted = false; table = joint } ∷ stackOf (s .depth - 2) (s .stack)
     top-stack =
-        ap₂ (λ d ps. stackOf (d - 1) (set ps (d - 2) (record { inverted = false; table = recordOf joint }))) both-depth both-stack
-        ∙ ap (λ d. stackOf d (set (s .stack) (s .depth - 2) (record { inverted = false; table = recordOf joint }))) (let e : s .depth - 1 ≡ suc (s .depth - 2) = omega (arith, two) in e)
-        ∙ stack-put (s .depth - 2) (s .stack) (record { inverted = false; table = recordOf joint }) (omega (arith, two, h .depth, h .stack-room))
-        ∙ ap (λ t. record { inverted = false; table = t } ∷ stackOf (s .depth - 2) (s .stack)) (read-back joint)
+        ap₂ (λ d ps. stackOf (d - 1) (set ps (d - 2) (record { inverted = false; table = lutOf joint }))) both-depth both-stack
+        ∙ ap (λ d. stackOf d (set (s .stack) (s .depth - 2) (record { inverted = false; table = lutOf joint }))) (let e : s .depth - 1 ≡ suc (s .depth - 2) = omega (arith, two) in e)
+        ∙ stack-put (s .depth - 2) (s .stack) (record { inverted = false; table = lutOf joint }) (omega (arith, two, h .depth, h .stack-room))
+        ∙ ap (λ t. record { inverted = false; table = t } ∷ stackOf (s .depth - 2) (s .stack)) (lut-back joint)
 
     pub joined-state : stateOf (joined first k l r s) ≡ joinTop codeBase first k l r (stateOf s .stack) (placedOf s)
     joined-state =
@@ -265,9 +265,9 @@ module _ (first : ℕ) where
     joined-holds = record {
       depth = omega (arith, both-depth, h .depth);
       placed = both-holds .placed;
-      stack-room = length-set (both .stack) (both .depth - 2) (record { inverted = false; table = recordOf joint }) ∙ both-holds .stack-room;
+      stack-room = length-set (both .stack) (both .depth - 2) (record { inverted = false; table = lutOf joint }) ∙ both-holds .stack-room;
       table-room = both-holds .table-room;
-      operands = λ i m. stored-all (λ p. Neat (p .table)) noPending (both .stack) (both .depth - 2) (record { inverted = false; table = recordOf joint })
+      operands = λ i m. stored-all (λ p. Neat (p .table)) noPending (both .stack) (both .depth - 2) (record { inverted = false; table = lutOf joint })
           (omega (arith, two, both-depth, h .depth, both-holds .stack-room)) (λ j n. both-holds .operands j (omega arith)) joint-neat i (omega (arith, two, both-depth));
       kept = both-holds .kept;
     }
@@ -342,7 +342,7 @@ module _ (first : ℕ) (k : Kind) (o : Operands) (p : Plan) where
   }
     where
       new : stateOf s ≡ begun
-      new = ap₂ (λ n m. record { stack = stackOf n (s .stack); placed = map tableOf (take m (s .tables)) }) d e
+      new = ap₂ (λ n m. record { stack = stackOf n (s .stack); placed = map lutTable (take m (s .tables)) }) d e
 
   module _ (size : length (p .steps) ≡ 19) {i : ℕ} {s : PlanRun} (r : Runnable first k o p) (f : Following first k o p i s) (l : i < p .len) where
     abbrev next : Token

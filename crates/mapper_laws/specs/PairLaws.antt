@@ -35,8 +35,8 @@ use Rattle.mapper_laws.specs.declared.Mapping.{Mapping}
 use Rattle.pending.specs.declared.Pending.{Pending}
 use Rattle.pending.specs.Operands.{merged}
 use Rattle.pending.specs.Pendings.{operandOf, Mergeable}
-use Rattle.table.specs.declared.Table.{Table}
-use Rattle.table.specs.Trusted.Records.{recordOf}
+use Rattle.pending.specs.declared.Lut.{Lut}
+use Rattle.pending.specs.Luts.{lutOf}
 use Rattle.mapper_laws.specs.CodeRun.{operandAt, heldIf, pushed, leftPlaced, joined, Joins, Holds, Following, Runnable, Ran}
 use Rattle.mapper_laws.specs.CodeRunLaws.{push-advanced, join-fits, join-advanced, following-start, following-advances, following-next, following-end}
 use Rattle.mapper_laws.specs.CodeMap.{withFanin, keysIn, Mappable, GateMapped, noHeld, Reaches, Gathering, Gathers, Staged}
@@ -207,10 +207,10 @@ module _ {K first : ℕ} (i : Bool) (x : Held) (j : Bool) (y : Held) (m : Mappab
 
 -- ---- the code's steps
 
-pub pair-by : (K first : ℕ) (k : Kind) (i : Bool) (x : Held) (j : Bool) (y : Held) {a b c : Key} {cut : Cuts} {u v : Pending} {n p q : ℕ} {t : Table} {ts : List Table} →
+pub pair-by : (K first : ℕ) (k : Kind) (i : Bool) (x : Held) (j : Bool) (y : Held) {a b c : Key} {cut : Cuts} {u v : Pending} {n p q : ℕ} {t : Lut} {ts : List Lut} →
     a ≡ keyIn y → b ≡ keyIn x → c ≡ join K a b → cut ≡ record { left = cuts K a b .0; right = cuts K a b .1 } →
     u ≡ heldIf (cut .left) first 0 (pendingOf j y) → n ≡ countIf (cut .left) → v ≡ heldIf (cut .right) first n (pendingOf i x) →
-    t ≡ recordOf (merged k (operandOf u) (operandOf v)) → p ≡ countIf (cut .left) → q ≡ countIf (cut .right) → ts ≡ twoTables (cut .left) (y .table) (x .table) →
+    t ≡ lutOf (merged k (operandOf u) (operandOf v)) → p ≡ countIf (cut .left) → q ≡ countIf (cut .right) → ts ≡ twoTables (cut .left) (y .table) (x .table) →
     record { held = record { below = c .below; table = t }; placed = p + q; tables = ts } ≡ pairMapped K first k i x j y
 pair-by K first k i x j y {cut = cut} ea eb ec ecut eu en ev et ep eq ets =
     let el : cut .left ≡ cuts K (keyIn y) (keyIn x) .0 = ap (λ z. z .left) ecut ∙ ap₂ (λ a b. cuts K a b .0) ea eb in
@@ -218,7 +218,7 @@ pair-by K first k i x j y {cut = cut} ea eb ec ecut eu en ev et ep eq ets =
     let below = ap (λ z. z .below) ec ∙ ap₂ (λ a b. join K a b .below) ea eb in
     let left = eu ∙ ap (λ l. heldIf l first 0 (pendingOf j y)) el in
     let right = ev ∙ ap₂ (λ r n. heldIf r first n (pendingOf i x)) er (en ∙ ap countIf el) in
-    let table = et ∙ ap₂ (λ u v. recordOf (merged k (operandOf u) (operandOf v))) left right in
+    let table = et ∙ ap₂ (λ u v. lutOf (merged k (operandOf u) (operandOf v))) left right in
     let placed = ap₂ _+_ (ep ∙ ap countIf el) (eq ∙ ap countIf er) in
     let tables = ets ∙ ap (λ l. twoTables l (y .table) (x .table)) el in
     λ z. record { held = record { below = below z; table = table z }; placed = placed z; tables = tables z }

@@ -34,10 +34,10 @@ use Rattle.sheet.specs.declared.Gate.{Gate as SheetGate}
 use Rattle.sheet.specs.Trusted.Answers.{drawnGate, drawnSheet}
 use Rattle.sheet.specs.Trusted.Formed.{Before, Earlier, WellFormed}
 use Rattle.sheet.specs.ReadLaws.{gates-distinct}
-use Rattle.table.specs.declared.Table.{Table}
+use Rattle.pending.specs.declared.Lut.{Lut}
 use Rattle.table.specs.Trusted.Limits.{inputRoom, tableRoom}
-use Rattle.table.specs.Trusted.Records.{tableOf, recordOf}
-use Rattle.table.specs.RecordLaws.{read-back}
+use Rattle.pending.specs.Luts.{lutTable, lutOf}
+use Rattle.pending.specs.LutLaws.{lut-back}
 use Rattle.table.specs.RuleLaws.{map-append}
 use Rattle.mapper_laws.specs.CodeRunLaws.{map-at, stack-length, placed-length}
 use Rattle.mapper_laws.specs.declared.Operands.{Operands}
@@ -156,7 +156,7 @@ module _ {K used : ℕ} {s : DrawnSheet} {g : ℕ} {held : List Held} {m : Mappi
 
   module _ {r : MappedGate} (p : GateMapped K (used + m .count) (x .kind) o r) where
     staged-count : length (tablesIn (m .count) (m .tables)) ≡ m .count
-    staged-count = length-map (take (m .count) (m .tables)) tableOf ∙ length-take-le (m .count) (m .tables) (omega (arith, y .few, y .table-room))
+    staged-count = length-map (take (m .count) (m .tables)) lutTable ∙ length-take-le (m .count) (m .tables) (omega (arith, y .few, y .table-room))
 
     next : NextGate codeBase used K (take g (s .gates)) (y .done) (tablesIn (m .count) (m .tables)) x (p .tokens) (p .key)
     next = mapping-next codeBase used K two (y .progress) x (f .many .0) (f .nets) are-mapped
@@ -181,11 +181,11 @@ module _ {K used : ℕ} {s : DrawnSheet} {g : ℕ} {held : List Held} {m : Mappi
         = ap (λ d. stackOf d (r .run .stack)) (sym one-deep) ∙ ap (λ z. z .stack) ends in
         cc e
 
-    held-table : r .held .table ≡ recordOf (heldTable codeBase mapped)
+    held-table : r .held .table ≡ lutOf (heldTable codeBase mapped)
     held-table =
         p .table
         ∙ (p .holds .operands 0 (omega (arith, one-deep))) .kept .padded
-        ∙ ap (λ z. recordOf (z .table)) top-operand
+        ∙ ap (λ z. lutOf (z .table)) top-operand
 
     new-tables : placedOf (r .run) ≡ next .new
     new-tables = ap (λ z. z .placed) ends
@@ -231,7 +231,7 @@ module _ {K used : ℕ} {s : DrawnSheet} {g : ℕ} {held : List Held} {m : Mappi
     module _ {n : Mapping} (z : Staged m (r .run) n) where
       tables-now : tablesIn (n .count) (n .tables) ≡ tablesIn (m .count) (m .tables) ++ next .new
       tables-now =
-          ap (map tableOf) (z .tables) ∙ map-append tableOf (take (m .count) (m .tables)) (take (r .run .placed) (r .run .tables))
+          ap (map lutTable) (z .tables) ∙ map-append lutTable (take (m .count) (m .tables)) (take (r .run .placed) (r .run .tables))
           ∙ ap (λ ts. tablesIn (m .count) (m .tables) ++ ts) new-tables
 
       run-kept : Every MergeKept (take (r .run .placed) (r .run .tables))
@@ -264,7 +264,7 @@ going-start {K} {used} {m = m} e l h = record {
   table-room = l;
 }
 
-root-record : (out : ℕ) (v : Bool) (d : GatesMapped) → driving out (flipped v (recordOf (heldTable codeBase d))) ≡ recordOf (gateTable codeBase out v (d .kind) (d .body))
+root-record : (out : ℕ) (v : Bool) (d : GatesMapped) → driving out (flipped v (lutOf (heldTable codeBase d))) ≡ lutOf (gateTable codeBase out v (d .kind) (d .body))
 root-record out false d = refl
 root-record out true d = ap (driving out) (tabled-inverted 0 (sorted (codes* codeBase (d .body))) (held* codeBase (d .body) (d .kind)))
 
@@ -287,14 +287,14 @@ module _ {K used : ℕ} {s : DrawnSheet} {g : ℕ} {held : List Held} {m : Mappi
   abbrev rootTable : LookupTable
   rootTable = gateTable codeBase (s .out) (s .inverted) (root .kind) (root .body)
 
-  last-record : driving (s .out) (flipped (s .inverted) (rootHeld .table)) ≡ recordOf rootTable
+  last-record : driving (s .out) (flipped (s .inverted) (rootHeld .table)) ≡ lutOf rootTable
   last-record = ap (λ t. driving (s .out) (flipped (s .inverted) t)) (root-held .table) ∙ root-record (s .out) (s .inverted) root
 
   added : (old : List LookupTable) → length old ≡ used → LeastCoverTables codeBase K old (tablesIn (m .count) (m .tables) ++ (rootTable ∷ [])) (drawn s)
   added = mapping-added codeBase used K two s w ended
 
   records-count : length (tablesIn (m .count) (m .tables)) ≡ m .count
-  records-count = length-map (take (m .count) (m .tables)) tableOf ∙ length-take-le (m .count) (m .tables) (omega (arith, y .few, y .table-room))
+  records-count = length-map (take (m .count) (m .tables)) lutTable ∙ length-take-le (m .count) (m .tables) (omega (arith, y .few, y .table-room))
 
   -- there is room for the root's table: no cover has more tables than there are places
   root-count : m .count < mostTables
@@ -321,11 +321,11 @@ module _ {K used : ℕ} {s : DrawnSheet} {g : ℕ} {held : List Held} {m : Mappi
       least = λ old f. rw now (subst (λ z. LeastCoverTables codeBase K old (tablesIn (m .count) (m .tables) ++ (rootTable ∷ [])) (drawn z)) (sym e) (added old f));
     }
       where
-        last : Table
+        last : Lut
         last = driving (s .out) (flipped (s .inverted) (rootHeld .table))
 
-        root-kept : MergeKept (recordOf rootTable)
-        root-kept = record { fits = omega (arith, root-held .width, root-held .fits .1); padded = ap recordOf (sym (read-back rootTable)) }
+        root-kept : MergeKept (lutOf rootTable)
+        root-kept = record { fits = omega (arith, root-held .width, root-held .fits .1); padded = ap lutOf (sym (lut-back rootTable)) }
 
         kept-at : (i : ℕ) → i < m .count → MergeKept (getD (m .tables) i noTable)
         kept-at i l =
@@ -335,9 +335,9 @@ module _ {K used : ℕ} {s : DrawnSheet} {g : ℕ} {held : List Held} {m : Mappi
         now : tablesIn (m .count + 1) (set (m .tables) (m .count) (driving (s .out) (flipped (s .inverted) (rootHeld .table)))) ≡ tablesIn (m .count) (m .tables) ++ (rootTable ∷ [])
         now =
             ap (λ n. tablesIn n (set (m .tables) (m .count) (driving (s .out) (flipped (s .inverted) (rootHeld .table))))) (add-one (m .count))
-            ∙ ap (map tableOf) (take-suc-set (m .tables) (m .count) (driving (s .out) (flipped (s .inverted) (rootHeld .table))) (omega (arith, root-room .0, y .table-room)))
-            ∙ map-append tableOf (take (m .count) (m .tables)) (driving (s .out) (flipped (s .inverted) (rootHeld .table)) ∷ [])
-            ∙ ap (λ t. tablesIn (m .count) (m .tables) ++ (t ∷ [])) (ap tableOf last-record ∙ read-back rootTable)
+            ∙ ap (map lutTable) (take-suc-set (m .tables) (m .count) (driving (s .out) (flipped (s .inverted) (rootHeld .table))) (omega (arith, root-room .0, y .table-room)))
+            ∙ map-append lutTable (take (m .count) (m .tables)) (driving (s .out) (flipped (s .inverted) (rootHeld .table)) ∷ [])
+            ∙ ap (λ t. tablesIn (m .count) (m .tables) ++ (t ∷ [])) (ap lutTable last-record ∙ lut-back rootTable)
 
 -- ---- for the code's sheet
 

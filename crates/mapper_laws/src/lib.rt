@@ -1,13 +1,13 @@
 // What is held while a sheet is mapped, what the mapper's functions promise, and the laws that they rest on. The code is in `gate_run`,
 // `gate_mapper` and `mapper`.
+use pending::Lut;
 use pending::Pending;
 use plan::Key;
-use table::Table;
 
 // A mapped gate that is not placed: how many tables stand below the one that holds it, and that table.
 pub struct Held {
     pub below: u8,
-    pub table: Table,
+    pub table: Lut,
 }
 
 // The fanins of a gate: as operands, and their keys. What stands past the count is of no matter.
@@ -22,7 +22,7 @@ pub struct PlanRun {
     pub depth: u8,
     pub stack: [Pending; 10],
     pub placed: u8,
-    pub tables: [Table; 18],
+    pub tables: [Lut; 18],
 }
 
 // A gate mapped: what holds it, and the run of its plan, which has the tables placed.
@@ -35,7 +35,7 @@ pub struct MappedGate {
 pub struct MappedPair {
     pub held: Held,
     pub placed: u8,
-    pub tables: [Table; 2],
+    pub tables: [Lut; 2],
 }
 
 // The most tables of a sheet, so that a byte counts them.
@@ -44,5 +44,5 @@ pub const MOST_TABLES: usize = 255;
 // The tables of a sheet, the root's last. What stands past the count is of no matter.
 pub struct Mapping {
     pub count: u8,
-    pub tables: [Table; MOST_TABLES],
+    pub tables: [Lut; MOST_TABLES],
 }

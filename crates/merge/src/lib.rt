@@ -4,23 +4,23 @@ ghost use Prim.Native.Nat.{_+_, _<_, _≤_};
 ghost use lib.ListN.{take};
 ghost use mathlib.Core.List.{_++_};
 ghost use Rattle.lists.specs.Trusted.Lists.{insert as insertOf, sorted};
-ghost use Rattle.table.specs.Trusted.Records.{recordOf};
+ghost use Rattle.pending.specs.Luts.{lutOf};
 ghost use Rattle.pending.specs.Operands.{single as singleOf, merged};
 ghost use Rattle.pending.specs.Pendings.{operandOf, Mergeable};
 ghost use Rattle.pending.specs.Merging.{padded, MergeRoom, Ordered, Tabled, invertedOf};
+use pending::Lut;
 use pending::Pending;
 use rows::meet;
 use rows::ones;
 use rows::turn;
 use rows::values;
-use table::Table;
 use tree::Kind;
 
 // The table that has the value of one code.
-pub fn single(code: u16) -> Table
-    ensures { λ r. ⌜ r ≡ recordOf (singleOf code) ⌝ }
+pub fn single(code: u16) -> Lut
+    ensures { λ r. ⌜ r ≡ lutOf (singleOf code) ⌝ }
 {
-    Table {
+    Lut {
         net: 0,
         count: 1,
         inputs: [code, 0, 0, 0, 0, 0],
@@ -29,9 +29,9 @@ pub fn single(code: u16) -> Table
 }
 
 // The table of a gate of two fanins.
-pub fn merge(kind: Kind, x: Pending, y: Pending) -> Table
+pub fn merge(kind: Kind, x: Pending, y: Pending) -> Lut
     requires { ⌜ Mergeable x y ⌝ }
-    ensures { λ r. ⌜ r ≡ recordOf (merged kind (operandOf x) (operandOf y)) ⌝ }
+    ensures { λ r. ⌜ r ≡ lutOf (merged kind (operandOf x) (operandOf y)) ⌝ }
 {
     let a = x.table;
     let b = y.table;
@@ -43,7 +43,7 @@ pub fn merge(kind: Kind, x: Pending, y: Pending) -> Table
     let count = n + m;
     let u = turn(x.inverted, values(a.truth, &codes, n, &inputs, count));
     let v = turn(y.inverted, values(b.truth, &others, m, &inputs, count));
-    Table {
+    Lut {
         net: 0,
         count: count as u8,
         inputs,
@@ -52,7 +52,7 @@ pub fn merge(kind: Kind, x: Pending, y: Pending) -> Table
 }
 
 // The table of the other value: each bit of the truth table turned over.
-pub fn inverted(mut t: Table) -> Table
+pub fn inverted(mut t: Lut) -> Lut
     requires { ⌜ Tabled t ⌝ }
     ensures { λ r. ⌜ r ≡ invertedOf t ⌝ }
 {

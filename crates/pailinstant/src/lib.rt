@@ -41,9 +41,9 @@ pub extern "C" fn pailinstant_check_list(text: &[u8]) -> u32
     answer_code(answer)
 }
 
-// Reads a list back: gives 0, with the part at the front of the buffer as K, the capacity, the used count, and nine numbers for each table,
-// the net, u, the six inputs and the truth table. Else gives the refusal's code and leaves the buffer as it is; 14 is for a buffer that is
-// too short. 7203 numbers are enough for each list.
+// Reads a list back: gives 0, with the part at the front of the buffer as K, the capacity, the used count, and ten numbers for each table,
+// the net, u, the six inputs, the truth table and the level. Else gives the refusal's code and leaves the buffer as it is; 14 is for a
+// buffer that is too short. 8003 numbers are enough for each list.
 #[no_mangle]
 pub extern "C" fn pailinstant_read_list(text: &[u8], numbers: &mut [u64]) -> u32
     ensures { λ r. ⌜ record { code = r; numbers = now (numbers .exit) } ≡ numbersRead (readList (now (text .entry))) (now (numbers .entry)) ⌝ }

@@ -22,7 +22,7 @@ empty-sound k capacity g h = record {
   k-range = g;
   capacity-range = h;
   used-fits = omega arith;
-  rest-blank = every-replicate Blank tableRoom blank (record { net = refl; count = refl; inputs = every-replicate (λ x. x ≡ 0) inputRoom 0 refl; truth = refl });
+  rest-blank = every-replicate Blank tableRoom blank (record { net = refl; count = refl; inputs = every-replicate (λ x. x ≡ 0) inputRoom 0 refl; truth = refl; level = refl });
   rules = no-records k capacity .rules;
 }
 

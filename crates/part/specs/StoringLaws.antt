@@ -1,19 +1,24 @@
 -- The tests of an output net over the records in use; and the mapping's records as a sheet's tables.
-use Prim.Native.Nat.{ℕ, suc, _+_, _-_, _≤_, _<_}
+use Prim.Native.Nat.{ℕ, _+_, _-_, _≤_, _<_}
 use native.Mathlib.Omega.{arith}
+use native.Mathlib.Numerals.{add-one}
 use mathlib.Core.Path.{_≡_, refl, sym, ap, ap₂, _∙_, subst}
 use mathlib.Core.Bool.{Bool, true, false, _||_, or-assoc, or-false}
-use mathlib.Core.List.{List, [], _∷_, _++_, map}
+use mathlib.Core.Logic.{⊎-elim}
+use mathlib.Core.List.{List, [], _∷_, _++_, append-assoc, map}
 use borrow.Author.Tests.{le-leb, lt-leb}
 use lib.Dec.{eqb}
-use lib.ListN.{length, getD, take, drop, length-map}
-use lib.Seq.{length-take-le, getD-take}
+use lib.ListN.{length, getD, take, drop, length-append, length-map, List·getD-map}
+use lib.Seq.{take-length, take-suc, length-take-le, getD-take}
 use Rattle.lists.specs.ListLaws.{every-at}
 use Rattle.lists.specs.Trusted.Tests.{any, elem}
 use Rattle.lists.specs.TestLaws.{reflects-true}
-use Rattle.tree.specs.Trusted.Limits.{codeBase}
+use Rattle.lists.specs.Trusted.Lists.{Every}
+use Rattle.tree.specs.Trusted.Limits.{greatestNet, codeBase}
 use Rattle.lists.specs.Trusted.Checked.{passed, refused as unread, _>>=_}
-use Rattle.cover.specs.Trusted.Tables.{LookupTable}
+use Rattle.cover.specs.Trusted.Tables.{LookupTable, tableLevel, codeLevels}
+use Rattle.cover.specs.Eval.{every-numbered}
+use Rattle.cover.specs.CoverTableLaws.{added-tidy}
 use Rattle.cover.specs.Trusted.CoverTables.{Circuit, LeastCoverTables}
 use Rattle.sheet.specs.Trusted.Sheet.{DrawnSheet}
 use Rattle.sheet.specs.declared.Sheet.{Sheet as CodeSheet}
@@ -24,12 +29,18 @@ use Rattle.sheet.specs.Trusted.Answers.{drawnSheet, answered}
 use Rattle.sheet.specs.Trusted.Promise.{SheetRead}
 use Rattle.sheet.specs.Trusted.Trees.{drawn}
 use Rattle.table.specs.declared.Table.{Table}
+use Rattle.table.specs.Trusted.Limits.{tableRoom}
 use Rattle.table.specs.Trusted.Records.{reads, tableOf, recordOf}
+use Rattle.table.specs.RecordLaws.{after-length, after-at}
 use Rattle.table.specs.Trusted.Rules.{Padded}
+use Rattle.table.specs.LevelTest.{levelIn, noted, LevelsStand}
+use Rattle.table.specs.LevelTestLaws.{level-stands, levels-next}
 use Rattle.table.specs.LoopLaws.{take-next, take-none}
+use Rattle.pending.specs.declared.Lut.{Lut}
+use Rattle.pending.specs.Luts.{lutReads, lutTable}
 use Rattle.mapper_laws.specs.declared.Mapping.{Mapping}
 use Rattle.mapper_laws.specs.CodeRun.{noTable}
-use Rattle.mapper_laws.specs.CodeMap.{tablesIn, SheetMapped}
+use Rattle.mapper_laws.specs.CodeMap.{SheetMapped}
 use Rattle.part.specs.Trusted.Parts.{inUse, tablesOf, Shaped}
 use Rattle.part.specs.Trusted.Sound.{Sound}
 use Rattle.part.specs.Trusted.SoundTest.{sound}
@@ -38,7 +49,8 @@ use Rattle.part.specs.Trusted.Reading.{readOf}
 use Rattle.part.specs.Trusted.Answers.{Answer, accepted, refused}
 use Rattle.part.specs.Trusted.Add.{extended, isDriven, isRead, Offer, Add}
 use Rattle.part.specs.Trusted.AddAnswers.{addingAnswer}
-use Rattle.part.specs.Storing.{circuitOf, stored}
+use Rattle.part.specs.ExtendedLaws.{extended-tables}
+use Rattle.part.specs.Storing.{circuitOf, newTables, newRecords, stored}
 use Rattle.part.specs.declared.Part.{Part}
 use Rattle.part.specs.declared.Adding.{Adding}
 use Rattle.part.specs.declared.Added.{Added}
@@ -91,35 +103,88 @@ module _ (p : Part) (s : Circuit) where
 
 -- ---- 23, and the mapping's records stored
 
--- records that are those of their tables
-records-back : (rs : List Table) → ((i : ℕ) → i < length rs → getD rs i noTable ≡ recordOf (tableOf (getD rs i noTable))) → map recordOf (map tableOf rs) ≡ rs
-records-back [] h = refl
-records-back (r ∷ rs) h = ap₂ _∷_ (sym (h 0 (omega arith))) (records-back rs (λ i l. h (suc i) (omega arith)))
+-- what stands past the last record
+abbrev past : Table
+past = record { net = 0; count = 0; inputs = []; truth = 0; level = 0 }
 
 module _ (p : Part) (shape : Shaped p) (h : Sound p) (s : CodeSheet) (m : Mapping) (g : SheetMapped (p .k) (p .used) s m) where
-  new : List LookupTable
-  new = tablesIn (m .count) (m .tables)
+  abbrev new : List LookupTable
+  new = newTables m
 
   taken-count : length (take (m .count) (m .tables)) ≡ m .count
   taken-count = length-take-le (m .count) (m .tables) (omega (arith, g .room, g .few))
 
   new-count : length new ≡ m .count
-  unfolding new
-  new-count = length-map (take (m .count) (m .tables)) tableOf ∙ taken-count
+  new-count = length-map (take (m .count) (m .tables)) lutTable ∙ taken-count
+
+  pub new-room : length (newRecords p m) ≡ m .count
+  new-room = after-length (tablesOf p) new ∙ new-count
+
+  old-count : length (tablesOf p) ≡ p .used
+  old-count = length-map (inUse p) tableOf ∙ used-count p shape h
 
   new-least : LeastCoverTables codeBase (p .k) (tablesOf p) new (circuitOf s)
-  unfolding new
-  new-least = g .least (tablesOf p) (length-map (inUse p) tableOf ∙ used-count p shape h)
+  new-least = g .least (tablesOf p) old-count
 
-  new-records : map recordOf new ≡ take (m .count) (m .tables)
-  unfolding new
-  new-records = records-back (take (m .count) (m .tables)) (λ i l.
-      let n : i < m .count = omega (arith, l, taken-count) in
-      rw (getD-take (m .count) (m .tables) i noTable n) (g .kept i n .padded))
+  -- a new table drives no net or the sheet's
+  new-nets : s .out ≤ greatestNet → Every (λ t. t .drives ≤ greatestNet) new
+  new-nets o =
+      every-numbered (λ t. t .drives ≤ greatestNet) (length (tablesOf p)) new
+      (λ q j. ⊎-elim (λ z. omega (arith, z)) (λ d. omega (arith, d .0, o)) (added-tidy codeBase (p .k) (tablesOf p) new (circuitOf s) (new-least .added) q j .0))
+
+  -- ONE MORE RECORD is stored: the levels of the codes before it give its level
+  module _ (levels : List ℕ) (n : ℕ) (l : n < m .count) (st : LevelsStand levels (tablesOf p ++ take n new)) where
+    abbrev lut : Lut
+    lut = getD (m .tables) n noTable
+
+    abbrev level : ℕ
+    level = levelIn levels (lutReads lut)
+
+    is-new : getD new n (lutTable noTable) ≡ lutTable lut
+    is-new = List·getD-map lutTable (take (m .count) (m .tables)) n noTable ∙ ap lutTable (getD-take (m .count) (m .tables) n noTable l)
+
+    level-is : level ≡ tableLevel (lutTable lut) (codeLevels codeBase (tablesOf p ++ take n new))
+    level-is = level-stands levels (tablesOf p ++ take n new) st (lutTable lut)
+
+    pub store-record : record { net = lut .net; count = lut .count; inputs = lut .inputs; truth = lut .truth; level = level } ≡ getD (newRecords p m) n past
+    store-record =
+        ap (λ q. record { net = q .net; count = q .count; inputs = q .inputs; truth = q .truth; level = level }) (g .kept n l .padded)
+        ∙ ap (λ x. recordOf x (lutTable lut)) level-is
+        ∙ ap (λ t. recordOf (tableLevel t (codeLevels codeBase (tablesOf p ++ take n new))) t) (sym is-new)
+        ∙ sym (after-at (tablesOf p) new n past (lutTable noTable) (omega (arith, l, new-count)))
+
+    pub store-levels : s .out ≤ greatestNet → p .used + n < tableRoom → LevelsStand (noted levels (p .used + n) (lut .net) level) (tablesOf p ++ take (n + 1) new)
+    store-levels o room =
+        subst (LevelsStand (noted levels (p .used + n) (lut .net) level)) more
+        (subst (λ x. LevelsStand (noted levels (p .used + n) (lut .net) x) (ts ++ lutTable lut ∷ [])) (sym level-is)
+        (subst (λ i. LevelsStand (noted levels i (lut .net) (tableLevel (lutTable lut) (codeLevels codeBase ts))) (ts ++ lutTable lut ∷ [])) count
+        (levels-next levels ts st (lutTable lut) (omega (arith, count, room))
+        (subst (λ t. t .drives ≤ greatestNet) is-new (every-at {P = λ t. t .drives ≤ greatestNet} new n (lutTable noTable) (new-nets o) (omega (arith, l, new-count)))))))
+      where
+        ts : List LookupTable
+        ts = tablesOf p ++ take n new
+
+        few : length (take n new) ≡ n
+        few = length-take-le n new (omega (arith, l, new-count))
+
+        count : length ts ≡ p .used + n
+        count = length-append (tablesOf p) (take n new) ∙ ap₂ _+_ old-count few
+
+        more : ts ++ lutTable lut ∷ [] ≡ tablesOf p ++ take (n + 1) new
+        more =
+            append-assoc (tablesOf p) (take n new) (lutTable lut ∷ [])
+            ∙ ap (_++_ (tablesOf p)) (ap (λ t. take n new ++ t ∷ []) (sym is-new) ∙ sym (take-suc new n (lutTable noTable) (omega (arith, l, new-count))) ∙ ap (λ i. take i new) (sym (add-one n)))
 
   stored-extended : stored p m ≡ extended p new
   stored-extended =
-      ap₂ (λ n rs. record { k = p .k; capacity = p .capacity; used = p .used + n; tables = inUse p ++ rs ++ drop (p .used + n) (p .tables) }) (sym new-count) (sym new-records)
+      ap₂ (λ n rs. record { k = p .k; capacity = p .capacity; used = p .used + n; tables = inUse p ++ rs ++ drop (p .used + n) (p .tables) }) (sym new-count)
+      (ap (λ n. take n (newRecords p m)) (sym new-room) ∙ take-length (newRecords p m))
+
+  -- the levels stand for the tables of the part that is stored
+  pub levels-stored : (levels : List ℕ) → LevelsStand levels (tablesOf p ++ take (m .count) new) → LevelsStand levels (tablesOf (stored p m))
+  levels-stored levels st =
+      subst (LevelsStand levels) (sym (ap tablesOf stored-extended ∙ extended-tables p shape h new))
+      (subst (λ ts. LevelsStand levels (tablesOf p ++ ts)) (ap (λ n. take n new) (sym new-count) ∙ take-length new) st)
 
   module _ (d : isDriven (s .out) (tablesOf p) ≡ false) (r : isRead (s .out) (tablesOf p) ≡ false) where
     pub offer-full : p .capacity - p .used < m .count → Offer p (circuitOf s) p (refused 23 0)

@@ -2,6 +2,8 @@
 ghost use mathlib.Core.Path.{_≡_};
 ghost use Rattle.sheet.specs.Trusted.Answers.{drawnSheet};
 ghost use Rattle.sheet.specs.Trusted.Formed.{WellFormed};
+ghost use Rattle.table.specs.LevelTest.{LevelsStand};
+ghost use Rattle.part.specs.Trusted.Parts.{tablesOf};
 ghost use Rattle.part.specs.Trusted.Sound.{Sound};
 ghost use Rattle.part.specs.Trusted.Add.{Offer, Add};
 ghost use Rattle.part.specs.Storing.{circuitOf};
@@ -14,6 +16,9 @@ use part_records::Uses;
 use part_records::with_table;
 use sheet::ReadAnswer;
 use sheet::Sheet;
+use table::CODE_ROOM;
+use table::Table;
+use table_levels::next_level;
 
 impl Part {
     // The part as it is, and why the sheet was not added.
@@ -23,11 +28,11 @@ impl Part {
         Added { part: self, answer }
     }
 
-    // Adds a sheet that was read to a part that is sound: its tables after the old ones, as few as it needs. The conditions that
-    // refuse it are tested in 01's order: 21, 22, 23.
-    pub fn offer(mut self, sheet: Sheet) -> Added
-        requires { ⌜ Sound self × WellFormed (drawnSheet sheet) ⌝ }
-        ensures { λ r. ⌜ Offer self (circuitOf sheet) (r .part) (addingAnswer (r .answer)) ⌝ }
+    // Adds a sheet that was read to a part that is sound: its tables after the old ones, as few as it needs, each with its level. The
+    // conditions that refuse it are tested in 01's order: 21, 22, 23. The array has the levels of the part's codes, before and after.
+    pub fn offer(mut self, sheet: Sheet, levels: &mut [u16]) -> Added
+        requires { ⌜ Sound self × WellFormed (drawnSheet sheet) × LevelsStand (now levels) (tablesOf self) ⌝ }
+        ensures { λ r. ⌜ Offer self (circuitOf sheet) (r .part) (addingAnswer (r .answer)) × LevelsStand (now (levels .exit)) (tablesOf (r .part)) ⌝ }
     {
         let used = self.used;
         let first = used as usize;
@@ -57,7 +62,16 @@ impl Part {
         let mut n = 0;
         while n < count {
             let at = first + n;
-            let t = mapping.tables[n];
+            let lut = mapping.tables[n];
+            let inputs = lut.inputs;
+            let level = next_level(levels, at, lut.net, lut.count, inputs);
+            let t = Table {
+                net: lut.net,
+                count: lut.count,
+                inputs,
+                truth: lut.truth,
+                level,
+            };
             self.tables[at] = t;
             n += 1;
         }
@@ -72,7 +86,9 @@ impl Part {
     pub fn add(self, text: &[u8]) -> Added
         ensures { λ r. ⌜ Add self (now (text .entry)) (r .part) (addingAnswer (r .answer)) ⌝ }
     {
-        if !self.sound() {
+        let tables = self.tables;
+        let mut levels = [0u16; CODE_ROOM];
+        if !part_records::sound(self.k, self.capacity, self.used, tables, &mut levels) {
             return self.refused(Adding::Unsound);
         }
         let reading = sheet_reader::read(text);
@@ -81,6 +97,6 @@ impl Part {
             return self.refused(Adding::Misread(why, line));
         }
         let sheet = reading.sheet;
-        self.offer(sheet)
+        self.offer(sheet, &mut levels)
     }
 }

@@ -8,6 +8,7 @@ ghost use Rattle.part.specs.Trusted.OpenAnswers.{openingAnswer};
 ghost use Rattle.part.specs.Trusted.SoundTest.{sound as isSound};
 use lists::within;
 use sheet::Refusal;
+use table::CODE_ROOM;
 use table::INPUT_ROOM;
 use table::TABLE_ROOM;
 use table::Table;
@@ -87,11 +88,12 @@ impl Part {
         }
     }
 
-    // The part keeps 01's five points of soundness, whatever its fields hold.
+    // The part keeps 01's five points of soundness and its tables have their levels, whatever its fields hold.
     pub fn sound(self) -> bool
         ensures { λ r. ⌜ r ≡ isSound self ⌝ }
     {
         let tables = self.tables;
-        part_records::sound(self.k, self.capacity, self.used, tables)
+        let mut levels = [0u16; CODE_ROOM];
+        part_records::sound(self.k, self.capacity, self.used, tables, &mut levels)
     }
 }

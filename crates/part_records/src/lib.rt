@@ -1,14 +1,16 @@
 // The records of a part: the test of its soundness, and what its tables do with a net.
 ghost use mathlib.Core.Path.{_≡_};
-ghost use mathlib.Core.List.{[]};
-ghost use mathlib.Core.Bool.{_&&_};
+ghost use mathlib.Core.List.{[], map};
+ghost use mathlib.Core.Bool.{true, _&&_};
 ghost use Prim.Native.Nat.{_≤_, _<_};
 ghost use lib.Dec.{leb};
 ghost use lib.ListN.{take, drop};
 ghost use Rattle.lists.specs.Trusted.Tests.{all};
 ghost use Rattle.table.specs.Trusted.Limits.{tableRoom};
+ghost use Rattle.table.specs.Trusted.Records.{tableOf};
 ghost use Rattle.table.specs.Trusted.RecordTest.{isBlank, isNone, tested, walk};
 ghost use Rattle.table.specs.Trusted.Rules.{Padded};
+ghost use Rattle.table.specs.LevelTest.{noLevels, LevelsStand};
 ghost use Rattle.part_records.specs.Uses.{withTable};
 use lists::within;
 use record_rules::is_blank;
@@ -16,21 +18,25 @@ use table::INPUT_ROOM;
 use table::TABLE_ROOM;
 use table::Table;
 use table_inputs::reads_net;
+use table_levels::is_levelled;
 use table_prefix::after;
 use table_prefix::empty_prefix;
-use table_rules::keeps;
+use table_rules::keeps_points;
 
-// The records in use keep the rules; no more are in use than the capacity says.
-fn rules_kept(k: u8, capacity: u16, used: u16, tables: [Table; 800]) -> bool
-    requires { ⌜ (used ≤ capacity) × (used ≤ tableRoom) ⌝ }
-    ensures { λ r. ⌜ r ≡ isNone (walk k capacity [] (take used tables)) ⌝ }
+// The records in use keep the rules; no more are in use than the capacity says. Their levels are worked out on the way, from zeros.
+fn rules_kept(k: u8, capacity: u16, used: u16, tables: [Table; 800], levels: &mut [u16]) -> bool
+    requires { ⌜ (used ≤ capacity) × (used ≤ tableRoom) × (now levels ≡ noLevels) ⌝ }
+    ensures { λ r. ⌜ (r ≡ isNone (walk k capacity [] (take used tables))) × (r ≡ true → LevelsStand (now (levels .exit)) (map tableOf (take used tables))) ⌝ }
 {
     let count = used as usize;
     let mut prefix = empty_prefix();
     let mut i = 0;
     while i < count {
         let r = tables[i];
-        if !keeps(prefix, k, r) {
+        if !keeps_points(prefix, k, r) {
+            return false;
+        }
+        if !is_levelled(levels, i, r) {
             return false;
         }
         prefix = after(prefix, r);
@@ -55,9 +61,12 @@ fn rest_blank(used: u16, tables: [Table; 800]) -> bool
     true
 }
 
-// K, the capacity, the used count and the records of a part keep 01's five points of soundness, whatever they are.
-pub fn sound(k: u8, capacity: u16, used: u16, tables: [Table; 800]) -> bool
-    ensures { λ r. ⌜ r ≡ (isNone (tested k capacity (take used tables)) && (leb used capacity && all isBlank (drop used tables))) ⌝ }
+// K, the capacity, the used count and the records of a part keep 01's five points of soundness, whatever they are, and have their
+// levels. Where they do, those of the codes are in the array, which is handed in with zeros.
+pub fn sound(k: u8, capacity: u16, used: u16, tables: [Table; 800], levels: &mut [u16]) -> bool
+    requires { ⌜ now levels ≡ noLevels ⌝ }
+    ensures { λ r. ⌜ (r ≡ (isNone (tested k capacity (take used tables)) && (leb used capacity && all isBlank (drop used tables))))
+        × (r ≡ true → LevelsStand (now (levels .exit)) (map tableOf (take used tables))) ⌝ }
 {
     if !within(2, INPUT_ROOM, k as u32) {
         return false;
@@ -68,7 +77,7 @@ pub fn sound(k: u8, capacity: u16, used: u16, tables: [Table; 800]) -> bool
     if used > capacity {
         return false;
     }
-    if rules_kept(k, capacity, used, tables) {
+    if rules_kept(k, capacity, used, tables, levels) {
         rest_blank(used, tables)
     } else {
         false

@@ -1,15 +1,17 @@
-// Runs a script of steps on one part, and prints what each step answers. A line of the script is eleven fields: the step, then its
+// Runs a script of steps on one part, and prints what each step answers. A line of the script is twelve fields: the step, then its
 // numbers.
-//    0 K capacity                            open the part                       prints 0 or minus the refusal's number
-//    1 K · 2 capacity · 3 used               set a field of the part
-//    4 t net count input .. input truth      set record t
-//    5 t                                     set the truth table of record t to 2^64 - 1
-//    6 n                                     set the records 1 to n to a table of nets 1 and 2
-//    7                                       prints 1 where the part is sound, else 0
-//    8 line length place                     write a line into a buffer          prints the count or minus the number, and the buffer
-//    9 length place                          write the list into a buffer        the same
-//   10 n                                     add the sheet in a file             prints 0 or minus the number, and the place; then
-//                                            that argument n names               the list, where the part is sound
+//    0 K capacity                              open the part                       prints 0 or minus the refusal's number
+//    1 K · 2 capacity · 3 used                 set a field of the part
+//    4 t net count input .. input truth level  set record t
+//    5 t                                       set the truth table of record t to 2^64 - 1
+//    6 n                                       set the records 1 to n to a table of nets 1 and 2
+//    7                                         prints 1 where the part is sound, else 0
+//    8 line length place                       write a line into a buffer          prints the count or minus the number, and the buffer
+//    9 length place                            write the list into a buffer        the same
+//   10 n                                       add the sheet in a file             prints 0 or minus the number, and the place; then
+//                                              that argument n names               the list, where the part is sound
+//   11                                         prints the levels of the records in use, in one line
+//   12 t level                                 set the level of record t
 ghost use Prim.Native.Nat.{_≤_};
 ghost use Rattle.io.specs.Counts.{Counts};
 use decimal::Field;
@@ -20,9 +22,9 @@ use part::Opening;
 use part::Part;
 use table::Table;
 
-const FIELDS: usize = 11;
+const FIELDS: usize = 12;
 
-const LINE: usize = 67;
+const LINE: usize = 73;
 
 // The number in a field of a line, 0 where there is none.
 fn field(s: &[u8], i: usize) -> u32 {
@@ -125,6 +127,7 @@ fn record(s: &[u8]) -> Table {
             low16(field(s, 9)),
         ],
         truth: field(s, 10) as u64,
+        level: low16(field(s, 11)),
     }
 }
 
@@ -154,13 +157,27 @@ fn with_full_truth(p: Part, t: u32) -> Part {
     with_record(p, t, r)
 }
 
-// The part with its first n records set to the AND of the nets 1 and 2, which drive no net.
+fn with_level(p: Part, t: u32, level: u16) -> Part {
+    if t < 1 {
+        return p;
+    }
+    if t > 800 {
+        return p;
+    }
+    let at = (t - 1) as usize;
+    let mut r = p.tables[at];
+    r.level = level;
+    with_record(p, t, r)
+}
+
+// The part with its first n records set to the AND of the nets 1 and 2, which drive no net and have level 1.
 fn filled(mut p: Part, n: u32) -> Part {
     let r = Table {
         net: 0,
         count: 2,
         inputs: [1, 2, 0, 0, 0, 0],
         truth: 8,
+        level: 1,
     };
     let mut t: usize = 0;
     let many = if n < 800 { n as usize } else { 800 };
@@ -246,6 +263,30 @@ fn print_list(p: Part) {
     io::write_all(STDOUT_FILENO, &buf[..n]);
 }
 
+// How many records are in use, 800 at most.
+fn in_use(p: Part) -> usize {
+    let used = p.used as usize;
+    if used < 800 { used } else { 800 }
+}
+
+// The level of a record, counted from 0; 0 where there is no such record.
+fn level_at(p: Part, at: usize) -> u16 {
+    if at >= 800 {
+        return 0;
+    }
+    let r = p.tables[at];
+    r.level
+}
+
+// The levels of the records in use, on a line of their own.
+fn print_levels(p: Part) {
+    let many = in_use(p);
+    for at in 0..many {
+        put(level_at(p, at) as i32);
+    }
+    io::write_all(STDOUT_FILENO, b"\n");
+}
+
 fn add(p: Part, s: &[u8]) -> Part {
     let mut text = io::large_buffer();
     let n = read_sheet(field(s, 1) as usize, &mut text);
@@ -269,6 +310,7 @@ fn step(p: Part, s: &[u8]) -> Part {
         5 => with_full_truth(p, field(s, 1)),
         6 => filled(p, field(s, 1)),
         10 => add(p, s),
+        12 => with_level(p, field(s, 1), low16(field(s, 2))),
         _ => shown(p, s),
     }
 }
@@ -279,6 +321,7 @@ fn shown(p: Part, s: &[u8]) -> Part {
     match field(s, 0) {
         7 => say(if p.sound() { 1 } else { 0 }),
         8 => write_line(p, s, &mut buf),
+        11 => print_levels(p),
         _ => write_list(p, s, &mut buf),
     }
     p

@@ -1,3 +1,5 @@
+pub mod Luts
+pub mod LutLaws
 pub mod Operands
 pub mod Pendings
 pub mod Merging

@@ -24,8 +24,8 @@ use Rattle.cover.specs.Trusted.Bits.{bit, digit, truthOf, index, place}
 use Rattle.cover.specs.Trusted.Tables.{output, tabled}
 use Rattle.cover.specs.BitLaws.{bit-shift, bit-truthOf, truthOf-lt, truthOf-only, bit-and, bit-xor, bit-zero}
 use Rattle.table.specs.Trusted.Limits.{inputRoom}
-use Rattle.table.specs.declared.Table.{Table}
-use Rattle.table.specs.Trusted.Records.{reads, tableOf, recordOf}
+use Rattle.pending.specs.declared.Lut.{Lut}
+use Rattle.pending.specs.Luts.{lutReads, lutTable, lutOf}
 use Rattle.pending.specs.declared.Pending.{Pending}
 use Rattle.pending.specs.Operands.{merged}
 use Rattle.pending.specs.Pendings.{operandOf, Mergeable}
@@ -492,12 +492,12 @@ rows-low n l = rw (rows-are n l) (pow-mono {i = n} {j = 6} l)
 
 -- what is read of a pending table in a row of the inputs `zs`
 abbrev operandAt : Pending → List ℕ → ℕ → Bool
-operandAt x zs row = turned (x .inverted) (output (tableOf (x .table)) (λ c. bit row (place c zs)))
+operandAt x zs row = turned (x .inverted) (output (lutTable (x .table)) (λ c. bit row (place c zs)))
 
-operand-is : {v w : ℕ} (x : Pending) (zs : List ℕ) → Rows (rowValue (x .table .truth) (columnsOf (reads (x .table)) zs)) v →
+operand-is : {v w : ℕ} (x : Pending) (zs : List ℕ) → Rows (rowValue (x .table .truth) (columnsOf (lutReads (x .table)) zs)) v →
     Rows (λ row. turned (x .inverted) (bit v row)) w → Rows (operandAt x zs) w
 operand-is x zs e f = record {
-  bits = λ row l. f .bits row l ∙ ap (turned (x .inverted)) (e .bits row l ∙ ap (λ bs. bit (x .table .truth) (index bs)) (each row l (reads (x .table))));
+  bits = λ row l. f .bits row l ∙ ap (turned (x .inverted)) (e .bits row l ∙ ap (λ bs. bit (x .table .truth) (index bs)) (each row l (lutReads (x .table))));
 }
   where
     each : (row : ℕ) → row < 64 → (cs : List ℕ) → map (λ m. bit m row) (columnsOf cs zs) ≡ map (λ c. bit row (place c zs)) cs
@@ -505,7 +505,7 @@ operand-is x zs e f = record {
     each row l (c ∷ cs) = ap₂ _∷_ (bit-column (place c zs) row l) (each row l cs)
 
 abbrev codes : Pending → Pending → List ℕ
-codes x y = reads (x .table) ++ reads (y .table)
+codes x y = lutReads (x .table) ++ lutReads (y .table)
 
 abbrev count : Pending → Pending → ℕ
 count x y = x .table .count + y .table .count
@@ -513,7 +513,7 @@ count x y = x .table .count + y .table .count
 module _ (x y : Pending) (m : Mergeable x y) (shape : length (x .table .inputs) ≡ inputRoom) (inputs : List ℕ) (i : inputs ≡ padded (sorted (codes x y))) where
   codes-count : length (sorted (codes x y)) ≡ count x y
   codes-count =
-      sorted-length (codes x y) ∙ length-append (reads (x .table)) (reads (y .table))
+      sorted-length (codes x y) ∙ length-append (lutReads (x .table)) (lutReads (y .table))
       ∙ ap₂ _+_ (length-take-le (x .table .count) (x .table .inputs) (omega (arith, m .fits)))
       (length-take-le (y .table .count) (y .table .inputs) (omega (arith, m .fits, ordered-shape (ordered-right m))))
 
@@ -523,11 +523,11 @@ module _ (x y : Pending) (m : Mergeable x y) (shape : length (x .table .inputs) 
   pub inputs-room : MergeRoom (count x y) inputs
   inputs-room = record { fits = m .fits; shape = ap length i ∙ padded-length (sorted (codes x y)) (omega (arith, codes-count, m .fits)) }
 
-  pub merged-is : (k : Kind) {v v′ w w′ t : ℕ} → Rows (rowValue (x .table .truth) (columnsOf (reads (x .table)) (take (count x y) inputs))) v →
-      Rows (rowValue (y .table .truth) (columnsOf (reads (y .table)) (take (count x y) inputs))) v′ → Rows (λ row. turned (x .inverted) (bit v row)) w →
+  pub merged-is : (k : Kind) {v v′ w w′ t : ℕ} → Rows (rowValue (x .table .truth) (columnsOf (lutReads (x .table)) (take (count x y) inputs))) v →
+      Rows (rowValue (y .table .truth) (columnsOf (lutReads (y .table)) (take (count x y) inputs))) v′ → Rows (λ row. turned (x .inverted) (bit v row)) w →
       Rows (λ row. turned (y .inverted) (bit v′ row)) w′ → Rows (λ row. meet k (bit w row) (bit w′ row)) t →
-      _≡_ {A = Table} (record { net = 0; count = count x y; inputs = inputs; truth = bitAnd t (2 ^ 2 ^ count x y - 1) })
-      (recordOf (merged k (operandOf x) (operandOf y)))
+      _≡_ {A = Lut} (record { net = 0; count = count x y; inputs = inputs; truth = bitAnd t (2 ^ 2 ^ count x y - 1) })
+      (lutOf (merged k (operandOf x) (operandOf y)))
   unfolding merged
   merged-is k {v} {v′} {w} {w′} {t} p p′ q q′ e = λ j. record { net = 0; count = sym codes-count j; inputs = i j; truth = truth-is j }
     where
@@ -560,11 +560,11 @@ ones-are n l =
     all = omega (arith, pow-mono {i = n} {j = 6} l)
 
 module _ (n : ℕ) (xs : List ℕ) (f : (ℕ → Bool) → Bool) where
-  pub tabled-record : length xs ≤ inputRoom → Tabled (recordOf (tabled n xs f))
+  pub tabled-record : length xs ≤ inputRoom → Tabled (lutOf (tabled n xs f))
   tabled-record l = record { fits = l; small = truthOf-lt (λ i. f (λ c. bit i (place c xs))) (2 ^ length xs) }
 
   -- its value is turned over
-  pub tabled-inverted : invertedOf (recordOf (tabled n xs f)) ≡ recordOf (tabled n xs (λ e. turned true (f e)))
+  pub tabled-inverted : invertedOf (lutOf (tabled n xs f)) ≡ lutOf (tabled n xs (λ e. turned true (f e)))
   tabled-inverted = λ j. record { net = n; count = length xs; inputs = padded xs; truth = turned-over j }
     where
       rows : ℕ

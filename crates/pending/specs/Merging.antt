@@ -6,7 +6,7 @@ use mathlib.Core.List.{List, _++_, map}
 use lib.ListN.{length, getD, take, replicate}
 use Rattle.lists.specs.Sequences.{Sorted}
 use Rattle.cover.specs.Trusted.Bits.{bit, index, place, truthOf}
-use Rattle.table.specs.declared.Table.{Table}
+use Rattle.pending.specs.declared.Lut.{Lut}
 use Rattle.table.specs.Trusted.Limits.{inputRoom}
 
 -- the inputs of a record, its unused ones zero
@@ -50,10 +50,10 @@ pub record Ordered (n : ℕ) (xs : List ℕ) : Type 0 where
   pub sorted : Sorted (take n xs)
 
 -- a record of no more inputs than there is room for, with a bit for each of their rows
-pub record Tabled (t : Table) : Type 0 where
+pub record Tabled (t : Lut) : Type 0 where
   pub fits : t .count ≤ inputRoom
   pub small : t .truth < 2 ^ 2 ^ t .count
 
 -- the table of the other value
-abbrev pub invertedOf : Table → Table
+abbrev pub invertedOf : Lut → Lut
 invertedOf t = record { net = t .net; count = t .count; inputs = t .inputs; truth = truthOf (λ i. not (bit (t .truth) i)) (2 ^ t .count) }

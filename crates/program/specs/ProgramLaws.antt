@@ -8,7 +8,7 @@ use Rattle.decimal.specs.Trusted.Number.{Number}
 use Rattle.part.specs.Trusted.Parts.{Shaped}
 use Rattle.part.specs.Trusted.Sound.{Sound}
 use Rattle.part.specs.Trusted.Answers.{Answer, accepted, refused, Result}
-use Rattle.part.specs.OpenLaws.{opened-shaped, opened-sound}
+use Rattle.part.specs.OpenLaws.{opened-shaped, opened-sound, opened-empty}
 use Rattle.demands.specs.AddLaws.{not-refused}
 use Rattle.opening.specs.Trusted.Opening.{openingNumbers, count, openedBy}
 use Rattle.opening.specs.Contracts.{told, startResult}
@@ -22,6 +22,11 @@ use Rattle.program.specs.Trusted.Program.{After, Prints}
 pub opened-good : (o : Option (Number × Number)) → (openedBy o) .answer ≡ accepted → Shaped ((openedBy o) .part) × Sound ((openedBy o) .part)
 opened-good none e = absurd (not-refused {a = refused 1 0} refl e)
 opened-good (some p) e = (opened-shaped (count (p .0)) (count (p .1)), opened-sound (count (p .0)) (count (p .1)) e)
+
+-- its part holds no table
+opened-none : (o : Option (Number × Number)) → (openedBy o) .answer ≡ accepted → (openedBy o) .part .used ≡ 0
+opened-none none e = refl
+opened-none (some p) e = ap (λ q. q .used) (opened-empty (count (p .0)) (count (p .1)) e)
 
 module _ (input : List ℕ) (s : Start) (e : startResult s ≡ openedBy (openingNumbers input)) where
   with-answer : {a : Answer} → told (s .told) ≡ a → record { part = s .part; answer = a } ≡ openedBy (openingNumbers input)
@@ -38,3 +43,8 @@ module _ (input : List ℕ) (s : Start) (e : startResult s ≡ openedBy (opening
   opening-sound z =
       let i = with-answer (told-accepted (s .told) z) in
       subst Sound (ap (λ (r : Result). r .part) (sym i)) (opened-good (openingNumbers input) (ap (λ (r : Result). r .answer) (sym i)) .1)
+
+  pub opening-none : s .told .number ≡ 0 → s .part .used ≡ 0
+  opening-none z =
+      let i = with-answer (told-accepted (s .told) z) in
+      ap (λ (r : Result). r .part .used) i ∙ opened-none (openingNumbers input) (ap (λ (r : Result). r .answer) (sym i))

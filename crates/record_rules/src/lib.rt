@@ -23,7 +23,7 @@ pub fn is_blank(r: Table) -> bool
         return false;
     }
     if zero_from(inputs, 0) {
-        r.truth == 0
+        (r.truth == 0) & (r.level == 0)
     } else {
         false
     }

@@ -3,7 +3,7 @@ use Prim.Native.Nat.{ℕ, _+_, _-_, _≤_, _<_}
 use native.Mathlib.Omega.{arith}
 use mathlib.Core.Path.{_≡_, refl, sym, ap, ap₂, _∙_, subst}
 use mathlib.Core.Bool.{Bool, true, false, cond, _&&_}
-use mathlib.Core.List.{List, []}
+use mathlib.Core.List.{List, [], _∷_, _++_}
 use lib.Dec.{ltb}
 use lib.ListN.{length, getD, take, drop}
 use lib.Seq.{take-length, length-take-le}
@@ -11,12 +11,15 @@ use Rattle.lists.specs.Cases.{by-leb}
 use Rattle.lists.specs.Trusted.Tests.{within}
 use Rattle.lists.specs.TestLaws.{reflects-lt, reflects-within}
 use Rattle.table.specs.Trusted.Limits.{inputRoom, tableRoom}
-use Rattle.table.specs.ResultLaws.{says-true, says-false}
+use Rattle.table.specs.ResultLaws.{never-true, says-true, says-false}
 use Rattle.table.specs.Trusted.RecordTest.{keeps, bad, refused, walk, tested}
-use Rattle.table.specs.PrefixTest.{Stands, emptyPrefix, keepsIn, prefixAfter}
-use Rattle.table.specs.PrefixLaws.{stands-none, stands-after, keeps-stands}
+use Rattle.table.specs.Trusted.Records.{reads}
+use Rattle.table.specs.PrefixTest.{emptyPrefix, keepsPointsIn, prefixAfter}
+use Rattle.table.specs.LevelTest.{noLevels, notedNext, isLevelledIn, PrefixKept}
+use Rattle.table.specs.LevelTestLaws.{levels-small}
+use Rattle.table.specs.KeptLaws.{kept-none, kept-breaks, kept-wrong, kept-right, kept-after}
 use Rattle.table.specs.WalkLaws.{walk-ends, walk-full, walk-stops, walk-goes, before-next}
-use Rattle.records.specs.RunTest.{verdictOf, stoppedOf, startOf, beginOf, onOf, badOf, stepOf, finishOf}
+use Rattle.records.specs.RunTest.{verdictOf, stoppedOf, startOf, beginOf, onOf, badOf, Steps, keepsIn, stepOf, finishOf}
 use Rattle.table.specs.declared.Table.{Table}
 use Rattle.table.specs.declared.Prefix.{Prefix}
 use Rattle.records.specs.declared.Walk.{Walk}
@@ -40,32 +43,29 @@ module _ (xs : List Table) (k capacity : ℕ) where
     pub same-capacity : w .capacity ≡ capacity
     pub room : capacity ≤ tableRoom
     pub refusal : w .refusal ≡ 0
-    pub prefix : Stands (w .prefix) (take (w .at) xs)
+    pub kept : PrefixKept (w .prefix) (w .levels) (take (w .at) xs)
     pub rest : walk k capacity (take (w .at) xs) (drop (w .at) (take (length xs) xs)) ≡ tested k capacity xs
 
   pub record RunRight (w : Walk) : Type 0 where
     pub goes : w .going ≡ true → RunGoing w
     pub found : w .going ≡ false → verdictOf (finishOf w) ≡ tested k capacity xs
 
-  never : {A : Type 0} → false ≡ true → A
-  never e = let z : _≡_ {A = ℕ} 0 1 = cc in absurd (omega (arith, z))
-
   -- after the records before i, all of them good
-  abbrev here : Prefix → ℕ → Walk
-  here s i = record { prefix = s; at = i; going = ltb i (length xs); bad = false; k = k; capacity = capacity; refusal = 0 }
+  abbrev here : Prefix → List ℕ → ℕ → Walk
+  here s levels i = record { prefix = s; levels = levels; at = i; going = ltb i (length xs); bad = false; k = k; capacity = capacity; refusal = 0 }
 
   abbrev Left : ℕ → Type 0
   Left i = walk k capacity (take i xs) (drop i (take (length xs) xs)) ≡ tested k capacity xs
 
-  here-right : (s : Prefix) (i : ℕ) → capacity ≤ tableRoom → Stands s (take i xs) → Left i → RunRight (here s i)
-  here-right s i c h e = record {
+  here-right : (s : Prefix) (levels : List ℕ) (i : ℕ) → capacity ≤ tableRoom → PrefixKept s levels (take i xs) → Left i → RunRight (here s levels i)
+  here-right s levels i c h e = record {
     goes = λ g. record {
       within = says-true (reflects-lt i (length xs)) g;
       same-k = refl;
       same-capacity = refl;
       room = c;
       refusal = refl;
-      prefix = h;
+      kept = h;
       rest = e;
     };
     found = λ g. sym (walk-ends k capacity xs (length xs) i (omega arith) (ltb-false i (length xs) g)) ∙ e;
@@ -74,7 +74,7 @@ module _ (xs : List Table) (k capacity : ℕ) where
   -- ---- where it begins
 
   stopped-right : (number : ℕ) → verdictOf (finishOf (stoppedOf number)) ≡ tested k capacity xs → RunRight (stoppedOf number)
-  stopped-right number e = record { goes = λ g. never g; found = λ g. e }
+  stopped-right number e = record { goes = λ g. never-true g; found = λ g. e }
 
   -- the choice by the ranges of K and the capacity, and which it is
   module _ {A : Type 0} (good three two : A) where
@@ -97,7 +97,7 @@ module _ (xs : List Table) (k capacity : ℕ) where
       by-cases (within 2 inputRoom k)
       (λ e. by-cases (within 1 tableRoom capacity)
       (λ f. subst RunRight (sym (chosen-good start (stoppedOf 3) (stoppedOf 2) e f))
-      (here-right emptyPrefix 0 (says-true (reflects-within 1 tableRoom capacity) f .1) stands-none
+      (here-right emptyPrefix noLevels 0 (says-true (reflects-within 1 tableRoom capacity) f .1) kept-none
       (ap (walk k capacity []) (take-length xs) ∙ sym (chosen-good all (refused 3) (refused 2) e f))))
       (λ f. subst RunRight (sym (chosen-three start (stoppedOf 3) (stoppedOf 2) e f)) (stopped-right 3 (sym (chosen-three all (refused 3) (refused 2) e f)))))
       (λ e. subst RunRight (sym (chosen-two start (stoppedOf 3) (stoppedOf 2) e)) (stopped-right 2 (sym (chosen-two all (refused 3) (refused 2) e))))
@@ -105,41 +105,50 @@ module _ (xs : List Table) (k capacity : ℕ) where
   -- ---- a step
 
   bad-right : (s : Prefix) (i : ℕ) → bad (i + 1) ≡ tested k capacity xs → RunRight (badOf s i k capacity 0)
-  bad-right s i e = record { goes = λ g. never g; found = λ g. e }
+  bad-right s i e = record { goes = λ g. never-true g; found = λ g. e }
 
   -- the walk after the record t, by the two tests
-  abbrev after : Prefix → Table → ℕ → Bool → Bool → Walk
-  after s t i a b = cond (a && b) (onOf (prefixAfter s t) i (length xs) k capacity 0) (badOf s i k capacity 0)
+  abbrev after : Prefix → List ℕ → Table → ℕ → Bool → Bool → Walk
+  after s levels t i a b =
+      cond (a && b) (onOf (prefixAfter s t) (notedNext levels i (t .net) (reads t)) i (length xs) k capacity 0) (badOf s i k capacity 0)
 
-  module _ (z : Table) (s : Prefix) (i : ℕ) (l : i < length xs) (c : capacity ≤ tableRoom) (h : Stands s (take i xs)) (e : Left i) where
+  module _ (z : Table) (s : Prefix) (levels : List ℕ) (i : ℕ) (l : i < length xs) (c : capacity ≤ tableRoom) (h : PrefixKept s levels (take i xs)) (e : Left i) where
     abbrev t : Table
     t = getD xs i z
 
-    kept : keepsIn k s t ≡ keeps k (take i xs) t
-    kept = keeps-stands s (take i xs) h k t
+    keeping : keepsPointsIn k s t ≡ true → ltb i capacity ≡ true → isLevelledIn levels t ≡ true → RunRight (here (prefixAfter s t) (notedNext levels i (t .net) (reads t)) (i + 1))
+    keeping p f q =
+        let m : length (take i xs) ≡ i = length-take-le i xs (omega arith) in
+        let o : length (take i xs) < tableRoom = omega (arith, m, ltb-true i capacity f, c) in
+        here-right (prefixAfter s t) (notedNext levels i (t .net) (reads t)) (i + 1) c
+        (rw (before-next k capacity xs (length xs) i (omega arith) z l) (subst (λ n. PrefixKept (prefixAfter s t) (notedNext levels n (t .net) (reads t)) (take i xs ++ t ∷ [])) m (kept-after h k t p (t .level) o)))
+        (sym (walk-goes k capacity xs (length xs) i (omega arith) z l f (kept-right h k t p q)) ∙ e)
 
-    fits-right : ltb i capacity ≡ true → RunRight (after s t i true (keepsIn k s t))
+    stopping : ltb i capacity ≡ true → keeps k (take i xs) t ≡ false → RunRight (badOf s i k capacity 0)
+    stopping f y = bad-right s i (sym (walk-stops k capacity xs (length xs) i (omega arith) z l f y) ∙ e)
+
+    fits-right : ltb i capacity ≡ true → RunRight (after s levels t i true (keepsIn k s levels t))
     fits-right f =
-        by-cases (keepsIn k s t)
-        (λ y. let m : length (take i xs) < tableRoom = rw (length-take-le i xs (omega arith)) (omega (arith, ltb-true i capacity f, c)) in
-        subst (λ b. RunRight (after s t i true b)) (sym y)
-        (here-right (prefixAfter s t) (i + 1) c
-        (rw (before-next k capacity xs (length xs) i (omega arith) z l) (stands-after s (take i xs) t h m))
-        (sym (walk-goes k capacity xs (length xs) i (omega arith) z l f (sym kept ∙ y)) ∙ e)))
-        (λ y. subst (λ b. RunRight (after s t i true b)) (sym y)
-        (bad-right s i (sym (walk-stops k capacity xs (length xs) i (omega arith) z l f (sym kept ∙ y)) ∙ e)))
+        by-cases (keepsPointsIn k s t)
+        (λ p. subst (λ b. RunRight (after s levels t i true (b && isLevelledIn levels t))) (sym p)
+        (by-cases (isLevelledIn levels t)
+        (λ q. subst (λ b. RunRight (after s levels t i true b)) (sym q) (keeping p f q))
+        (λ q. subst (λ b. RunRight (after s levels t i true b)) (sym q) (stopping f (kept-wrong h k t p q)))))
+        (λ p. subst (λ b. RunRight (after s levels t i true (b && isLevelledIn levels t))) (sym p) (stopping f (kept-breaks h k t p)))
 
-    step-right : RunRight (after s t i (ltb i capacity) (keepsIn k s t))
+    step-right : RunRight (after s levels t i (ltb i capacity) (keepsIn k s levels t))
     step-right =
         by-cases (ltb i capacity)
-        (λ f. subst (λ a. RunRight (after s t i a (keepsIn k s t))) (sym f) (fits-right f))
-        (λ f. subst (λ a. RunRight (after s t i a (keepsIn k s t))) (sym f)
+        (λ f. subst (λ a. RunRight (after s levels t i a (keepsIn k s levels t))) (sym f) (fits-right f))
+        (λ f. subst (λ a. RunRight (after s levels t i a (keepsIn k s levels t))) (sym f)
         (bad-right s i (sym (walk-full k capacity xs (length xs) i (omega arith) z l f) ∙ e)))
 
   -- the step by the walk's own numbers
   abbrev moved : Walk → Table → ℕ → ℕ → ℕ → Walk
   moved w t m c r =
-      cond (ltb (w .at) c && keepsIn m (w .prefix) t) (onOf (prefixAfter (w .prefix) t) (w .at) (length xs) m c r) (badOf (w .prefix) (w .at) m c r)
+      cond (ltb (w .at) c && keepsIn m (w .prefix) (w .levels) t)
+      (onOf (prefixAfter (w .prefix) t) (notedNext (w .levels) (w .at) (t .net) (reads t)) (w .at) (length xs) m c r)
+      (badOf (w .prefix) (w .at) m c r)
 
   pub steps : (z : Table) (w : Walk) → RunRight w → w .going ≡ true → RunRight (stepOf w (getD xs (w .at) z) (length xs))
   steps z w h e =
@@ -148,16 +157,25 @@ module _ (xs : List Table) (k capacity : ℕ) where
       subst (λ m. RunRight (moved w t m (w .capacity) (w .refusal))) (sym (g .same-k))
       (subst (λ c. RunRight (moved w t k c (w .refusal))) (sym (g .same-capacity))
       (subst (λ r. RunRight (moved w t k capacity r)) (sym (g .refusal))
-      (step-right z (w .prefix) (w .at) (g .within) (g .room) (g .prefix) (g .rest))))
+      (step-right z (w .prefix) (w .levels) (w .at) (g .within) (g .room) (g .kept) (g .rest))))
+
+  -- what a step asks for
+  pub may-go : (w : Walk) → RunGoing w → Steps w (length xs)
+  may-go w g = record {
+    more = g .within;
+    room = omega (arith, g .same-capacity, g .room);
+    small = levels-small (w .levels) _ (g .kept .by-code);
+  }
 
   one-on : (w : Walk) (t : Table) (n : ℕ) (b : Bool) →
-      cond b (onOf (prefixAfter (w .prefix) t) (w .at) n (w .k) (w .capacity) (w .refusal)) (badOf (w .prefix) (w .at) (w .k) (w .capacity) (w .refusal)) .at ≡ w .at + 1
+      cond b (onOf (prefixAfter (w .prefix) t) (notedNext (w .levels) (w .at) (t .net) (reads t)) (w .at) n (w .k) (w .capacity) (w .refusal))
+      (badOf (w .prefix) (w .at) (w .k) (w .capacity) (w .refusal)) .at ≡ w .at + 1
   one-on w t n true = refl
   one-on w t n false = refl
 
   pub nearer : (z : Table) (w : Walk) → w .at < length xs → length xs - stepOf w (getD xs (w .at) z) (length xs) .at < length xs - w .at
   nearer z w l =
-      let e = one-on w (getD xs (w .at) z) (length xs) (ltb (w .at) (w .capacity) && keepsIn (w .k) (w .prefix) (getD xs (w .at) z)) in
+      let e = one-on w (getD xs (w .at) z) (length xs) (ltb (w .at) (w .capacity) && keepsIn (w .k) (w .prefix) (w .levels) (getD xs (w .at) z)) in
       omega (arith, e)
 
   pub ends : (w : Walk) → RunRight w → w .going ≡ false → verdictOf (finishOf w) ≡ tested k capacity xs

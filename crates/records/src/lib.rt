@@ -2,18 +2,20 @@
 // The borrow checker covers no function that has a `&[Table]`, so `first_bad` and `first_bad_of_prefix` are proved by hand. They
 // hold a loop and a call, and no decision: `begin`, `step` and `finish`, which take everything by value and are covered, decide.
 ghost use mathlib.Core.Path.{_≡_};
-ghost use Prim.Native.Nat.{_<_, _≤_};
+ghost use Prim.Native.Nat.{_≤_};
 ghost use lib.ListN.{take};
 ghost use Rattle.table.specs.Trusted.RecordTest.{tested};
-ghost use Rattle.records.specs.RunTest.{beginOf, stepOf, stoppedOf, finishOf, verdictOf};
+ghost use Rattle.records.specs.RunTest.{beginOf, Steps, stepOf, stoppedOf, finishOf, verdictOf};
 use lists::within;
+use table::CODE_ROOM;
 use table::INPUT_ROOM;
 use table::Prefix;
 use table::TABLE_ROOM;
 use table::Table;
+use table_levels::is_levelled;
 use table_prefix::after;
 use table_prefix::empty_prefix;
-use table_rules::keeps;
+use table_rules::keeps_points;
 
 // What the test of a run finds: no bad record, the first bad one counted from 1, or that K or the capacity is out of range.
 // RunTest in specs/ gives the refusals' numbers.
@@ -25,7 +27,7 @@ pub enum Found {
 }
 
 // The walk between two records: what is kept of those passed, how many they are, whether another is to be read, whether the last
-// was bad, K and the capacity, and the number of a refusal, or 0.
+// was bad, K and the capacity, the number of a refusal, or 0, and the levels of codes.
 pub struct Walk {
     pub prefix: Prefix,
     pub at: usize,
@@ -34,6 +36,7 @@ pub struct Walk {
     pub k: u8,
     pub capacity: u16,
     pub refusal: u8,
+    pub levels: [u16; CODE_ROOM],
 }
 
 // A walk that is refused.
@@ -49,6 +52,7 @@ fn stopped(refusal: u8) -> Walk
         k: 0,
         capacity: 0,
         refusal,
+        levels: [0; CODE_ROOM],
     }
 }
 
@@ -67,6 +71,7 @@ pub fn begin(n: usize, k: u32, capacity: u32) -> Walk
                 k: k as u8,
                 capacity: capacity as u16,
                 refusal: 0,
+                levels: [0; CODE_ROOM],
             }
         } else {
             stopped(3)
@@ -78,24 +83,28 @@ pub fn begin(n: usize, k: u32, capacity: u32) -> Walk
 
 // Past one more record.
 pub fn step(w: Walk, t: Table, n: usize) -> Walk
-    requires { ⌜ w .at < n ⌝ }
+    requires { ⌜ Steps w n ⌝ }
     ensures { λ r. ⌜ r ≡ stepOf w t n ⌝ }
 {
     let prefix = w.prefix;
+    let mut levels = w.levels;
     let at = w.at;
     let next = at + 1;
     if at < w.capacity as usize {
-        if keeps(prefix, w.k, t) {
-            let more = after(prefix, t);
-            return Walk {
-                prefix: more,
-                at: next,
-                going: next < n,
-                bad: false,
-                k: w.k,
-                capacity: w.capacity,
-                refusal: w.refusal,
-            };
+        if keeps_points(prefix, w.k, t) {
+            if is_levelled(&mut levels, at, t) {
+                let more = after(prefix, t);
+                return Walk {
+                    prefix: more,
+                    at: next,
+                    going: next < n,
+                    bad: false,
+                    k: w.k,
+                    capacity: w.capacity,
+                    refusal: w.refusal,
+                    levels,
+                };
+            }
         }
     }
     Walk {
@@ -106,6 +115,7 @@ pub fn step(w: Walk, t: Table, n: usize) -> Walk
         k: w.k,
         capacity: w.capacity,
         refusal: w.refusal,
+        levels: [0; CODE_ROOM],
     }
 }
 

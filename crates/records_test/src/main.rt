@@ -1,6 +1,7 @@
 // Reads each file that its arguments name as a run of records, and prints the name and what the test of the run finds: 0 for no bad
 // record, the first bad one counted from 1, or minus the number of a refusal.
-// A file is a line with K and the capacity, then one line for each of at most 16 records: net, input count, six inputs, truth table.
+// A file is a line with K and the capacity, then one line for each of at most 16 records: net, input count, six inputs, truth table and
+// level.
 use decimal::Field;
 use libc::STDOUT_FILENO;
 use records::Found;
@@ -9,7 +10,7 @@ use table::Table;
 // The bytes of the first line, and of a record's.
 const HEAD: usize = 13;
 
-const LINE: usize = 55;
+const LINE: usize = 61;
 
 fn main() {
     let count = os::arg_count();
@@ -70,12 +71,13 @@ fn record_at(text: &[u8], i: usize) -> Table {
             low16(field(text, start, 7)),
         ],
         truth: field(text, start, 8) as u64,
+        level: low16(field(text, start, 9)),
     }
 }
 
 // The number in field i of the line that begins at start, 0 where there is none.
 fn field(text: &[u8], start: usize, i: usize) -> u32 {
-    if i >= 9 {
+    if i >= 10 {
         return 0;
     }
     if start > text.len() {

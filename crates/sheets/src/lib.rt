@@ -1,4 +1,5 @@
-// The sheets of an input, added to a part one after the other. `program` alone calls this, and proves that the part is sound.
+// The sheets of an input, added to a part of no tables one after the other. `program` alone calls this, and proves that the part is
+// sound and has none.
 ghost use mathlib.Core.Path.{_≡_};
 ghost use lib.ListN.{drop};
 ghost use Rattle.part.specs.Trusted.AddAnswers.{addingAnswer};
@@ -10,6 +11,7 @@ use part::Added;
 use part::Adding;
 use part::Part;
 use sheet::ReadAnswer;
+use table::CODE_ROOM;
 
 // The part after the sheets, and the number of the last one.
 pub struct End {
@@ -47,15 +49,16 @@ fn tell_adding(a: Adding) -> Told
 }
 
 // Adds the sheets from the place to the input's end, up to the first that is refused. An accepted one takes a table or more, so the
-// capacity bounds their number.
+// capacity bounds their number. The levels of the part's codes go along from sheet to sheet.
 pub fn add_sheets(opened: Part, input: &[u8], start: usize) -> End
-    requires { ⌜ Sound opened ⌝ }
+    requires { ⌜ Sound opened × (opened .used ≡ 0) ⌝ }
     ensures { λ r. ⌜ Ended opened (drop start (now (input .entry))) r ⌝ }
 {
     let mut added = Added {
         part: opened,
         answer: Adding::Accepted,
     };
+    let mut levels = [0u16; CODE_ROOM];
     let mut at = start;
     let mut sheet: u16 = 0;
     while at < input.len() {
@@ -72,7 +75,7 @@ pub fn add_sheets(opened: Part, input: &[u8], start: usize) -> End
         }
         let drawn = next.sheet;
         let part = added.part;
-        added = part.offer(drawn);
+        added = part.offer(drawn, &mut levels);
         let answer = added.answer;
         let told = tell_adding(answer);
         if told.number != 0 {

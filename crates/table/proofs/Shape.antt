@@ -34,4 +34,4 @@ module _ (xs : List ℕ) (n : ℕ) (l : length xs ≡ inputRoom) where
 
 -- what a function that reads a record of an array takes to stand past the last one
 abbrev pub past : Table
-past = record { net = 0; count = 0; inputs = []; truth = 0 }
+past = record { net = 0; count = 0; inputs = []; truth = 0; level = 0 }

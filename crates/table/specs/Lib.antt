@@ -2,8 +2,12 @@ pub mod Trusted
 pub mod ResultLaws
 pub mod LoopLaws
 pub mod PrefixTest
+pub mod LevelTest
 pub mod RecordLaws
 pub mod RuleLaws
 pub mod TestedLaws
 pub mod PrefixLaws
+pub mod LevelTestLaws
+pub mod KeptLaws
+pub mod AboveLaws
 pub mod WalkLaws

@@ -17,8 +17,8 @@ use Rattle.flags.specs.FlagLaws.{flag-none, raised-length, raised-flag}
 use Rattle.tree.specs.Trusted.Limits.{greatestNet, codeBase}
 use Rattle.table.specs.Trusted.Limits.{tableRoom}
 use Rattle.table.specs.Trusted.Records.{reads, blank}
-use Rattle.table.specs.Trusted.RecordTest.{isCode, isPadded, isSized, sourced, clear, unclaimed, keeps}
-use Rattle.table.specs.PrefixTest.{netWords, tableWords, Stands, emptyPrefix, claimAll, withDriver, prefixAfter, sourcedIn, unclaimedIn, keepsIn}
+use Rattle.table.specs.Trusted.RecordTest.{isCode, isPadded, isSized, sourced, clear, unclaimed, keepsPoints}
+use Rattle.table.specs.PrefixTest.{netWords, tableWords, Stands, emptyPrefix, claimAll, withDriver, prefixAfter, sourcedIn, unclaimedIn, keepsPointsIn}
 use Rattle.table.specs.declared.Table.{Table}
 use Rattle.table.specs.declared.Prefix.{Prefix}
 
@@ -147,9 +147,9 @@ module _ (s : Prefix) (before : List Table) (h : Stands s before) where
   claim-stands : (r : Table) → r .net ≤ greatestNet → unclaimedIn (s .claimed) r ≡ unclaimed before r
   claim-stands r l = ap (λ b. eqb (r .net) 0 || (b && not (elem (r .net) (reads r)))) (h .claimed (r .net) l)
 
-  -- THE RULES OF A RECORD by what is kept are its rules after the records
-  pub keeps-stands : (k : ℕ) (r : Table) → keepsIn k s r ≡ keeps k before r
-  keeps-stands k r =
+  -- THE POINTS OF A RECORD by what is kept are its points after the records
+  pub points-stand : (k : ℕ) (r : Table) → keepsPointsIn k s r ≡ keepsPoints k before r
+  points-stand k r =
       by-leb (λ b. isPadded r && ((b && all isCode (reads r)) && (isSized k r && (all (sourcedIn (s .drives) (s .count)) (reads r) && unclaimedIn (s .claimed) r)))
       ≡ isPadded r && ((b && all isCode (reads r)) && (isSized k r && (all (sourced before) (reads r) && unclaimed before r)))) (r .net) greatestNet
       (λ l. ap₂ (λ a b. isPadded r && (all isCode (reads r) && (isSized k r && (a && b)))) (all-stands (reads r)) (claim-stands r l))

@@ -58,5 +58,5 @@ sourcedIn drives count x = leb x codeBase || (leb x (codeBase + count) && not (f
 abbrev pub unclaimedIn : List ℕ → Table → Bool
 unclaimedIn claimed r = eqb (r .net) 0 || (not (flagAt claimed (r .net)) && not (elem (r .net) (reads r)))
 
-abbrev pub keepsIn : ℕ → Prefix → Table → Bool
-keepsIn k s r = isPadded r && (isCoded r && (isSized k r && (all (sourcedIn (s .drives) (s .count)) (reads r) && unclaimedIn (s .claimed) r)))
+abbrev pub keepsPointsIn : ℕ → Prefix → Table → Bool
+keepsPointsIn k s r = isPadded r && (isCoded r && (isSized k r && (all (sourcedIn (s .drives) (s .count)) (reads r) && unclaimedIn (s .claimed) r)))

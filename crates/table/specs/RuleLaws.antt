@@ -2,17 +2,19 @@
 -- to it; and a beginning of a run that keeps them keeps them.
 use Prim.Native.Nat.{ℕ, zero, suc, _+_, _-_, _≤_, _<_}
 use native.Mathlib.Omega.{arith}
-use mathlib.Core.Path.{_≡_, refl, sym, ap, _∙_, subst}
+use mathlib.Core.Path.{_≡_, refl, sym, ap, ap₂, _∙_, subst}
 use mathlib.Core.Logic.{_⊎_, inl, inr, _≢_, ⊎-elim}
 use mathlib.Core.List.{List, [], _∷_, _++_, map, Memᴰ·cast, Memᴰ·of-map, Memᴰ·append-left, List·Memᴰ·append-cases}
-use lib.ListN.{length, getD, length-map}
+use lib.ListN.{length, getD, take, drop, length-map}
+use lib.Seq.{take-at, drop-at}
 use Rattle.lists.specs.Cases.{by-leb}
 use Rattle.lists.specs.Trusted.Lists.{_∈_, first, later, Every}
 use Rattle.lists.specs.ListLaws.{every-none, every-cons, every-head, every-append, every-left, every-right}
 use Rattle.tree.specs.Trusted.Limits.{codeBase}
-use Rattle.cover.specs.Trusted.Tables.{Placed, numbered}
+use Rattle.cover.specs.Trusted.Tables.{Placed, numbered, levelsOf, levelsAfter}
+use Rattle.cover.specs.LevelLaws.{levels-after, levels-length}
 use Rattle.cover.specs.Eval.{numbered-append, numbered-is, numbered-one}
-use Rattle.table.specs.Trusted.Records.{reads, tableOf, blank}
+use Rattle.table.specs.Trusted.Records.{reads, tableOf, levelAfter, blank}
 use Rattle.table.specs.Trusted.Rules.{NamesTable, Padded, Coded, Sized, Sourced, DrivenOnce, ReadAfter, EveryTwo, places, Rules}
 use Rattle.table.specs.declared.Table.{Table}
 
@@ -74,6 +76,41 @@ pub record Follows (k : ℕ) (old new : List Table) : Type 0 where
   pub driven-once : EveryTwo DrivenOnce (placesAfter old new)
   pub read-after : EveryTwo ReadAfter (placesAfter old new)
   pub fresh : Every (λ p. 0 < p .1 .drives → Every (λ q. (q .1 .drives ≢ p .1 .drives) × (¬ (p .1 .drives ∈ q .1 .inputs))) (places old)) (placesAfter old new)
+  pub levels : map (λ r. r .level) new ≡ levelsAfter codeBase (map tableOf old) (map tableOf new)
+
+-- the levels of a run, those of its beginning first
+levels-split : (old new : List Table) → levelsOf codeBase (map tableOf (old ++ new)) ≡
+    levelsOf codeBase (map tableOf old) ++ levelsAfter codeBase (map tableOf old) (map tableOf new)
+levels-split old new = ap (levelsOf codeBase) (map-append tableOf old new) ∙ levels-after codeBase (map tableOf old) (map tableOf new)
+
+-- where the levels of a run are those worked out, those of its beginning are, and those of the records after it
+levels-both : (old new : List Table) → map (λ r. r .level) (old ++ new) ≡ levelsOf codeBase (map tableOf (old ++ new)) →
+    (map (λ r. r .level) old ≡ levelsOf codeBase (map tableOf old)) × (map (λ r. r .level) new ≡ levelsAfter codeBase (map tableOf old) (map tableOf new))
+levels-both old new e = (sym (take-at have rest n l) ∙ ap (take n) same ∙ take-at worked more n m, sym (drop-at have rest n l) ∙ ap (drop n) same ∙ drop-at worked more n m)
+  where
+    n : ℕ
+    n = length old
+
+    have : List ℕ
+    have = map (λ r. r .level) old
+
+    rest : List ℕ
+    rest = map (λ r. r .level) new
+
+    worked : List ℕ
+    worked = levelsOf codeBase (map tableOf old)
+
+    more : List ℕ
+    more = levelsAfter codeBase (map tableOf old) (map tableOf new)
+
+    same : have ++ rest ≡ worked ++ more
+    same = sym (map-append (λ r. r .level) old new) ∙ e ∙ levels-split old new
+
+    l : length have ≡ n
+    l = length-map old (λ r. r .level)
+
+    m : length worked ≡ n
+    m = levels-length codeBase (λ c. 0) 0 (map tableOf old) ∙ length-map old tableOf
 
 module _ (k : ℕ) (old new : List Table) where
   pub rules-append : Rules k old → Follows k old new → Rules k (old ++ new)
@@ -90,6 +127,7 @@ module _ (k : ℕ) (old new : List Table) where
         (λ p m q j l i. omega (arith, old-place old p m, new-place old new q j))
         (λ p m q j l i. absurd (n .fresh p m l q j .1 i))
         (n .read-after));
+    levels = map-append (λ r. r .level) old new ∙ ap₂ _++_ (o .levels) (n .levels) ∙ sym (levels-split old new);
   }
     where
       ps : List Placed
@@ -108,6 +146,7 @@ module _ (k : ℕ) (old new : List Table) where
         (q .0, in-old old new (q .0) (q .1) (omega (arith, old-place old p m, q .3)), q .2, q .3, q .4);
     driven-once = two-left DrivenOnce (places old) (placesAfter old new) (rw places-append at (h .driven-once));
     read-after = two-left ReadAfter (places old) (placesAfter old new) (rw places-append at (h .read-after));
+    levels = levels-both old new (h .levels) .0;
   }
 
 -- ---- one more record
@@ -122,12 +161,17 @@ Clear n r = (r .net ≢ n) × (¬ (n ∈ reads r))
 abbrev pub Unclaimed : List Table → Table → Type 0
 Unclaimed old r = (r .net ≡ 0) ⊎ (Every (Clear (r .net)) old × (¬ (r .net ∈ reads r)))
 
-pub record Keeps (k : ℕ) (old : List Table) (r : Table) : Type 0 where
+-- 01's points of a record
+pub record Points (k : ℕ) (old : List Table) (r : Table) : Type 0 where
   pub padded : Padded r
   pub coded : Coded r
   pub sized : Sized k r
   pub sourced : Every (Known old) (reads r)
   pub unclaimed : Unclaimed old r
+
+pub record Keeps (k : ℕ) (old : List Table) (r : Table) : Type 0 where
+  pub points : Points k old r
+  pub level : r .level ≡ levelAfter old r
 
 module _ (k : ℕ) (old : List Table) (r : Table) where
   last : Placed
@@ -147,13 +191,14 @@ module _ (k : ℕ) (old : List Table) (r : Table) where
   pub keeps-follows : Keeps k old r → Follows k old (r ∷ [])
   unfolding last
   keeps-follows h = record {
-    padded = every-cons (h .padded) (every-none _);
-    coded = every-cons (h .coded) (every-none _);
-    sized = every-cons (h .sized) (every-none _);
-    sourced = every-cons {P = Sourced (places old ++ placesAfter old (r ∷ []))} (keeps-source (h .sourced)) (every-none _);
+    padded = every-cons (h .points .padded) (every-none _);
+    coded = every-cons (h .points .coded) (every-none _);
+    sized = every-cons (h .points .sized) (every-none _);
+    sourced = every-cons {P = Sourced (places old ++ placesAfter old (r ∷ []))} (keeps-source (h .points .sourced)) (every-none _);
     driven-once = every-cons (every-cons (λ l e. refl) (every-none _)) (every-none _);
-    read-after = every-cons (every-cons (λ l i. ⊎-elim (λ z. absurd (omega (arith, z, l))) (λ f. absurd (f .1 i)) (h .unclaimed)) (every-none _)) (every-none _);
+    read-after = every-cons (every-cons (λ l i. ⊎-elim (λ z. absurd (omega (arith, z, l))) (λ f. absurd (f .1 i)) (h .points .unclaimed)) (every-none _)) (every-none _);
     fresh = every-cons fresh (every-none _);
+    levels = ap (λ l. l ∷ []) (h .level);
   }
     where
       fresh : 0 < r .net → Every (λ q. (q .1 .drives ≢ r .net) × (¬ (r .net ∈ q .1 .inputs))) (places old)
@@ -162,7 +207,7 @@ module _ (k : ℕ) (old : List Table) (r : Table) where
           (λ f. let n = numbered-is 0 (map tableOf old) q m in
           let o = Memᴰ·of-map tableOf old (n .2) in
           subst (λ t. (t .drives ≢ r .net) × (¬ (r .net ∈ t .inputs))) (o .2) (f .0 (o .0) (o .1)))
-          (h .unclaimed)
+          (h .points .unclaimed)
 
   pub rules-snoc : Rules k old → Keeps k old r → Rules k (old ++ r ∷ [])
   rules-snoc o h = rules-append k old (r ∷ []) o (keeps-follows h)
@@ -170,11 +215,14 @@ module _ (k : ℕ) (old : List Table) (r : Table) where
   -- what the rules of a run say of its last record
   pub rules-keeps : Rules k (old ++ r ∷ []) → Keeps k old r
   rules-keeps h = record {
-    padded = every-head (every-right old (r ∷ []) (h .padded));
-    coded = every-head (every-right old (r ∷ []) (h .coded));
-    sized = every-head (every-right old (r ∷ []) (h .sized));
-    sourced = λ x m. by-leb (λ b. Known old x) x codeBase inl (λ t. inr (known x m t));
-    unclaimed = by-leb (λ b. Unclaimed old r) (r .net) 0 (λ z. inl (omega arith)) (λ l. inr (clear l));
+    points = record {
+      padded = every-head (every-right old (r ∷ []) (h .padded));
+      coded = every-head (every-right old (r ∷ []) (h .coded));
+      sized = every-head (every-right old (r ∷ []) (h .sized));
+      sourced = λ x m. by-leb (λ b. Known old x) x codeBase inl (λ t. inr (known x m t));
+      unclaimed = by-leb (λ b. Unclaimed old r) (r .net) 0 (λ z. inl (omega arith)) (λ l. inr (clear l));
+    };
+    level = cc (levels-both old (r ∷ []) (h .levels) .1);
   }
     where
       qs : List Placed

@@ -1,7 +1,7 @@
 -- The tests of RecordTest say what Sound says: of a run of records the first bad one is found, and a part that passes is sound.
 use Prim.Native.Nat.{ℕ, suc, _+_, _≤_}
 use native.Mathlib.Omega.{arith}
-use mathlib.Core.Path.{_≡_, refl, subst}
+use mathlib.Core.Path.{_≡_, refl, sym, subst}
 use mathlib.Core.Logic.{inl, inr, ⊎-elim}
 use mathlib.Core.Bool.{cond, _&&_}
 use mathlib.Core.List.{List, [], _∷_, _++_, append-assoc, append-nil}
@@ -14,10 +14,10 @@ use Rattle.lists.specs.TestLaws.{reflects-le, reflects-lt, reflects-eq, reflect
 use Rattle.lists.specs.Trusted.Tests.{Reflects}
 use Rattle.tree.specs.Trusted.Limits.{greatestNet, codeBase}
 use Rattle.table.specs.Trusted.Limits.{inputRoom, tableRoom, KRange, CapacityRange}
-use Rattle.table.specs.Trusted.Records.{reads}
+use Rattle.table.specs.Trusted.Records.{reads, levelAfter}
 use Rattle.table.specs.Trusted.Rules.{AllZero, Blank, Coded, Sized, Fine, FirstBad}
-use Rattle.table.specs.RuleLaws.{Known, Clear, Unclaimed, Keeps, rules-snoc, rules-keeps, rules-prefix}
-use Rattle.table.specs.Trusted.RecordTest.{allZero, isBlank, isCoded, isSized, sourced, clear, unclaimed, keeps, Verdict, none, bad, refused, walk, tested, Says, isNone}
+use Rattle.table.specs.RuleLaws.{Known, Clear, Unclaimed, Points, Keeps, rules-snoc, rules-keeps, rules-prefix}
+use Rattle.table.specs.Trusted.RecordTest.{allZero, isBlank, isCoded, isSized, sourced, clear, unclaimed, keepsPoints, keeps, Verdict, none, bad, refused, walk, tested, Says, isNone}
 use Rattle.table.specs.declared.Table.{Table}
 
 -- ---- one record
@@ -27,9 +27,10 @@ zero-reflects = reflects-all (λ x. eqb x 0) (λ x. reflects-eq x 0)
 
 pub blank-reflects : (r : Table) → Reflects (isBlank r) (Blank r)
 blank-reflects r =
-    reflects-map (λ h. record { net = h .0; count = h .1 .0; inputs = h .1 .1 .0; truth = h .1 .1 .1 })
-    (λ h. (h .net, (h .count, (h .inputs, h .truth))))
-    (reflects-and (reflects-eq (r .net) 0) (reflects-and (reflects-eq (r .count) 0) (reflects-and (zero-reflects (r .inputs)) (reflects-eq (r .truth) 0))))
+    reflects-map (λ h. record { net = h .0; count = h .1 .0; inputs = h .1 .1 .0; truth = h .1 .1 .1 .0; level = h .1 .1 .1 .1 })
+    (λ h. (h .net, (h .count, (h .inputs, (h .truth, h .level)))))
+    (reflects-and (reflects-eq (r .net) 0) (reflects-and (reflects-eq (r .count) 0) (reflects-and (zero-reflects (r .inputs))
+    (reflects-and (reflects-eq (r .truth) 0) (reflects-eq (r .level) 0)))))
 
 coded-reflects : (r : Table) → Reflects (isCoded r) (Coded r)
 coded-reflects r =
@@ -52,12 +53,17 @@ unclaimed-reflects old r =
     reflects-or (reflects-eq (r .net) 0)
     (reflects-and (reflects-all (clear (r .net)) (clear-reflects (r .net)) old) (reflects-not (reflects-elem (r .net) (reads r))))
 
-pub keeps-reflects : (k : ℕ) (old : List Table) (r : Table) → Reflects (keeps k old r) (Keeps k old r)
-keeps-reflects k old r =
+pub points-reflect : (k : ℕ) (old : List Table) (r : Table) → Reflects (keepsPoints k old r) (Points k old r)
+points-reflect k old r =
     reflects-map (λ h. record { padded = h .0; coded = h .1 .0; sized = h .1 .1 .0; sourced = h .1 .1 .1 .0; unclaimed = h .1 .1 .1 .1 })
     (λ h. (h .padded, (h .coded, (h .sized, (h .sourced, h .unclaimed)))))
     (reflects-and (zero-reflects _) (reflects-and (coded-reflects r) (reflects-and (sized-reflects k r)
     (reflects-and (reflects-all (sourced old) (known-reflects old) (reads r)) (unclaimed-reflects old r)))))
+
+pub keeps-reflects : (k : ℕ) (old : List Table) (r : Table) → Reflects (keeps k old r) (Keeps k old r)
+keeps-reflects k old r =
+    reflects-map (λ h. record { points = h .0; level = sym (h .1) }) (λ h. (h .points, sym (h .level)))
+    (reflects-and (points-reflect k old r) (reflects-eq (levelAfter old r) (r .level)))
 
 -- ---- a run of records
 
@@ -103,7 +109,7 @@ module _ (k capacity : ℕ) where
 
   pub no-records : Fine k capacity []
   no-records = record {
-    rules = record { padded = every-none _; coded = every-none _; sized = every-none _; sourced = every-none _; driven-once = every-none _; read-after = every-none _ };
+    rules = record { padded = every-none _; coded = every-none _; sized = every-none _; sourced = every-none _; driven-once = every-none _; read-after = every-none _; levels = refl };
     fits = omega arith;
   }
 

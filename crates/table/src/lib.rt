@@ -2,6 +2,7 @@
 ghost use mathlib.Core.Path.{_≡_};
 ghost use Prim.Native.Nat.{min};
 ghost use Rattle.table.specs.Trusted.Records.{blank as blankRecord};
+use tree::CODE_BASE;
 use tree::GREATEST_NET;
 
 // The inputs that a record has room for, and the records that a part has room for.
@@ -14,12 +15,16 @@ pub const NET_WORDS: usize = GREATEST_NET as usize / 64 + 1;
 
 pub const TABLE_WORDS: usize = TABLE_ROOM as usize / 64 + 1;
 
-// A lookup table of a part: the net that it drives (0 for none), how many inputs it has, the inputs, and its truth table.
+// The places of an array that holds a number for each code, of nets and of tables.
+pub const CODE_ROOM: usize = CODE_BASE as usize + TABLE_ROOM as usize + 1;
+
+// A lookup table of a part: the net that it drives (0 for none), how many inputs it has, the inputs, its truth table and its level.
 pub struct Table {
     pub net: u16,
     pub count: u8,
     pub inputs: [u16; 6],
     pub truth: u64,
+    pub level: u16,
 }
 
 // What the rules need to know of the records so far: how many there are, which nets a record drives or reads, and which of
@@ -39,6 +44,7 @@ pub fn blank() -> Table
         count: 0,
         inputs: [0u16; 6],
         truth: 0,
+        level: 0,
     }
 }
 

@@ -1,10 +1,10 @@
-// The rules of a record after the records before it, by what is kept of these: of each rule a test, equal to the test of that name with
+// 01's points of a record after the records before it, by what is kept of these: of each a test, equal to the test of that name with
 // In after it in table/specs/PrefixTest.
 ghost use mathlib.Core.Path.{_≡_};
 ghost use Prim.Native.Nat.{_≤_};
 ghost use lib.ListN.{take};
 ghost use Rattle.lists.specs.Trusted.Tests.{all};
-ghost use Rattle.table.specs.PrefixTest.{sourcedIn, unclaimedIn, keepsIn};
+ghost use Rattle.table.specs.PrefixTest.{sourcedIn, unclaimedIn, keepsPointsIn};
 use flags::flag;
 use record_rules::coded;
 use record_rules::padded;
@@ -59,9 +59,9 @@ fn unclaimed(claimed: &[u64], r: Table) -> bool
     !reads_net(inputs, in_use(r.count), net)
 }
 
-// The record keeps the rules after the records before.
-pub fn keeps(prefix: Prefix, k: u8, r: Table) -> bool
-    ensures { λ b. ⌜ b ≡ keepsIn k prefix r ⌝ }
+// The record keeps 01's points after the records before.
+pub fn keeps_points(prefix: Prefix, k: u8, r: Table) -> bool
+    ensures { λ b. ⌜ b ≡ keepsPointsIn k prefix r ⌝ }
 {
     let drives = prefix.drives;
     let claimed = prefix.claimed;

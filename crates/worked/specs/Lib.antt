@@ -1,3 +1,4 @@
 pub mod Worked
 pub mod WorkedRight
 pub mod Example
+pub mod Levels

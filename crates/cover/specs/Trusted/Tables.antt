@@ -1,6 +1,6 @@
--- A part's lookup tables, and the values that they work out, in list order.
--- Definitions only: the laws are in Eval.
-use Prim.Native.Nat.{ℕ, zero, suc, _+_, _^_}
+-- A part's lookup tables, and their values and levels, worked out in list order.
+-- Definitions only: the laws are in Eval and Levels.
+use Prim.Native.Nat.{ℕ, zero, suc, _+_, _^_, max}
 use mathlib.Core.Bool.{Bool, cond}
 use mathlib.Core.List.{List, [], _∷_, map}
 use lib.Dec.{eqb}
@@ -37,25 +37,52 @@ abbrev pub driven : ℕ → List ℕ
 driven zero = []
 driven (suc n) = suc n ∷ []
 
--- `e`, but with the value `b` at the codes `xs`
-abbrev pub put : List ℕ → Bool → (ℕ → Bool) → ℕ → Bool
+-- the greatest of the numbers, 0 where there are none
+abbrev pub greatest : List ℕ → ℕ
+greatest [] = 0
+greatest (x ∷ xs) = max x (greatest xs)
+
+-- its level, where `e` has the level of each code: 02, #103, "1 plus the greatest level among the tables and driven nets it reads"
+abbrev pub tableLevel : LookupTable → (ℕ → ℕ) → ℕ
+tableLevel r e = suc (greatest (map e (r .inputs)))
+
+-- `e`, but with `b` at the codes `xs`
+abbrev pub put : {A : Type 0} → List ℕ → A → (ℕ → A) → ℕ → A
 put [] b e c = e c
 put (x ∷ xs) b e c = cond (eqb c x) b (put xs b e c)
 
 module _ (base : ℕ) where
-  -- the codes that take a table's value: its own, and that of the net that it drives
+  -- the codes that take a table's value and level: its own, and that of the net that it drives
   abbrev pub writes : Placed → List ℕ
   writes p = (base + p .0) ∷ driven (p .1 .drives)
 
-  -- the values of the codes after a table is worked out from the values `e`
-  abbrev pub step : Placed → (ℕ → Bool) → ℕ → Bool
-  step p e = put (writes p) (output (p .1) e) e
+  -- `f` works out what a table's codes have, from what `e` has at each code
+  module _ {A : Type 0} (f : LookupTable → (ℕ → A) → A) where
+    -- after one table
+    abbrev pub step : Placed → (ℕ → A) → ℕ → A
+    step p e = put (writes p) (f (p .1) e) e
 
-  -- and after several, one after the other
-  abbrev pub run : List Placed → (ℕ → Bool) → ℕ → Bool
-  run [] e = e
-  run (p ∷ ps) e = run ps (step p e)
+    -- after several, one after the other
+    abbrev pub run : List Placed → (ℕ → A) → ℕ → A
+    run [] e = e
+    run (p ∷ ps) e = run ps (step p e)
 
   -- the values of the codes in a part, where σ sets the nets that no table drives
   abbrev pub settled : List LookupTable → (ℕ → Bool) → ℕ → Bool
-  settled rs σ = run (numbered 0 rs) σ
+  settled rs σ = run output (numbered 0 rs) σ
+
+  -- the levels of the codes in a part, "free nets being 0"
+  abbrev pub codeLevels : List LookupTable → ℕ → ℕ
+  codeLevels rs = run tableLevel (numbered 0 rs) (λ c. 0)
+
+  -- the levels of tables, one after the other, where `e` has those of the codes before them
+  abbrev pub levelsFrom : (ℕ → ℕ) → List Placed → List ℕ
+  levelsFrom e [] = []
+  levelsFrom e (p ∷ ps) = tableLevel (p .1) e ∷ levelsFrom (step tableLevel p e) ps
+
+  -- THE LEVELS OF A PART'S TABLES, in list order; and those of the tables `new` after the tables `old`
+  abbrev pub levelsOf : List LookupTable → List ℕ
+  levelsOf rs = levelsFrom (λ c. 0) (numbered 0 rs)
+
+  abbrev pub levelsAfter : (old new : List LookupTable) → List ℕ
+  levelsAfter old new = levelsFrom (codeLevels old) (numbered (length old) new)

@@ -6,7 +6,7 @@ use Prim.Native.Nat.{ℕ, _+_, _-_, _≤_, _<_}
 use mathlib.Core.Path.{_≡_}
 use mathlib.Core.Logic.{_↔_}
 use mathlib.Core.Bool.{Bool}
-use mathlib.Core.List.{List, [], _∷_, _++_, map}
+use mathlib.Core.List.{List, [], _∷_, _++_}
 use lib.ListN.{length}
 use Rattle.lists.specs.Trusted.Lists.{Every}
 use Rattle.tree.specs.Trusted.Limits.{codeBase}
@@ -18,7 +18,7 @@ use Rattle.sheet.specs.Trusted.Sheet.{DrawnSheet}
 use Rattle.sheet.specs.Trusted.Read.{readSheet}
 use Rattle.sheet.specs.Trusted.Values.{sheetValue}
 use Rattle.table.specs.Trusted.Limits.{KRange, CapacityRange}
-use Rattle.table.specs.Trusted.Records.{recordOf}
+use Rattle.table.specs.Trusted.Records.{recordsAfter}
 use Rattle.table.specs.Trusted.Rules.{IsNet}
 use Rattle.part.specs.Trusted.Parts.{inUse, tablesOf, Shaped}
 use Rattle.part.specs.Trusted.Sound.{Sound}
@@ -150,7 +150,7 @@ left p n = p .capacity - p .used - n
 -- their number is its least number" and the used count handed back less the one handed in
 pub record Taken (k : ℕ) (o : Part) (text : List ℕ) (q : Part) (s : Circuit) (new : List LookupTable) : Type 0 where
   pub read : readOf text ≡ passed s
-  pub records : inUse q ≡ inUse o ++ map recordOf new
+  pub records : inUse q ≡ inUse o ++ recordsAfter (tablesOf o) new
   pub tables : tablesOf q ≡ tablesOf o ++ new
   pub cover : CoverTables codeBase k (tablesOf o) new s
   pub least : Least k (s .tree) (length new)

@@ -44,7 +44,7 @@ takeTop text = do
   rest ← takeLineFeed c
   some (k, capacity, used, rest)
 
--- line t: t, the net driven, u, the u inputs, and the truth table in 21 columns
+-- line t: t, the net driven, u, the u inputs, and the truth table in 21 columns. A line does not say the level: 0 stands for it.
 abbrev pub takeTable : ℕ → List ℕ → Option (Table × List ℕ)
 takeTable t text = do
   (number, a) ← takeNumber columns text
@@ -53,4 +53,4 @@ takeTable t text = do
   (inputs, d) ← cond (eqb number t) (cond (within 2 inputRoom u) (takeNumbers u c) none) none
   (truth, e) ← takeNumber 21 d
   rest ← takeLineFeed e
-  some (recordOf (record { drives = net; inputs = inputs; truth = truth }), rest)
+  some (recordOf 0 (record { drives = net; inputs = inputs; truth = truth }), rest)

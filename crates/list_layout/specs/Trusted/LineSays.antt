@@ -14,7 +14,8 @@ use Rattle.table.specs.declared.Table.{Table}
 abbrev pub FieldFits : ℕ → Type 0
 FieldFits n = n < 10 ^ columns
 
--- u is from 2 to 6, the unused inputs are zero, each number has room in its field, and the truth table is below 2^64
+-- u is from 2 to 6, the unused inputs are zero, each number has room in its field, and the truth table is below 2^64. The level may be
+-- anything: a line does not say it.
 pub record LineSays (r : Table) : Type 0 where
   pub count : (2 ≤ r .count) × (r .count ≤ inputRoom)
   pub shaped : length (r .inputs) ≡ inputRoom

@@ -187,7 +187,7 @@ returns-5 c =
     let feed = not-false (l .line-feed-at .result) (c .before .before .before .before .if3 .left) in
     table-there (a .text .now) (a .at) (a .t) (f .result) (f .ensures) (head-taken h) (m .numbers-at2 .result) (m .numbers-at2 .ensures) (inputs-laid d) (truth-found (l .before .before))
     (whole c) (subst (LineFeedTaken (a .text .now) (p + 21)) feed (l .line-feed-at .ensures)) _ refl refl
-    (ap₂ (λ o i. record { net = o; count = n; inputs = i; truth = truth }) (c .narrow .ensures) (c .before .narrow-all .ensures))
+    (ap₂ (λ o i. record { net = o; count = n; inputs = i; truth = truth; level = 0 }) (c .narrow .ensures) (c .before .narrow-all .ensures))
 
 pub read-table-spec : {M : Type 1} → statement M
 read-table-spec =

@@ -71,9 +71,9 @@ loop-again c =
       omega arith,
       f,
       w .kept .0 ∙ l .inv .2,
-      paste-next (now (a .numbers)) (l .numbers) (w .last .0) (a .at) (a .at + 9 * l .t) before (recordNumbers r) (l .inv .3) (omega (arith, n))
+      paste-next (now (a .numbers)) (l .numbers) (w .last .0) (a .at) (a .at + 10 * l .t) before (recordNumbers r) (l .inv .3) (omega (arith, n))
           (omega (arith, s .pre, n, m, ap length next, length-append before (recordNumbers r)))
-          (w .ensures ∙ ap (λ q. pasted (l .numbers) (a .at + 9 * l .t) (recordNumbers q)) (getD-any (p .tables) (l .t) past blank in-tables))
+          (w .ensures ∙ ap (λ q. pasted (l .numbers) (a .at + 10 * l .t) (recordNumbers q)) (getD-any (p .tables) (l .t) past blank in-tables))
           ∙ ap (pasted (now (a .numbers)) (a .at)) (sym next),
     )
 

@@ -1,5 +1,5 @@
 -- What a program in C is handed of a list that it has read back: the part as a run of numbers, and a refusal as one number.
--- 02, #101. Definitions only.
+-- 02, #101, and the level of #103. Definitions only.
 use Prim.Native.Nat.{ℕ, _+_, _*_}
 use mathlib.Core.Bool.{cond}
 use mathlib.Core.List.{List, [], _∷_, _++_}
@@ -11,11 +11,11 @@ use Rattle.table.specs.declared.Table.{Table}
 use Rattle.part.specs.Trusted.Parts.{inUse}
 use Rattle.part.specs.declared.Part.{Part}
 
--- nine: the net, u, the six inputs, the truth table
+-- ten: the net, u, the six inputs, the truth table, the level
 abbrev pub recordNumbers : Table → List ℕ
-recordNumbers r = r .net ∷ r .count ∷ r .inputs ++ r .truth ∷ []
+recordNumbers r = r .net ∷ r .count ∷ r .inputs ++ r .truth ∷ r .level ∷ []
 
--- K, the capacity, the used count, and nine for each table in use
+-- K, the capacity, the used count, and ten for each table in use
 abbrev pub partNumbers : Part → List ℕ
 partNumbers p = p .k ∷ p .capacity ∷ p .used ∷ gather recordNumbers (inUse p)
 

@@ -12,20 +12,17 @@ use borrow.Author.Needs.{needs}
 use Rattle.list_reader.proofs.read_list.Statement.{statement}
 use Rattle.list_reader.proofs.read_list.Tie as tie
 
-empty-requires : tie.Need-empty-requires
-empty-requires c κs = search needs
-
 read-top-requires : tie.Need-read-top-requires
 read-top-requires c κs = search needs
 
-handed-requires : tie.Need-handed-requires
-handed-requires c κs = search needs
+refused-requires : tie.Need-refused-requires
+refused-requires c κs = search needs
 
 returns : tie.Need-returns
 returns c =
     let t = c .before .before in
-    handed-refused (c .handed .ensures) (t .before .empty .ensures) refl
-    (top-bad (t .before .before .before .args .text .now) (t .read-top .result) (t .read-top .ensures) (not-true (t .read-top .result .laid) (c .before .if1 .taken)))
+    handed-refused (c .refused .ensures) refl
+    (top-bad (t .before .before .args .text .now) (t .read-top .result) (t .read-top .ensures) (not-true (t .read-top .result .laid) (c .before .if1 .taken)))
 
 -- ---- line 0 is laid out, and then K and the capacity are in range
 
@@ -41,41 +38,41 @@ good-capacity c = sym (c .before .within2 .ensures) ∙ not-false (c .before .wi
 within-requires : tie.Need-within-requires
 within-requires c κs = search needs
 
-handed-requires-2 : tie.Need-handed-requires-2
-handed-requires-2 c κs = search needs
+refused-requires-2 : tie.Need-refused-requires-2
+refused-requires-2 c κs = search needs
 
 returns-2 : tie.Need-returns-2
 returns-2 c =
     let t = c .before .before .before .before in
     let w = c .before .before in
-    handed-refused (c .handed2 .ensures) (t .before .empty .ensures) refl
-    (k-bad (t .before .before .before .args .text .now) (t .read-top .result) (t .read-top .ensures) (laid (w .before)) (sym (w .within .ensures) ∙ not-true (w .within .result) (c .before .if2 .taken)))
+    handed-refused (c .refused2 .ensures) refl
+    (k-bad (t .before .before .args .text .now) (t .read-top .result) (t .read-top .ensures) (laid (w .before)) (sym (w .within .ensures) ∙ not-true (w .within .result) (c .before .if2 .taken)))
 
 within-requires-2 : tie.Need-within-requires-2
 within-requires-2 c κs = search needs
 
-handed-requires-3 : tie.Need-handed-requires-3
-handed-requires-3 c κs = search needs
+refused-requires-3 : tie.Need-refused-requires-3
+refused-requires-3 c κs = search needs
 
 returns-3 : tie.Need-returns-3
 returns-3 c =
     let e = c .before .before .before in
     let t = e .before .before .before in
     let w = c .before .before in
-    handed-refused (c .handed3 .ensures) (t .before .empty .ensures) refl
-    (capacity-bad (t .before .before .before .args .text .now) (t .read-top .result) (t .read-top .ensures) (laid (e .before .before)) (good-k e)
+    handed-refused (c .refused3 .ensures) refl
+    (capacity-bad (t .before .before .args .text .now) (t .read-top .result) (t .read-top .ensures) (laid (e .before .before)) (good-k e)
     (sym (w .within2 .ensures) ∙ not-true (w .within2 .result) (c .before .if3 .taken)))
 
-handed-requires-4 : tie.Need-handed-requires-4
-handed-requires-4 c κs = search needs
+refused-requires-4 : tie.Need-refused-requires-4
+refused-requires-4 c κs = search needs
 
 returns-4 : tie.Need-returns-4
 returns-4 c =
     let f = c .before .before in
     let e = f .before .before in
     let t = e .before .before .before in
-    handed-refused (c .handed4 .ensures) (t .before .empty .ensures) refl
-    (used-bad (t .before .before .before .args .text .now) (t .read-top .result) (t .read-top .ensures) (laid (e .before .before)) (good-k e) (good-capacity f)
+    handed-refused (c .refused4 .ensures) refl
+    (used-bad (t .before .before .args .text .now) (t .read-top .result) (t .read-top .ensures) (laid (e .before .before)) (good-k e) (good-capacity f)
     (lt-leb (t .read-top .result .used) (t .read-top .result .capacity) (c .before .if4 .taken)))
 
 capacity-range : (c : tie.Else3) → let n = c .before .before .before .before .before .read-top .result .capacity in (1 ≤ n) × (n ≤ 800)
@@ -105,24 +102,23 @@ returns-5 c =
     let e = f .before .before in
     let t = e .before .before .before in
     c .read-tables .ensures
-    ∙ sym (ap readResult (top-passed (t .before .before .before .args .text .now) (t .read-top .result) (t .read-top .ensures) (laid (e .before .before)) (good-k e) (good-capacity f)
+    ∙ sym (ap readResult (top-passed (t .before .before .args .text .now) (t .read-top .result) (t .read-top .ensures) (laid (e .before .before)) (good-k e) (good-capacity f)
     (le-leb (t .read-top .result .used) (t .read-top .result .capacity) (c .before .if4 .left))))
 
 pub read-list-spec : {M : Type 1} → statement M
 read-list-spec =
     tie.close
     (tie.spec
-    empty-requires
     read-top-requires
-    handed-requires
+    refused-requires
     returns
     within-requires
-    handed-requires-2
+    refused-requires-2
     returns-2
     within-requires-2
-    handed-requires-3
+    refused-requires-3
     returns-3
-    handed-requires-4
+    refused-requires-4
     returns-4
     cast-read-tables
     cast-read-tables-2

@@ -8,6 +8,7 @@ use lib.ListN.{length}
 use Rattle.lists.specs.Trusted.Lists.{Every}
 use Rattle.decimal.specs.Trusted.Columns.{fieldsOf}
 use Rattle.table.specs.Trusted.Limits.{KRange, CapacityRange}
+use Rattle.table.specs.Trusted.Records.{levelAfter}
 use Rattle.table.specs.Trusted.Rules.{Rules}
 use Rattle.table.specs.declared.Table.{Table}
 use Rattle.list_line.specs.Trusted.TableLine.{tableLine}
@@ -45,11 +46,11 @@ pub data ListCondition (text : List ℕ) : (number place : ℕ) → Type 0 where
   bad-capacity : (k capacity used : ℕ) (more : List ℕ) → TopSays text k capacity used more → KRange k → ¬ (CapacityRange capacity) → ListCondition text 3 0
   used-above : (k capacity used : ℕ) (more : List ℕ) → TopSays text k capacity used more → KRange k → CapacityRange capacity → capacity < used →
       ListCondition text 32 0
-  -- the line of a table: missing or not laid out, then a rule that is first broken there
+  -- the line of a table: missing or not laid out, then a rule that is first broken there, by its record with the level worked out
   no-line : (k used : ℕ) (rs : List Table) (rest : List ℕ) → GoodLines text k used rs rest → length rs < used →
       ((r : Table) (more : List ℕ) → LineSays r → rest ≢ tableLine (suc (length rs)) r ++ more) → ListCondition text 31 (suc (length rs))
   rule-broken : (k used : ℕ) (rs : List Table) (r : Table) (more : List ℕ) → GoodLines text k used rs (tableLine (suc (length rs)) r ++ more) →
-      length rs < used → LineSays r → ¬ (Rules k (rs ++ r ∷ [])) → ListCondition text 32 (suc (length rs))
+      length rs < used → LineSays r → r .level ≡ levelAfter rs r → ¬ (Rules k (rs ++ r ∷ [])) → ListCondition text 32 (suc (length rs))
   -- after the last line
   left-over : (k : ℕ) (rs : List Table) (rest : List ℕ) → GoodLines text k (length rs) rs rest → rest ≢ [] → ListCondition text 31 (suc (length rs))
 

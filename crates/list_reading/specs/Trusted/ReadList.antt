@@ -1,4 +1,4 @@
--- READING A LIST BACK: 02, #101, in its order. Lines are counted from 0. Definitions only.
+-- READING A LIST BACK: 02, #101, in its order, and #103: the reader works the levels out. Lines are counted from 0. Definitions only.
 use Prim.Native.Nat.{ℕ, zero, suc}
 use mathlib.Core.Bool.{Bool, true, false}
 use mathlib.Core.List.{List, [], _∷_, _++_}
@@ -7,6 +7,7 @@ use lib.ListN.{length, drop}
 use Rattle.lists.specs.Trusted.Checked.{Checked, passed, refused, _>>=_, require, given}
 use Rattle.lists.specs.Trusted.Tests.{within}
 use Rattle.table.specs.Trusted.Limits.{inputRoom, tableRoom}
+use Rattle.table.specs.Trusted.Records.{levelled}
 use Rattle.table.specs.Trusted.RecordTest.{keeps}
 use Rattle.table.specs.declared.Table.{Table}
 use Rattle.list_layout.specs.Trusted.Layout.{takeTop, takeTable}
@@ -14,13 +15,14 @@ use Rattle.part.specs.Trusted.Parts.{blanks}
 use Rattle.part.specs.Trusted.Answers.{Result, empty, accepted, refused as turnedAway}
 use Rattle.part.specs.declared.Part.{Part}
 
--- the lines of n tables after those of the records before: on each 31, and last 32, where the record breaks a rule after those before it
+-- the lines of n tables after those of the records before: on each 31, and last 32, where the record, with the level that it has there,
+-- breaks a rule after those before it
 abbrev pub readTables : ℕ → ℕ → List Table → List ℕ → Checked (List Table × List ℕ)
 readTables k zero before text = passed (before, text)
 readTables k (suc n) before text = do
   (r, rest) ← given (takeTable (suc (length before)) text) 31 (suc (length before))
-  _ ← require (keeps k before r) 32 (suc (length before))
-  readTables k n (before ++ r ∷ []) rest
+  _ ← require (keeps k before (levelled before r)) 32 (suc (length before))
+  readTables k n (before ++ levelled before r ∷ []) rest
 
 abbrev pub isNil : List ℕ → Bool
 isNil [] = true

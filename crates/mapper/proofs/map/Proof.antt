@@ -48,8 +48,8 @@ cast-gates c = search needs
 leaf-requires : tie.Need-leaf-requires Inv-loop2 μ-loop2 Inv-loop μ-loop
 leaf-requires c κs = search needs
 
-blank-requires : tie.Need-blank-requires Inv-loop2 μ-loop2 Inv-loop μ-loop
-blank-requires c κs = search needs
+zero-lut-requires : tie.Need-zero-lut-requires Inv-loop2 μ-loop2 Inv-loop μ-loop
+zero-lut-requires c κs = search needs
 
 loop-holds : tie.Need-loop-holds Inv-loop2 μ-loop2 Inv-loop μ-loop
 loop-holds c = going-start refl refl refl
@@ -394,7 +394,7 @@ map-spec =
     μ-loop
     cast-gates
     leaf-requires
-    blank-requires
+    zero-lut-requires
     loop-holds
     mul-gate
     element-copy-out-gate

@@ -1,7 +1,7 @@
 use native.Mathlib.Omega.{arith}
 use mathlib.Core.Path.{_≡_, sym, _∙_}
 use lib.ListN.{length, length-map}
-use Rattle.table.proofs.Table.{the-field}
+use Rattle.pending.proofs.Lut.{the-field}
 use Prim.Native.Nat.{_-_}
 use borrow.Author.Needs.{needs}
 use Rattle.mapper_laws.specs.CodeMap.{mostTables, Staging}

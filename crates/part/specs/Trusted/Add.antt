@@ -3,7 +3,7 @@
 use Prim.Native.Nat.{ℕ, _+_, _-_}
 use mathlib.Core.Path.{_≡_}
 use mathlib.Core.Bool.{Bool, cond}
-use mathlib.Core.List.{List, _++_, map}
+use mathlib.Core.List.{List, _++_}
 use lib.Dec.{leb, eqb}
 use lib.ListN.{length, drop}
 use Rattle.lists.specs.Trusted.Tests.{any, elem, within, either}
@@ -13,7 +13,7 @@ use Rattle.cover.specs.Trusted.Cover.{Least}
 use Rattle.cover.specs.Trusted.Tables.{LookupTable}
 use Rattle.cover.specs.Trusted.CoverTables.{Circuit, LeastCoverTables}
 use Rattle.table.specs.Trusted.Limits.{inputRoom, tableRoom}
-use Rattle.table.specs.Trusted.Records.{recordOf}
+use Rattle.table.specs.Trusted.Records.{recordsAfter}
 use Rattle.part.specs.Trusted.Parts.{inUse, tablesOf}
 use Rattle.part.specs.Trusted.SoundTest.{sound}
 use Rattle.part.specs.Trusted.Reading.{readOf}
@@ -33,13 +33,13 @@ opened k capacity =
 
 -- ---- adding
 
--- the part with the tables added after the old ones, and everything else as it was
+-- the part with the tables added after the old ones, each with its level in the whole list, and everything else as it was
 abbrev pub extended : Part → List LookupTable → Part
 extended p new = record {
   k = p .k;
   capacity = p .capacity;
   used = p .used + length new;
-  tables = inUse p ++ map recordOf new ++ drop (p .used + length new) (p .tables);
+  tables = inUse p ++ recordsAfter (tablesOf p) new ++ drop (p .used + length new) (p .tables);
 }
 
 -- some table drives the net; some table reads it

@@ -5,7 +5,7 @@ use lib.ListN.{drop}
 use Rattle.sheets.specs.Trusted.Sheets.{SheetsPrint}
 use Rattle.sheets.specs.SheetsLaws.{refused-line, accepted-list}
 use Rattle.program.specs.Trusted.Program.{Prints}
-use Rattle.program.specs.ProgramLaws.{opening-refused, opening-accepted, opening-sound}
+use Rattle.program.specs.ProgramLaws.{opening-refused, opening-accepted, opening-sound, opening-none}
 use borrow.Author.Needs.{needs}
 use Rattle.program.proofs.run.Statement.{statement}
 use Rattle.program.proofs.run.Tie as tie
@@ -34,7 +34,9 @@ returns c =
 add-sheets-requires : tie.Need-add-sheets-requires
 add-sheets-requires c κs =
     let r = c .before .before .before .before in
-    opening-sound (r .before .before .before .args .input .now) (r .read-opening .result) (r .read-opening .ensures) (c .before .if1 .left)
+    let input = r .before .before .before .args .input .now in
+    let o = r .read-opening in
+    (opening-sound input (o .result) (o .ensures) (c .before .if1 .left), opening-none input (o .result) (o .ensures) (c .before .if1 .left))
 
 print-refusal-requires-2 : tie.Need-print-refusal-requires-2
 print-refusal-requires-2 c κs = pos-of-ne-zero (c .before .if2 .taken)

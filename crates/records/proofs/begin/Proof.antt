@@ -4,6 +4,7 @@ use mathlib.Core.Bool.{false}
 use lib.Dec.{ltb}
 use Rattle.lists.specs.TestLaws.{reflects-within}
 use Rattle.table.specs.ResultLaws.{says-true}
+use Rattle.table.specs.LevelTest.{noLevels}
 use borrow.Author.Needs.{needs}
 use Rattle.records.proofs.begin.Statement.{statement}
 use Rattle.records.proofs.begin.Tie as tie
@@ -30,10 +31,11 @@ stopped-requires-2 : tie.Need-stopped-requires-2
 stopped-requires-2 c κs = search needs
 
 returns : tie.Need-returns
+unfolding noLevels
 returns c =
     let a = c .before .before .before .before .before .args in
     rw (sym (c .before .before .before .before .within .ensures) ∙ c .before .before .before .if1 .taken, sym (c .before .before .within2 .ensures) ∙ c .before .if2 .taken)
-    (ap (λ s. record { prefix = s; at = 0; going = ltb 0 (a .n); bad = false; k = a .k; capacity = a .capacity; refusal = 0 }) (c .empty-prefix .ensures))
+    (ap (λ s. record { prefix = s; levels = noLevels; at = 0; going = ltb 0 (a .n); bad = false; k = a .k; capacity = a .capacity; refusal = 0 }) (c .empty-prefix .ensures))
 
 returns-2 : tie.Need-returns-2
 returns-2 c = rw (sym (c .before .before .before .before .within .ensures) ∙ c .before .before .before .if1 .taken, sym (c .before .before .within2 .ensures) ∙ c .before .if2 .left) (c .stopped .ensures)

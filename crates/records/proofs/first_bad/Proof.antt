@@ -47,7 +47,7 @@ use Rattle.table.specs.declared.Table.{Table}
 use Rattle.records.specs.declared.Walk.{Walk}
 use Rattle.records.specs.declared.Found.{Found}
 use Rattle.table.specs.Trusted.RecordTest.{tested}
-use Rattle.records.specs.RunTest.{verdictOf, beginOf, stepOf, finishOf}
+use Rattle.records.specs.RunTest.{verdictOf, beginOf, Steps, stepOf, finishOf}
 use Rattle.table.proofs.Table as T
 use Rattle.table.proofs.Table.Laws as T′
 use Rattle.records.proofs.Walk as S
@@ -72,7 +72,7 @@ use Rattle.records.proofs.first_bad as me
 use Rattle.records.proofs.first_bad.Statement as stated
 use Rattle.records.proofs.first_bad.Code as code
 use Rattle.records.proofs.first_bad.Code.Mir as part
-use Rattle.records.specs.RunLaws.{by-cases, RunRight, begins, steps, nearer, ends}
+use Rattle.records.specs.RunLaws.{by-cases, RunRight, begins, steps, may-go, nearer, ends}
 
 -- nothing of the parameters is kept for the exit: a `&` and plain data owe nothing there
 abbrev stayed : Stays (me.ended .signature .params) (me.ended .kept)
@@ -84,7 +84,7 @@ vals = LL.vals T.the-type T′.the-laws
 
 -- what stands past the end of a run: no turn reads it
 abbrev none : Table
-none = record { net = 0; count = 0; inputs = []; truth = 0 }
+none = record { net = 0; count = 0; inputs = []; truth = 0; level = 0 }
 
 module _ {M : Type 1} (𝓤 : URA M) (H : Heap 𝓤) (A : Atoms 𝓤) (mem : Memory → SProp 𝓤) (run : Routine → Fun 𝓤) where
   -- the contracts that the proof cites
@@ -152,7 +152,7 @@ module _ {M : Type 1} (𝓤 : URA M) (H : Heap 𝓤) (A : Atoms 𝓤) (W : Given
   abbrev to-step : Walk → Table → Step 𝓤 H A mem run .Ghost
   to-step w t = ((tt, tt, tt, (w, (t, (n, tt))), (S′.lowered w ∷ [], (vals t, (vint w64 n ∷ [], tt)))), tt)
 
-  may-step : (w : Walk) (t : Table) → Fine w → Is T.the-row t (vals t) → w .at < n → ent 𝓤 (emp 𝓤) (Step 𝓤 H A mem run .pre (to-step w t))
+  may-step : (w : Walk) (t : Table) → Fine w → Is T.the-row t (vals t) → Steps w n → ent 𝓤 (emp 𝓤) (Step 𝓤 H A mem run .pre (to-step w t))
   may-step w t fw ft l =
       qed W [] ∵ says ! {P = onEntry 𝓤 H A step.signature (to-step w t .0 .0) (to-step w t .0 .1) (to-step w t .0 .3) (to-step w t .0 .4)} l $
       nothing ! $ owned ! usize (Is usize) (uint-makes 𝓤 H A W w64) n _ (refl, rm .0) $ fjoin ! $
@@ -220,7 +220,7 @@ module _ {M : Type 1} (𝓤 : URA M) (H : Heap 𝓤) (A : Atoms 𝓤) (W : Given
           assigns ! (of-opd ! (load ! (from ! (hop ! (look ! 7 refl) (stop !))) (look-raw ! 0 refl))) (from ! (stop !)) (init ! 5 refl (LL.lawful T.the-type T′.the-laws 𝓤 H A W .typed t _ g .0)) $
           elem-back ! T.the-row q′ xs (i .0 .at) none (vals t) b o l $ shuts-slice ! tt T.the-row q′ xs b o $
           -- [the token; the fractured borrow; _9; …]
-          calls-value-last ! step.ended (step.clauses 𝓤 H A mem run) (to-step (i .0) t) (λ r. r ≡ stepOf (i .0) t n) (λ r _. id⊢ 𝓤 _) fm known-step (may-step (i .0) t (i .1 .0) g l)
+          calls-value-last ! step.ended (step.clauses 𝓤 H A mem run) (to-step (i .0) t) (λ r. r ≡ stepOf (i .0) t n) (λ r _. id⊢ 𝓤 _) fm known-step (may-step (i .0) t (i .1 .0) g (may-go xs k cap (i .0) (i .1 .1 .goes going)))
           (and-then ! (load ! (from ! (stop !)) (look ! 11 refl)) (and-then ! (load ! (from ! (stop !)) (look ! 3 refl)) (and-then ! (load ! (from ! (stop !)) (look ! 13 refl)) (no-more !)))) (λ u r e is.
           land-last ! (from ! (stop !)) (store ! 11 refl (LL.lawful S.the-type S′.the-laws 𝓤 H A W .typed r _ is .0)) $ drop ! $
           rewrite ! 10 (λ (us : List Val). ‵ (fat fullShare S′.mir l₅ 0 (only us))) (S′.lowers .val-is r (u ∷ []) is) refl $

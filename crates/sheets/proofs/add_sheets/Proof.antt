@@ -1,19 +1,26 @@
 use Prim.Native.Nat.{_-_}
 use native.Mathlib.Omega.{arith}
+use mathlib.Core.Path.{_≡_, sym, ap, subst}
+use mathlib.Core.List.{[], map}
 use borrow.Author.Needs.{needs}
-use lib.ListN.{length}
+use lib.ListN.{length, take}
 use Rattle.sheet.specs.Trusted.Answers.{drawnSheet}
 use Rattle.sheet.specs.Trusted.Formed.{WellFormed}
+use Rattle.table.specs.Trusted.Records.{tableOf}
+use Rattle.table.specs.LevelTest.{noLevels, LevelsStand}
+use Rattle.table.specs.LevelTestLaws.{levels-none}
+use Rattle.part.specs.Trusted.Parts.{tablesOf}
 use Rattle.part.proofs.Shape.{shaped}
 use Rattle.sheets.specs.SheetsLaws.{number-some, SheetsSoFar, sheets-start, sheets-more, few-sheets, on-the-way, ended-stop, ended-all, Stepped, next-formed, stepped-refused, stepped-offered}
 use Rattle.sheets.proofs.add_sheets.Statement.{statement}
 use Rattle.sheets.proofs.add_sheets.Tie as tie
 
 abbrev Inv-loop : tie.InvT-loop
-Inv-loop input start added₀ at₀ sheet₀ added at sheet = SheetsSoFar input (added₀ .part) start (added .part) at sheet
+Inv-loop input start added₀ levels₀ at₀ sheet₀ added levels at sheet =
+    SheetsSoFar input (added₀ .part) start (added .part) at sheet × LevelsStand levels (tablesOf (added .part))
 
 abbrev μ-loop : tie.MeasureT-loop
-μ-loop input start added₀ at₀ sheet₀ added at sheet = length input - at
+μ-loop input start added₀ levels₀ at₀ sheet₀ added levels at sheet = length input - at
 
 -- ---- the next sheet: what it asks of an offer, and what comes of it
 
@@ -21,28 +28,30 @@ sheet-offered : (c : tie.After-enum-told Inv-loop μ-loop) → WellFormed (drawn
 sheet-offered c =
     let n = c .before .before in
     let l = n .before .before in
-    next-formed (l .before .before .args .input .now) (l .loop .added .part) (l .loop .at) (l .loop .inv .sound) (l .loop .inv .shaped) (omega arith) (n .read-next .result) (n .read-next .ensures) (c .enum-told .given .1)
+    next-formed (l .before .before .args .input .now) (l .loop .added .part) (l .loop .at) (l .loop .inv .0 .sound) (l .loop .inv .0 .shaped) (omega arith) (n .read-next .result) (n .read-next .ensures) (c .enum-told .given .1)
 
-sheet-stepped : (c : tie.After-tell-adding Inv-loop μ-loop) → let o = c .before in let n = o .before .before .before .before .before in let l = n .before .before in
+sheet-stepped : (c : tie.After-tell-adding Inv-loop μ-loop) → let o = c .before .before in let n = o .before .before .before .before .before .before in let l = n .before .before in
     Stepped (l .before .before .args .input .now) (l .loop .added .part) (l .loop .at) (o .offer .result .part) (c .tell-adding .result) (n .read-next .result .end)
 sheet-stepped c =
-    let o = c .before in
-    let t = o .before .before .before in
+    let o = c .before .before in
+    let t = o .before .before .before .before in
     let n = t .before .before in
     let l = n .before .before in
-    stepped-offered (l .before .before .args .input .now) (l .loop .added .part) (l .loop .at) (l .loop .inv .sound) (l .loop .inv .shaped) (omega arith) (n .read-next .result) (n .read-next .ensures) (t .enum-told .given .1)
-    (o .offer .result .part) _ (c .tell-adding .result) (o .offer .ensures) (c .tell-adding .ensures)
+    stepped-offered (l .before .before .args .input .now) (l .loop .added .part) (l .loop .at) (l .loop .inv .0 .sound) (l .loop .inv .0 .shaped) (omega arith) (n .read-next .result) (n .read-next .ensures) (t .enum-told .given .1)
+    (o .offer .result .part) _ (c .tell-adding .result) (o .offer .ensures .0) (c .tell-adding .ensures)
 
 -- ---- the needs
 
 loop-holds : tie.Need-loop-holds Inv-loop μ-loop
+unfolding noLevels
 loop-holds c =
     let a = c .before .args in
     let t = c .before .good .0 .1 .1 .1 .1 .1 .0 in
-    sheets-start (a .input .now) (a .opened) (a .start) (shaped (a .opened) (t .0) (t .1 .0 .1) (t .1 .1)) (c .before .pre)
+    let none : [] ≡ tablesOf (a .opened) = ap (λ n. map tableOf (take n (a .opened .tables))) (sym (c .before .pre .1)) in
+    (sheets-start (a .input .now) (a .opened) (a .start) (shaped (a .opened) (t .0) (t .1 .0 .1) (t .1 .1)) (c .before .pre .0), subst (LevelsStand noLevels) none levels-none)
 
 add-sheet : tie.Need-add-sheet Inv-loop μ-loop
-add-sheet c = record { fits = omega (arith, few-sheets (c .before .loop .inv)) }
+add-sheet c = record { fits = omega (arith, few-sheets (c .before .loop .inv .0)) }
 
 read-next-requires : tie.Need-read-next-requires Inv-loop μ-loop
 read-next-requires c κs = search needs
@@ -59,15 +68,20 @@ returns c =
     let g = d .answer .given in
     let n = d .before .before in
     let l = n .before .before in
-    ended-stop (l .loop .inv) (l .loop .added .part) (record { number = c .before .number .result; line = g .0 .1 .0 }) (n .read-next .result .end) (omega arith)
-    (stepped-refused (l .before .before .args .input .now) (l .loop .added .part) (l .loop .at) (l .loop .inv .sound) (l .loop .inv .shaped) (omega arith) (n .read-next .result) (n .read-next .ensures) (g .0 .0) (g .0 .1 .0) (c .before .number .result) (g .1) (c .before .number .ensures))
+    ended-stop (l .loop .inv .0) (l .loop .added .part) (record { number = c .before .number .result; line = g .0 .1 .0 }) (n .read-next .result .end) (omega arith)
+    (stepped-refused (l .before .before .args .input .now) (l .loop .added .part) (l .loop .at) (l .loop .inv .0 .sound) (l .loop .inv .0 .shaped) (omega arith) (n .read-next .result) (n .read-next .ensures) (g .0 .0) (g .0 .1 .0) (c .before .number .result) (g .1) (c .before .number .ensures))
     (λ z. omega (arith, number-some (g .0 .0), c .before .number .ensures, z))
 
 enum-told : tie.Need-enum-told Inv-loop μ-loop
 enum-told c = search needs
 
+slice-aggregate-offer : tie.Need-slice-aggregate-offer Inv-loop μ-loop
+slice-aggregate-offer c = search needs
+
 offer-requires : tie.Need-offer-requires Inv-loop μ-loop
-offer-requires c κs = (c .before .before .before .before .before .before .loop .inv .sound, sheet-offered (c .before .before))
+offer-requires c κs =
+    let l = c .before .before .before .before .before .before .before .loop in
+    (l .inv .0 .sound, sheet-offered (c .before .before .before), l .inv .1)
 
 tell-adding-requires : tie.Need-tell-adding-requires Inv-loop μ-loop
 tell-adding-requires c κs = search needs
@@ -75,29 +89,29 @@ tell-adding-requires c κs = search needs
 returns-2 : tie.Need-returns-2 Inv-loop μ-loop
 returns-2 c =
     let a = c .before .before .before in
-    let o = a .before in
-    let n = o .before .before .before .before .before in
+    let o = a .before .before in
+    let n = o .before .before .before .before .before .before in
     let l = n .before .before in
-    ended-stop (l .loop .inv) (o .offer .result .part) (a .tell-adding .result) (n .read-next .result .end) (omega arith) (sheet-stepped a) (c .before .if1 .taken)
+    ended-stop (l .loop .inv .0) (o .offer .result .part) (a .tell-adding .result) (n .read-next .result .end) (omega arith) (sheet-stepped a) (c .before .if1 .taken)
 
 loop-less : tie.Need-loop-less Inv-loop μ-loop
 loop-less c =
     let a = c .before .before in
-    let o = a .before in
-    let n = o .before .before .before .before .before in
+    let o = a .before .before in
+    let n = o .before .before .before .before .before .before in
     let l = n .before .before in
-    omega (arith, on-the-way (l .loop .inv) (o .offer .result .part) (a .tell-adding .result) (n .read-next .result .end) (omega arith) (sheet-stepped a) (c .if1 .left))
+    omega (arith, on-the-way (l .loop .inv .0) (o .offer .result .part) (a .tell-adding .result) (n .read-next .result .end) (omega arith) (sheet-stepped a) (c .if1 .left))
 
 loop-again : tie.Need-loop-again Inv-loop μ-loop
 loop-again c =
     let a = c .before .before in
-    let o = a .before in
-    let n = o .before .before .before .before .before in
+    let o = a .before .before in
+    let n = o .before .before .before .before .before .before in
     let l = n .before .before in
-    sheets-more (l .loop .inv) (o .offer .result .part) (a .tell-adding .result) (n .read-next .result .end) (omega arith) (sheet-stepped a) (c .if1 .left)
+    (sheets-more (l .loop .inv .0) (o .offer .result .part) (a .tell-adding .result) (n .read-next .result .end) (omega arith) (sheet-stepped a) (c .if1 .left), o .offer .ensures .1)
 
 returns-3 : tie.Need-returns-3 Inv-loop μ-loop
-returns-3 c = ended-all (c .before .before .loop .inv) (omega arith)
+returns-3 c = ended-all (c .before .before .loop .inv .0) (omega arith)
 
 pub add-sheets-spec : {M : Type 1} → statement M
 add-sheets-spec =
@@ -112,6 +126,7 @@ add-sheets-spec =
     number-requires
     returns
     enum-told
+    slice-aggregate-offer
     offer-requires
     tell-adding-requires
     returns-2

@@ -11,14 +11,14 @@ use Rattle.table.specs.declared.Table.{Table}
 use Rattle.lists.specs.Trusted.Tests.{all, elem, pairwise, within}
 use Rattle.tree.specs.Trusted.Limits.{greatestNet, codeBase}
 use Rattle.table.specs.Trusted.Limits.{inputRoom, tableRoom, KRange, CapacityRange}
-use Rattle.table.specs.Trusted.Records.{reads, blank}
+use Rattle.table.specs.Trusted.Records.{reads, levelAfter, blank}
 use Rattle.table.specs.Trusted.Rules.{Fine, FirstBad}
 
 abbrev pub allZero : List ℕ → Bool
 allZero = all (λ x. eqb x 0)
 
 abbrev pub isBlank : Table → Bool
-isBlank r = eqb (r .net) 0 && (eqb (r .count) 0 && (allZero (r .inputs) && eqb (r .truth) 0))
+isBlank r = eqb (r .net) 0 && (eqb (r .count) 0 && (allZero (r .inputs) && (eqb (r .truth) 0 && eqb (r .level) 0)))
 
 abbrev pub isPadded : Table → Bool
 isPadded r = allZero (drop (r .count) (r .inputs))
@@ -45,9 +45,17 @@ clear n r = not (eqb (r .net) n) && not (elem n (reads r))
 abbrev pub unclaimed : List Table → Table → Bool
 unclaimed before r = eqb (r .net) 0 || (all (clear (r .net)) before && not (elem (r .net) (reads r)))
 
+-- the record keeps 01's points after the records before it
+abbrev pub keepsPoints : ℕ → List Table → Table → Bool
+keepsPoints k before r = isPadded r && (isCoded r && (isSized k r && (all (sourced before) (reads r) && unclaimed before r)))
+
+-- its level is the one worked out
+abbrev pub isLevelled : List Table → Table → Bool
+isLevelled before r = eqb (levelAfter before r) (r .level)
+
 -- the record keeps the rules after the records before it
 abbrev pub keeps : ℕ → List Table → Table → Bool
-keeps k before r = isPadded r && (isCoded r && (isSized k r && (all (sourced before) (reads r) && unclaimed before r)))
+keeps k before r = keepsPoints k before r && isLevelled before r
 
 -- none is bad; the first bad one; or refused with this number
 pub data Verdict : Type 0 where

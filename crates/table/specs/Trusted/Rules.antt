@@ -1,4 +1,5 @@
--- The rules of a run of records, by the five points of 01, "Part", in their order. A value of the struct may be anything.
+-- The rules of a run of records, by the five points of 01, "Part", in their order, and 02's #103 of levels. A value of the struct may be
+-- anything.
 -- Definitions only: the laws are in RuleLaws and TestedLaws.
 use Prim.Native.Nat.{ℕ, _+_, _^_, _≤_, _<_}
 use mathlib.Core.Path.{_≡_}
@@ -7,7 +8,7 @@ use mathlib.Core.List.{List, map}
 use lib.ListN.{length, take, drop}
 use Rattle.lists.specs.Trusted.Lists.{_∈_, Every, Rising}
 use Rattle.tree.specs.Trusted.Limits.{greatestNet, codeBase}
-use Rattle.cover.specs.Trusted.Tables.{Placed, numbered}
+use Rattle.cover.specs.Trusted.Tables.{Placed, numbered, levelsOf}
 use Rattle.table.specs.Trusted.Records.{reads, tableOf}
 use Rattle.table.specs.declared.Table.{Table}
 
@@ -20,6 +21,7 @@ pub record Blank (r : Table) : Type 0 where
   pub count : r .count ≡ 0
   pub inputs : AllZero (r .inputs)
   pub truth : r .truth ≡ 0
+  pub level : r .level ≡ 0
 
 -- unused inputs are zero
 abbrev pub Padded : Table → Type 0
@@ -58,8 +60,8 @@ EveryTwo R ps = Every (λ p. Every (R p) ps) ps
 abbrev pub places : List Table → List Placed
 places rs = numbered 0 (map tableOf rs)
 
--- The rules of a run of records: of the first point that the unused inputs are zero; the second; the third; the fourth; and the
--- two halves of the fifth.
+-- The rules of a run of records: of the first point that the unused inputs are zero; the second; the third; the fourth; the two
+-- halves of the fifth; and that each level is the one worked out.
 pub record Rules (k : ℕ) (rs : List Table) : Type 0 where
   pub padded : Every Padded rs
   pub coded : Every Coded rs
@@ -67,6 +69,7 @@ pub record Rules (k : ℕ) (rs : List Table) : Type 0 where
   pub sourced : Every (Sourced (places rs)) (places rs)
   pub driven-once : EveryTwo DrivenOnce (places rs)
   pub read-after : EveryTwo ReadAfter (places rs)
+  pub levels : map (λ r. r .level) rs ≡ levelsOf codeBase (map tableOf rs)
 
 -- ---- the first bad record of a run
 

@@ -5,8 +5,8 @@ use lib.ListN.{take}
 use Rattle.lists.specs.Trusted.Tests.{all}
 use Rattle.table.specs.PrefixTest.{sourcedIn}
 use Rattle.table.proofs.Shape.{inputs-fill, take-room}
-use Rattle.table_rules.proofs.keeps.Statement.{statement}
-use Rattle.table_rules.proofs.keeps.Tie as tie
+use Rattle.table_rules.proofs.keeps_points.Statement.{statement}
+use Rattle.table_rules.proofs.keeps_points.Tie as tie
 
 padded-requires : tie.Need-padded-requires
 padded-requires c κs = search needs
@@ -70,8 +70,8 @@ returns-5 c =
       e,
     )
 
-pub keeps-spec : {M : Type 1} → statement M
-keeps-spec =
+pub keeps-points-spec : {M : Type 1} → statement M
+keeps-points-spec =
     tie.close
     (tie.spec
     padded-requires
