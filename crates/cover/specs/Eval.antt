@@ -89,8 +89,8 @@ module _ (base : ℕ) where
   abbrev pub Untouched : Placed → Placed → Type 0
   Untouched p q = Every (λ c. ¬ (c ∈ writes base q)) (uses p)
 
-  -- of values and of levels: `f` looks at nothing but the inputs
-  module _ {A : Type 0} (f : LookupTable → (ℕ → A) → A) (same : (r : LookupTable) (d e : ℕ → A) → Agree d e (r .inputs) → f r d ≡ f r e) where
+  -- of values and of levels
+  module _ {A : Type 0} (f : LookupTable → (ℕ → A) → A) where
     -- a part goes on from where its beginning ends
     pub run-append : (ps qs : List Placed) (e : ℕ → A) → run base f (ps ++ qs) e ≡ run base f qs (run base f ps e)
     run-append [] qs e = refl
@@ -105,38 +105,40 @@ module _ (base : ℕ) where
     abbrev pub ResultsHold : (ℕ → A) → Placed → Type 0
     ResultsHold e p = Every (λ c. e c ≡ f (p .1) e) (writes base p)
 
-    -- what holds goes on holding
-    pub holds-on : (p : Placed) (ps : List Placed) (e : ℕ → A) → Every (Untouched p) ps → ResultsHold e p → ResultsHold (run base f ps e) p
-    holds-on p ps e clear h c m =
-        every-left (writes base p) (p .1 .inputs) keep c m ∙ h c m
-        ∙ sym (same (p .1) (run base f ps e) e (every-right (writes base p) (p .1 .inputs) keep))
-      where
-        keep : Agree (run base f ps e) e (uses p)
-        keep x i = run-keeps ps e x (λ q j. clear q j x i)
+    -- where `f` looks at nothing but the inputs
+    module _ (same : (r : LookupTable) (d e : ℕ → A) → Agree d e (r .inputs) → f r d ≡ f r e) where
+      -- what holds goes on holding
+      pub holds-on : (p : Placed) (ps : List Placed) (e : ℕ → A) → Every (Untouched p) ps → ResultsHold e p → ResultsHold (run base f ps e) p
+      holds-on p ps e clear h c m =
+          every-left (writes base p) (p .1 .inputs) keep c m ∙ h c m
+          ∙ sym (same (p .1) (run base f ps e) e (every-right (writes base p) (p .1 .inputs) keep))
+        where
+          keep : Agree (run base f ps e) e (uses p)
+          keep x i = run-keeps ps e x (λ q j. clear q j x i)
 
-    -- where no table writes what it or an earlier one reads, or what an earlier one writes, in the end every table holds
-    pub run-holds : (n : ℕ) (rs : List LookupTable) (e : ℕ → A) →
-        Every (λ p. Every (λ c. ¬ (c ∈ writes base p)) (p .1 .inputs)) (numbered n rs) →
-        Every (λ p. Every (λ q. p .0 < q .0 → Untouched p q) (numbered n rs)) (numbered n rs) →
-        Every (ResultsHold (run base f (numbered n rs) e)) (numbered n rs)
-    run-holds n [] e own clear = every-none _
-    run-holds n (r ∷ rs) e own clear =
-        every-cons (holds-on p (numbered (suc n) rs) (step base f p e) (λ q m. every-tail (every-head clear) q m (numbered-is (suc n) rs q m .0)) now)
-        (run-holds (suc n) rs (step base f p e) (every-tail own) (λ q m. every-tail (every-tail clear q m)))
-      where
-        p : Placed
-        p = (suc n, r)
+      -- where no table writes what it or an earlier one reads, or what an earlier one writes, in the end every table holds
+      pub run-holds : (n : ℕ) (rs : List LookupTable) (e : ℕ → A) →
+          Every (λ p. Every (λ c. ¬ (c ∈ writes base p)) (p .1 .inputs)) (numbered n rs) →
+          Every (λ p. Every (λ q. p .0 < q .0 → Untouched p q) (numbered n rs)) (numbered n rs) →
+          Every (ResultsHold (run base f (numbered n rs) e)) (numbered n rs)
+      run-holds n [] e own clear = every-none _
+      run-holds n (r ∷ rs) e own clear =
+          every-cons (holds-on p (numbered (suc n) rs) (step base f p e) (λ q m. every-tail (every-head clear) q m (numbered-is (suc n) rs q m .0)) now)
+          (run-holds (suc n) rs (step base f p e) (every-tail own) (λ q m. every-tail (every-tail clear q m)))
+        where
+          p : Placed
+          p = (suc n, r)
 
-        now : ResultsHold (step base f p e) p
-        now c m =
-            put-in (writes base p) (f r e) e c m
-            ∙ sym (same r (step base f p e) e (λ x i. put-out (writes base p) (f r e) e x (every-head own x i)))
+          now : ResultsHold (step base f p e) p
+          now c m =
+              put-in (writes base p) (f r e) e c m
+              ∙ sym (same r (step base f p e) e (λ x i. put-out (writes base p) (f r e) e x (every-head own x i)))
 
   -- in the values `e`, the codes that the table writes have the table's value
   abbrev pub ValuesHold : (ℕ → Bool) → Placed → Type 0
-  ValuesHold = ResultsHold output output-same
+  ValuesHold = ResultsHold output
 
   pub settled-append : (xs ys : List LookupTable) (σ : ℕ → Bool) →
       settled base (xs ++ ys) σ ≡ run base output (numbered (length xs) ys) (settled base xs σ)
   settled-append xs ys σ =
-      ap (λ ps. run base output ps σ) (numbered-append 0 (length xs) xs ys (omega arith)) ∙ run-append output output-same (numbered 0 xs) (numbered (length xs) ys) σ
+      ap (λ ps. run base output ps σ) (numbered-append 0 (length xs) xs ys (omega arith)) ∙ run-append output (numbered 0 xs) (numbered (length xs) ys) σ

@@ -46,7 +46,7 @@ module _ (base : ℕ) where
   pub codes-after : (old new : List LookupTable) → codeLevels base (old ++ new) ≡ run base tableLevel (numbered (length old) new) (codeLevels base old)
   codes-after old new =
       ap (λ ps. run base tableLevel ps (λ c. 0)) (numbered-append 0 (length old) old new (omega arith))
-      ∙ run-append base tableLevel level-same (numbered 0 old) (numbered (length old) new) (λ c. 0)
+      ∙ run-append base tableLevel (numbered 0 old) (numbered (length old) new) (λ c. 0)
 
   pub levels-length : (e : ℕ → ℕ) (n : ℕ) (rs : List LookupTable) → length (levelsFrom base e (numbered n rs)) ≡ length rs
   levels-length e n [] = refl
@@ -106,7 +106,7 @@ module _ (base : ℕ) where
       Every (λ p. ¬ (x ∈ writes base p)) (numbered (suc (length old)) mid) → codeLevels base (old ++ r ∷ mid) x ≡ tableLevel r (codeLevels base old)
   written-level old mid r x m h =
       ap (λ e. e x) (codes-after old (r ∷ mid))
-      ∙ run-keeps base tableLevel level-same (numbered (suc (length old)) mid) (step base tableLevel (suc (length old), r) (codeLevels base old)) x h
+      ∙ run-keeps base tableLevel (numbered (suc (length old)) mid) (step base tableLevel (suc (length old), r) (codeLevels base old)) x h
       ∙ put-in (writes base (suc (length old), r)) (tableLevel r (codeLevels base old)) (codeLevels base old) x m
 
   -- so a later table that reads it is above r

@@ -3,12 +3,12 @@
 use Prim.Native.Nat.{ℕ, _-_}
 use mathlib.Core.Path.{_≡_, refl}
 use mathlib.Core.Bool.{true, false}
-use mathlib.Core.List.{List, [], _∷_, _++_}
+use mathlib.Core.List.{List, [], _∷_, _++_, map}
 use lib.ListN.{length, replicate, drop}
 use Rattle.table.specs.declared.Table.{Table}
 use Rattle.part.specs.declared.Part.{Part}
 use Rattle.table.specs.Trusted.Limits.{inputRoom}
-use Rattle.table.specs.Trusted.Records.{blank}
+use Rattle.table.specs.Trusted.Records.{tableOf, recordsAfter, blank}
 use Rattle.table.specs.Trusted.RecordTest.{Verdict, none, bad, refused, tested}
 use Rattle.part.specs.Trusted.Parts.{blanks}
 use Rattle.part.specs.Trusted.SoundTest.{sound}
@@ -25,6 +25,10 @@ one = made 1 20 (1 ∷ 2 ∷ 3 ∷ 4 ∷ []) 61152
 
 abbrev two : Table
 two = made 2 21 (5 ∷ 20 ∷ []) 11
+
+-- the records of tables that follow the first: net 20 has level 1, so net 21 has 2 and what reads it 3
+follow : recordsAfter (map tableOf (one ∷ [])) (map tableOf (two ∷ made 0 22 (6 ∷ 21 ∷ []) 8 ∷ [])) ≡ two ∷ made 3 22 (6 ∷ 21 ∷ []) 8 ∷ []
+follow = refl
 
 abbrev pub part : Part
 part = record { k = 4; capacity = 8; used = 2; tables = one ∷ two ∷ drop 2 blanks }

@@ -1,5 +1,5 @@
 -- A part's lookup tables, and their values and levels, worked out in list order.
--- Definitions only: the laws are in Eval and Levels.
+-- Definitions only: the laws are in Eval and LevelLaws.
 use Prim.Native.Nat.{ℕ, zero, suc, _+_, _^_, max}
 use mathlib.Core.Bool.{Bool, cond}
 use mathlib.Core.List.{List, [], _∷_, map}

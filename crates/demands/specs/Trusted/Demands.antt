@@ -146,8 +146,8 @@ pub data Total (k : ℕ) : List Circuit → ℕ → Type 0 where
 abbrev pub left : Part → ℕ → ℕ
 left p n = p .capacity - p .used - n
 
--- the tables `new` were taken for the sheet s: the records put after the old ones are theirs, they "are those of one of its covers, and
--- their number is its least number" and the used count handed back less the one handed in
+-- the tables `new` were taken for the sheet s: the records put after the old ones are theirs, with their levels in the whole list (02, #103),
+-- they "are those of one of its covers, and their number is its least number" and the used count handed back less the one handed in
 pub record Taken (k : ℕ) (o : Part) (text : List ℕ) (q : Part) (s : Circuit) (new : List LookupTable) : Type 0 where
   pub read : readOf text ≡ passed s
   pub records : inUse q ≡ inUse o ++ recordsAfter (tablesOf o) new
