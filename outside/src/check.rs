@@ -2,7 +2,8 @@
 //!
 //! 01 leaves free which least cover is taken and the order of its tables, inputs before readers. So the list is read as that of a sound
 //! part, its tables are dealt to the sheets by their least numbers, and each sheet's tables are tested to be those
-//! of a cover of that sheet (`sheet_tables`), which settles them up to what is free. The values are then run as a second test.
+//! of a cover of that sheet's joined tree (`sheet_tables`), which settles them up to what is free. As a second test the values are run
+//! against the sheets as drawn.
 
 use crate::list;
 use crate::part::{Part, Table};
@@ -48,16 +49,16 @@ fn check_accepted(accepted: &Accepted, list: &[u8]) -> Result<(), String> {
         return Err(format!("{} tables where the least numbers add up to {wanted}", part.tables.len()));
     }
     let mut used = 0;
-    for (index, (sheet, &least)) in accepted.sheets.iter().zip(&accepted.least).enumerate() {
+    for (index, &least) in accepted.least.iter().enumerate() {
         let tables = &part.tables[used..used + least];
-        sheet_tables(sheet, used, tables).map_err(|fault| format!("sheet {}: {fault}", index + 1))?;
-        all_settings(sheet, used, tables).map_err(|fault| format!("sheet {}: {fault}", index + 1))?;
+        sheet_tables(&accepted.joined[index].sheet, used, tables).map_err(|fault| format!("sheet {}: {fault}", index + 1))?;
+        all_settings(&accepted.sheets[index], used, tables).map_err(|fault| format!("sheet {}: {fault}", index + 1))?;
         used += least;
     }
     random_settings(accepted, &part)
 }
 
-/// Some fanins of a drawn gate together, as one value; bit j of `value` is for the setting j of a table's inputs.
+/// Some fanins of a gate together, as one value; bit j of `value` is for the setting j of a table's inputs.
 #[derive(Clone, Copy, Debug)]
 struct Group {
     gate: usize,
@@ -75,8 +76,8 @@ struct Readers<'a> {
 impl<'a> Readers<'a> {
     fn of(sheet: &'a Sheet) -> Readers<'a> {
         let mut readers = Readers { sheet, nets: vec![None; NETS as usize + 1], gates: vec![None; sheet.gates.len()] };
-        for (gate, drawn) in sheet.gates.iter().enumerate() {
-            for (fanin, edge) in drawn.fanins.iter().enumerate() {
+        for (gate, reader) in sheet.gates.iter().enumerate() {
+            for (fanin, edge) in reader.fanins.iter().enumerate() {
                 match edge.source {
                     Source::Net(net) => readers.nets[usize::from(net)] = Some((gate, fanin)),
                     Source::Gate(below) => readers.gates[below] = Some((gate, fanin)),
@@ -134,7 +135,7 @@ impl<'a> Readers<'a> {
 }
 
 /// The value of input j, at each setting of six inputs.
-const PATTERNS: [u64; 6] = [
+pub const PATTERNS: [u64; 6] = [
     0xaaaa_aaaa_aaaa_aaaa,
     0xcccc_cccc_cccc_cccc,
     0xf0f0_f0f0_f0f0_f0f0,
@@ -143,8 +144,8 @@ const PATTERNS: [u64; 6] = [
     0xffff_ffff_0000_0000,
 ];
 
-/// Tests that `tables`, which stand after `used` others in a sound part, are those of a cover of a splitting of the sheet: each is
-/// some or all fanins of one drawn gate, with all that the table holds below them; its inputs are leaves and other such tables;
+/// Tests that `tables`, which stand after `used` others in a sound part, are those of a cover of a splitting of the sheet's tree, as it
+/// is: each is some or all fanins of one gate, with all that the table holds below them; its inputs are leaves and other such tables;
 /// and every leaf and every table but the last is read exactly once.
 ///
 /// Such sets of leaves are nested or apart, so for each gate they make up a splitting, and the tables are the chosen gates in it.

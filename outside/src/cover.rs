@@ -107,7 +107,7 @@ impl Gate<'_> {
     }
 }
 
-/// Adds the tables of a least cover of `sheet` to those of the part.
+/// Adds the tables of a least cover of the sheet's tree, as it is, to those of the part.
 pub fn add(sheet: &Sheet, k: usize, tables: &mut Vec<Table>) {
     let mut search = Search::new(k);
     let mut gate_keys = Vec::with_capacity(sheet.gates.len());

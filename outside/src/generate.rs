@@ -1,5 +1,6 @@
 //! A generator of inputs: good ones of every shape and size, damaged ones for each refusal, changed bytes and cuts.
 
+use crate::join::join;
 use crate::least::least;
 use crate::rng::Rng;
 use crate::sheet::{Edge, Gate, Kind, Sheet, Source};
@@ -56,9 +57,11 @@ enum Style {
     WideChain,
     /// Gates of the most fanins, as even as can be.
     Wide,
+    /// Gates of two to four fanins, as even as can be.
+    Even,
 }
 
-const STYLES: [Style; 5] = [Style::Random, Style::Binary, Style::Chain, Style::WideChain, Style::Wide];
+const STYLES: [Style; 6] = [Style::Random, Style::Binary, Style::Chain, Style::WideChain, Style::Wide, Style::Even];
 
 /// A tree of that many leaves, two or more at the top.
 fn tree(rng: &mut Rng, leaves: usize, style: Style) -> Tree {
@@ -74,9 +77,15 @@ fn tree(rng: &mut Rng, leaves: usize, style: Style) -> Tree {
         Style::Binary => parts(rng, leaves, 2),
         Style::Chain => vec![leaves - 1, 1],
         Style::WideChain => [vec![leaves - (most - 1)], vec![1; most - 1]].concat(),
-        Style::Wide => (0..most).map(|part| (leaves + part) / most).collect(),
+        Style::Wide => even_parts(leaves, most),
+        Style::Even => even_parts(leaves, rng.between(2, most.min(4))),
     };
     Tree::Gate(sizes.into_iter().map(|size| tree(rng, size, style)).collect())
+}
+
+/// `count` numbers as even as can be whose sum is `total`.
+fn even_parts(total: usize, count: usize) -> Vec<usize> {
+    (0..count).map(|part| (total + part) / count).collect()
 }
 
 /// `count` numbers from 1 up whose sum is `total`.
@@ -93,11 +102,12 @@ fn parts(rng: &mut Rng, total: usize, count: usize) -> Vec<usize> {
 struct Marks {
     kind: usize,
     sign: usize,
+    chain: usize,
 }
 
 impl Marks {
     fn new(rng: &mut Rng) -> Marks {
-        Marks { kind: rng.below(4), sign: rng.below(4) }
+        Marks { kind: rng.below(4), sign: rng.below(4), chain: rng.below(6) }
     }
 
     fn kind(&self, rng: &mut Rng, gate: usize) -> Kind {
@@ -118,6 +128,16 @@ impl Marks {
             0 => false,
             1 => rng.once_in(8),
             _ => rng.once_in(2),
+        }
+    }
+
+    /// Whether an edge between gates is inverted, where that depends on their kinds: all such edges are chained, most are, or none is.
+    fn between_gates(&self, rng: &mut Rng, one_kind: bool) -> Option<bool> {
+        match self.chain {
+            0 => Some(!one_kind),
+            1 => Some(one_kind == rng.once_in(4)),
+            2 => Some(one_kind),
+            _ => None,
         }
     }
 }
@@ -187,6 +207,7 @@ impl Nets {
         let mut sheet = Sheet { net, inverted: rng.once_in(2), gates: Vec::new() };
         for mut fanins in gates {
             rng.shuffle(&mut fanins);
+            let kind = marks.kind(rng, sheet.gates.len());
             let mut edges = Vec::new();
             for fanin in fanins {
                 let source = match fanin {
@@ -194,9 +215,9 @@ impl Nets {
                     None if left.is_empty() => return None,
                     None => Source::Net(left.swap_remove(rng.below(left.len()))),
                 };
-                edges.push(Edge { inverted: marks.inverted(rng), source });
+                let between = fanin.and_then(|gate| marks.between_gates(rng, sheet.gates[gate].kind == kind));
+                edges.push(Edge { inverted: between.unwrap_or_else(|| marks.inverted(rng)), source });
             }
-            let kind = marks.kind(rng, sheet.gates.len());
             sheet.gates.push(Gate { kind, fanins: edges });
         }
         self.leaves.push(net);
@@ -225,7 +246,12 @@ fn capacity(rng: &mut Rng, wanted: usize) -> usize {
     capacity.clamp(1, TABLES)
 }
 
-/// A good input of up to a dozen sheets, most of them small.
+/// The least number of tables of a sheet.
+fn tables(sheet: &Sheet, k: usize) -> usize {
+    least(&join(sheet).sheet, k)
+}
+
+/// A good input of up to a dozen sheets, most of them small: many have as many leaves as a joined gate may have fanins, or nearly.
 fn good(rng: &mut Rng) -> Input {
     let k = rng.between(2, 6);
     let count = if rng.once_in(10) { rng.between(0, 12) } else { rng.between(1, 3) };
@@ -235,13 +261,14 @@ fn good(rng: &mut Rng) -> Input {
         let leaves = match rng.below(40) {
             0 => rng.between(2, LEAVES),
             1..=5 => rng.between(2, 40),
+            6..=15 => rng.between(FANINS - 1, FANINS + 2),
             _ => rng.between(2, 12),
         };
         let style = *rng.pick(&STYLES);
         let tree = tree(rng, leaves, style);
         sheets.extend(nets.sheet(rng, &tree));
     }
-    let wanted = sheets.iter().map(|sheet| least(sheet, k)).sum();
+    let wanted = sheets.iter().map(|sheet| tables(sheet, k)).sum();
     input(k, capacity(rng, wanted), &sheets)
 }
 
@@ -264,7 +291,7 @@ fn at_a_limit(rng: &mut Rng) -> Case {
         4 => ("full part", full(rng, k, 3)),
         _ => ("full part of few leaves", full(rng, k, 40)),
     };
-    let wanted = sheets.iter().map(|sheet| least(sheet, k)).sum();
+    let wanted = sheets.iter().map(|sheet| tables(sheet, k)).sum();
     let capacity = if rng.once_in(2) { TABLES } else { capacity(rng, wanted) };
     Case { name, input: text(&input(k, capacity, &sheets)).into_bytes() }
 }
@@ -318,7 +345,7 @@ pub fn full(rng: &mut Rng, k: usize, leaves: usize) -> Vec<Sheet> {
         let style = *rng.pick(&STYLES);
         let tree = tree(rng, size, style);
         let Some(sheet) = nets.sheet(rng, &tree) else { return sheets };
-        let tables = least(&sheet, k);
+        let tables = tables(&sheet, k);
         if tables > left {
             if rng.once_in(4) {
                 sheets.push(sheet);

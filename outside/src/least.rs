@@ -122,7 +122,7 @@ pub fn fanin_keys(gate: &Gate, gates: &[Key], keys: &mut [Key; FANINS]) {
     }
 }
 
-/// The least number of tables of a sheet.
+/// The least number of tables of a sheet's tree, as it is.
 pub fn least(sheet: &Sheet, k: usize) -> usize {
     let mut search = Search::new(k);
     let mut gates = Vec::with_capacity(sheet.gates.len());

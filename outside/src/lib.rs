@@ -13,6 +13,7 @@ pub mod explain;
 #[cfg(feature = "fuzz")]
 pub mod fuzz;
 pub mod generate;
+pub mod join;
 pub mod least;
 pub mod level;
 #[cfg(feature = "linked")]

@@ -1,6 +1,7 @@
 //! The mapping program: a whole input to what is printed (01, "List").
 
 use crate::cover;
+use crate::join::{join, Joined};
 use crate::least::least;
 use crate::part::Part;
 use crate::refusal::Refusal;
@@ -8,12 +9,13 @@ use crate::sheet::{read_next, Sheet};
 use crate::text;
 use crate::{INPUTS, NETS, TABLES};
 
-/// An accepted input: its sheets in order, and the least number of each.
+/// An accepted input: its sheets in order, as drawn and joined, and the least number of each.
 #[derive(Clone, Debug)]
 pub struct Accepted {
     pub k: usize,
     pub capacity: usize,
     pub sheets: Vec<Sheet>,
+    pub joined: Vec<Joined>,
     pub least: Vec<usize>,
 }
 
@@ -74,10 +76,10 @@ pub fn map(input: &[u8]) -> Result<Part, Refusal> {
     Ok(Part { k: accepted.k, capacity: accepted.capacity, tables })
 }
 
-/// Reads an input sheet by sheet; `tables` gives how many tables a sheet takes at K.
+/// Reads an input sheet by sheet; `tables` gives how many tables a joined sheet takes at K.
 fn walk(input: &[u8], mut tables: impl FnMut(&Sheet, usize) -> usize) -> Result<Accepted, Refusal> {
     let (k, capacity, mut rest) = open(input).map_err(|number| Refusal::new(number, 0, 0))?;
-    let mut accepted = Accepted { k, capacity, sheets: Vec::new(), least: Vec::new() };
+    let mut accepted = Accepted { k, capacity, sheets: Vec::new(), joined: Vec::new(), least: Vec::new() };
     let mut nets = Nets { driven: [false; NETS as usize + 1], read: [false; NETS as usize + 1] };
     let mut left = capacity;
     while !rest.is_empty() {
@@ -87,10 +89,12 @@ fn walk(input: &[u8], mut tables: impl FnMut(&Sheet, usize) -> usize) -> Result<
         if let Some(refused) = nets.refuse(&sheet) {
             return Err(Refusal::new(refused, number, 0));
         }
-        let least = tables(&sheet, k);
+        let joined = join(&sheet);
+        let least = tables(&joined.sheet, k);
         left = left.checked_sub(least).ok_or(Refusal::new(23, number, 0))?;
         nets.add(&sheet);
         accepted.sheets.push(sheet);
+        accepted.joined.push(joined);
         accepted.least.push(least);
     }
     Ok(accepted)

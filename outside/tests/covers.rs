@@ -1,8 +1,12 @@
 //! The search against every splitting and every cover of small trees, and the checker against their tables.
 
-use outside::check::{check_list, sheet_tables};
+use std::collections::BTreeSet;
+
+use outside::check::{check_list, sheet_tables, PATTERNS};
 use outside::exhaustive::{covers, least, splittings};
+use outside::join::join;
 use outside::part::{Part, Table};
+use outside::rng::Rng;
 use outside::sheet::{Edge, Gate, Kind, Sheet, Source};
 
 /// A drawn tree without names.
@@ -112,7 +116,8 @@ fn no_cover_has_as_many_tables_as_leaves() {
     }
 }
 
-/// The tables of every cover of every splitting of up to five leaves are taken, and those of each least cover make a good list.
+/// The tables of every cover of every splitting of a joined tree of up to five leaves are taken, and those of each least cover make a good
+/// list for the sheet as drawn.
 #[test]
 fn every_cover_is_taken() {
     for leaves in 2..=5 {
@@ -125,19 +130,57 @@ fn every_cover_is_taken() {
 }
 
 fn every_cover_of(sheet: &Sheet) {
-    let splittings = splittings(sheet);
+    let joined = join(sheet).sheet;
+    let splittings = splittings(&joined);
     for k in 2..=6 {
         let least = least(&splittings, k);
         for (node, choice, count) in covers(&splittings, k) {
             let tables = node.tables(choice, 3, sheet.net, sheet.inverted);
             assert_eq!(tables.len(), count);
-            assert_eq!(sheet_tables(sheet, 3, &tables), Ok(()), "{sheet:?} {tables:?}");
+            assert_eq!(sheet_tables(&joined, 3, &tables), Ok(()), "{joined:?} {tables:?}");
             let tables = node.tables(choice, 0, sheet.net, sheet.inverted);
             let list = Part { k, capacity: 9, tables }.list();
             let input = format!("{k:>6}     9\n{}", sheet.text());
             assert_eq!(check_list(input.as_bytes(), list.as_bytes()).is_ok(), count == least, "{input}{list}");
         }
     }
+}
+
+/// What the tables give at the settings of up to six leaves. A function of a tree tells its leaves, so this settles the tables of a cover
+/// up to their order.
+fn outputs(tables: &[Table]) -> BTreeSet<u64> {
+    let mut given: Vec<u64> = Vec::new();
+    for table in tables {
+        given.push(table.output(|code| match usize::from(code).checked_sub(10_001) {
+            Some(index) => given[index],
+            None => PATTERNS[usize::from(code) - 1],
+        }));
+    }
+    given.into_iter().collect()
+}
+
+/// Of the covers of a tree as drawn those are taken that are covers of the joined tree too: all where only upright edges are joined, and
+/// where an inverted one is, those without a table of the lower gate's fanins, which gives their drawn value and not the one turned over.
+#[test]
+fn covers_of_the_drawn_tree() {
+    let (mut taken, mut turned_down) = (0, 0);
+    let mut rng = Rng::new(1);
+    for shape in (2..=5).flat_map(shapes) {
+        for marks in [(); 20].map(|_| rng.word()) {
+            let sheet = sheet(&shape, marks);
+            let joined = join(&sheet).sheet;
+            let tables = |sheet: &Sheet| -> Vec<Vec<Table>> {
+                covers(&splittings(sheet), 6).map(|(node, choice, _)| node.tables(choice, 0, sheet.net, sheet.inverted)).collect()
+            };
+            let right: BTreeSet<BTreeSet<u64>> = tables(&joined).iter().map(|tables| outputs(tables)).collect();
+            for tables in tables(&sheet) {
+                let is_right = right.contains(&outputs(&tables));
+                assert_eq!(sheet_tables(&joined, 0, &tables).is_ok(), is_right, "{sheet:?} {tables:?}");
+                *if is_right { &mut taken } else { &mut turned_down } += 1;
+            }
+        }
+    }
+    assert!(taken > 1000 && turned_down > 100, "{taken} {turned_down}");
 }
 
 /// No other truth table, input or net is taken in any table of any cover of up to four leaves, unless it is another cover's.

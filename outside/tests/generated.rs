@@ -34,8 +34,24 @@ fn the_checker_takes_our_lists() {
 fn the_two_searches_agree() {
     for index in 0..1500 {
         let Ok(accepted) = read(&case(SEED, index).input) else { continue };
-        for sheet in accepted.sheets.iter().filter(|sheet| sheet.gates.iter().all(|gate| gate.fanins.len() < 9)) {
+        let sheets = accepted.sheets.iter().chain(accepted.joined.iter().map(|joined| &joined.sheet));
+        for sheet in sheets.filter(|sheet| sheet.gates.iter().all(|gate| gate.fanins.len() < 9)) {
             assert_eq!(least(sheet, accepted.k), least_by_width(sheet, accepted.k), "case {index}");
         }
     }
+}
+
+/// A drawn gate is a splitting of the one that it is joined to, so joining never costs a table.
+#[test]
+fn joining_saves_tables() {
+    let mut fewer = 0;
+    for index in 0..3000 {
+        let Ok(accepted) = read(&case(SEED, index).input) else { continue };
+        for (sheet, &joined) in accepted.sheets.iter().zip(&accepted.least) {
+            let drawn = least(sheet, accepted.k);
+            assert!(joined <= drawn, "case {index}");
+            fewer += usize::from(joined < drawn);
+        }
+    }
+    assert!(fewer > 50, "{fewer}");
 }

@@ -1,4 +1,4 @@
-//! 01's example and its panels worked by hand.
+//! 01's example and its panels worked by hand, with what 02's requests changed.
 
 mod common;
 
@@ -104,12 +104,13 @@ fn or_of_five_ands() {
     assert_eq!(tables(4, &sheet), 4);
 }
 
+/// From request 104 on the three ANDs are joined: two tables. The three ORs stay at three.
 #[test]
 fn and_of_three_gates() {
-    for kind in [1, 2] {
+    for (kind, least) in [(1, 2), (2, 3)] {
         let three = [gate(kind, &[1, 2, 3]), gate(kind, &[4, 5, 6]), gate(kind, &[7, 8, 9])].concat();
         let sheet = line(&[99, 4]) + &three + &gate(1, &[10001, 10002, 10003]);
-        assert_eq!(tables(5, &sheet), 3);
+        assert_eq!(tables(5, &sheet), least);
     }
 }
 

@@ -1,10 +1,15 @@
-//! 01's "Ways a mapper goes wrong": what each such mapper prints is turned down.
+//! 01's "Ways a mapper goes wrong", and mappers that join wrongly (request 104): what each such mapper prints is turned down.
 
 mod common;
 
+use common::nested::{self, Rule, RIGHT};
 use common::{gate, input, line, text};
-use outside::check::check_output;
+use outside::check::{check_list, check_output};
+use outside::cover;
+use outside::generate::case;
 use outside::part::{Part, Table};
+use outside::program::read;
+use outside::sheet::Sheet;
 
 /// 01's example: 20 = AND(OR(1, 2), OR(3, 4)), and 21 = NOT AND(20, NOT 5).
 const EXAMPLE: &[&[i64]] = &[&[4, 8], &[20, 3], &[2, 2, 1, 2], &[2, 2, 3, 4], &[1, 2, 10001, 10002], &[-21, 1], &[1, 2, 20, -5]];
@@ -123,15 +128,98 @@ fn inverted_twice() {
     assert!(check_output(input.as_bytes(), list(2, 8, &inverted).as_bytes()).is_err());
 }
 
-/// Right values and the right number of tables, but gates of one kind that follow each other are joined.
+/// The sheet's list is the one of these tables, and not the one of those.
+fn right_and_wrong(k: i64, sheet: &str, right: &[Table], wrong: &[Table]) {
+    let input = input(k, 8, sheet);
+    assert_eq!(check_output(input.as_bytes(), list(k as usize, 8, right).as_bytes()), Ok(()));
+    assert!(check_output(input.as_bytes(), list(k as usize, 8, wrong).as_bytes()).is_err());
+}
+
+/// Three tables where two are enough for the joined gate; and where the number is the same, the lower gate's value as drawn and not turned
+/// over.
 #[test]
-fn gates_joined() {
+fn nothing_joined() {
     let ands = [gate(1, &[1, 2, 3]), gate(1, &[4, 5, 6]), gate(1, &[7, 8, 9])].concat();
-    let input = input(5, 8, &(line(&[99, 4]) + &ands + &gate(1, &[10001, 10002, 10003])));
+    let sheet = line(&[99, 4]) + &ands + &gate(1, &[10001, 10002, 10003]);
     let two = [table(0, &[1, 2, 3, 4, 5], 1 << 31), table(99, &[6, 7, 8, 9, 10001], 1 << 31)];
-    let across = [table(0, &[1, 4], 8), table(0, &[2, 3, 5, 6, 10001], 1 << 31), table(99, &[7, 8, 9, 10002], 1 << 15)];
     let drawn = [table(0, &[1, 2, 3], 1 << 7), table(0, &[4, 5, 6], 1 << 7), table(99, &[7, 8, 9, 10001, 10002], 1 << 31)];
-    assert!(check_output(input.as_bytes(), list(5, 8, &two).as_bytes()).is_err());
-    assert!(check_output(input.as_bytes(), list(5, 8, &across).as_bytes()).is_err());
-    assert_eq!(check_output(input.as_bytes(), list(5, 8, &drawn).as_bytes()), Ok(()));
+    right_and_wrong(5, &sheet, &two, &drawn);
+    let sheet = line(&[99, 2]) + &gate(1, &[1, 2]) + &gate(2, &[-10001, 3]);
+    let joined = [table(0, &[1, 2], 7), table(99, &[3, 10001], 14)];
+    let drawn = [table(0, &[1, 2], 8), table(99, &[3, 10001], 11)];
+    right_and_wrong(2, &sheet, &joined, &drawn);
+}
+
+/// Eight fanins and two more are one gate, any six of whose leaves may be a table. Nine and two more are two gates.
+#[test]
+fn joined_up_to_eleven() {
+    let and = |inputs: &[u16], net| table(net, inputs, 1 << ((1 << inputs.len()) - 1));
+    let ten = line(&[99, 2]) + &gate(1, &[1, 2, 3, 4, 5, 6, 7, 8]) + &gate(1, &[10001, 9, 10]);
+    let across = [and(&[1, 2, 3, 4, 5, 9], 0), and(&[6, 7, 8, 10, 10001], 99)];
+    right_and_wrong(6, &ten, &across, &[]);
+    let eleven = line(&[99, 2]) + &gate(1, &[1, 2, 3, 4, 5, 6, 7, 8, 9]) + &gate(1, &[10001, 10, 11]);
+    let drawn = [and(&[1, 2, 3, 4, 5, 6], 0), and(&[7, 8, 9, 10, 11, 10001], 99)];
+    let across = [and(&[1, 2, 3, 4, 5, 10], 0), and(&[6, 7, 8, 9, 11, 10001], 99)];
+    right_and_wrong(6, &eleven, &drawn, &across);
+}
+
+/// NOT (1 AND 2) AND 3 is neither NOT 1 AND NOT 2 AND 3 nor 1 AND 2 AND 3.
+#[test]
+fn an_inverted_edge_of_one_kind_joined() {
+    let sheet = line(&[99, 2]) + &gate(1, &[1, 2]) + &gate(1, &[-10001, 3]);
+    right_and_wrong(2, &sheet, &[table(0, &[1, 2], 8), table(99, &[3, 10001], 2)], &[table(0, &[1, 2], 1), table(99, &[3, 10001], 8)]);
+    for wrong in [1 << 4, 1 << 7] {
+        right_and_wrong(3, &sheet, &[table(99, &[1, 2, 3], 112)], &[table(99, &[1, 2, 3], wrong)]);
+    }
+}
+
+/// NOT (1 AND 2) OR 3 is NOT 1 OR NOT 2 OR 3, 0 in row 3 alone, and not 1 OR 2 OR 3.
+#[test]
+fn fanins_not_turned_over() {
+    let sheet = line(&[99, 2]) + &gate(1, &[1, 2]) + &gate(2, &[-10001, 3]);
+    right_and_wrong(3, &sheet, &[table(99, &[1, 2, 3], 247)], &[table(99, &[1, 2, 3], 254)]);
+}
+
+#[test]
+fn the_output_inversion_lost() {
+    let sheet = line(&[-99, 2]) + &gate(1, &[1, 2]) + &gate(1, &[10001, 3]);
+    right_and_wrong(3, &sheet, &[table(99, &[1, 2, 3], 127)], &[table(99, &[1, 2, 3], 128)]);
+}
+
+/// How many of the lists are turned down that a mapper makes of generated inputs which are accepted; `joined` is what it covers of a sheet.
+fn turned_down(joined: impl Fn(&Sheet) -> Sheet) -> usize {
+    let wrong = |index: &u64| {
+        let input = case(4, *index).input;
+        let Ok(accepted) = read(&input) else { return false };
+        let mut tables = Vec::new();
+        for sheet in &accepted.sheets {
+            cover::add(&joined(sheet), accepted.k, &mut tables);
+        }
+        check_list(&input, list(accepted.k, accepted.capacity, &tables).as_bytes()).is_err()
+    };
+    (0..2000).filter(wrong).count()
+}
+
+fn turned_down_by(rule: &Rule) -> usize {
+    turned_down(|sheet| nested::sheet(rule.join(nested::tree(sheet)), sheet))
+}
+
+/// The generated inputs find each of these mappers out.
+#[test]
+fn wrong_joins_of_generated_inputs() {
+    assert_eq!(turned_down_by(&RIGHT), 0);
+    let wrong = [
+        Rule { most: 0, ..RIGHT },
+        Rule { most: 9, ..RIGHT },
+        Rule { most: 11, ..RIGHT },
+        Rule { chained: |upper, lower, inverted| upper == lower || inverted, ..RIGHT },
+        Rule { chained: |upper, lower, inverted| upper == lower && !inverted, ..RIGHT },
+        Rule { turned: false, ..RIGHT },
+    ];
+    let mut counts: Vec<usize> = wrong.iter().map(turned_down_by).collect();
+    counts.push(turned_down(|sheet| {
+        let joined = nested::sheet(RIGHT.join(nested::tree(sheet)), sheet);
+        Sheet { inverted: sheet.inverted && joined.gates.len() == sheet.gates.len(), ..joined }
+    }));
+    assert!(counts.iter().all(|&count| count >= 20), "{counts:?}");
 }

@@ -1,8 +1,9 @@
 """The expected output of the program part_test: the user's scope paper (01), sections "Part", "List" and the tables of refusals, with the
-nets and codes of request 102 and the levels of request 103, written down once more from the papers alone, with nothing shared with
-crates/. CASES.md has the answers worked out by hand.
+nets and codes of request 102, the levels of request 103 and the joins of request 104, written down once more from the papers alone, with
+nothing shared with crates/. CASES.md has the answers worked out by hand.
 
-An add reads its sheet by tests/sheet/model.py, and has its least number of tables from tests/cover/exhaustive.py.
+An add reads its sheet by tests/sheet/model.py, joins its gates by tests/cover/join.py, and has its least number of tables from
+tests/cover/exhaustive.py and their groups, where 01 settles them, from tests/cover/settled.py.
 
 Run: python3 tests/part/model.py < crates/part_test/stdin > crates/part_test/stdout
      python3 tests/part/model.py --answers < crates/part_test/stdin    (line and answer of each step that CASES.md has)
@@ -10,6 +11,7 @@ Run: python3 tests/part/model.py < crates/part_test/stdin > crates/part_test/std
 """
 
 import importlib.util
+import itertools
 import pathlib
 import sys
 
@@ -28,6 +30,7 @@ def load(path):
 
 
 SHEET, COVER = load("sheet/model.py"), load("cover/exhaustive.py")
+JOIN, SETTLED = load("cover/join.py"), load("cover/settled.py")
 CODES = 10000  # gate g is CODES + g in a fanin, table t CODES + t in a table's input (request 102)
 
 
@@ -168,50 +171,84 @@ def least(k, gates):
     return min(COVER.decode(keys[-1]))[0] + 1
 
 
-def chosen_gates(k, gates):
-    """The gates of a least cover, where 01 leaves no freedom: the root alone, or of two-fanin gates all at K 2, and in a chain, of which a
-    table holds at most K - 1, each (K - 1)th where none is left over. At K 2 01 leaves the order of branches open: here the sheet's."""
-    count = least(k, gates)
-    if count == 1:
-        return [len(gates)]
-    assert all(fanin_count == 2 for _, fanin_count, *_ in gates), "a sheet whose tables 01 leaves open"
-    chain = all(any(map(is_net, map(abs, fanins))) for _, _, *fanins in gates)
-    assert (chain or k == 2) and count * (k - 1) == len(gates), "a sheet whose tables 01 leaves open"
-    return list(range(k - 1, len(gates) + 1, k - 1))
+class Mapped:
+    """A sheet's joined tree with its cover, where 01 leaves no freedom but the order of branches, which is here the sheet's. Its tables
+    stand in the part after the used ones."""
+
+    def __init__(self, k, used, gates):
+        self.gates = gates
+        self.cover = SETTLED.settled(k, gates, least(k, gates))
+        self.codes = {group: CODES + used + t for t, group in enumerate(self.cover, 1)}
+
+    def operands(self, group):
+        """What stands in a group: groups of its gate that are tables, and its other fanins, each with its inversion."""
+        gate, places = group
+        tables = SETTLED.outermost([other for of, other in self.cover if of == gate and other < places])
+        yield from (((gate, table), False) for table in tables)
+        for place in places.difference(*tables):
+            fanin = self.gates[gate][2 + place]
+            lower = abs(fanin) - SHEET.FIRST_GATE
+            yield abs(fanin) if is_net(abs(fanin)) else (lower, frozenset(range(self.gates[lower][1]))), fanin < 0
+
+    def code(self, operand):
+        """What a table reads for an operand: a net, or a table; None for a group that it holds."""
+        return self.codes.get(operand, None if isinstance(operand, tuple) else operand)
+
+    def inputs(self, group):
+        for operand, _ in self.operands(group):
+            yield from [self.code(operand)] if self.code(operand) else self.inputs(operand)
+
+    def value(self, group, given):
+        values = []
+        for operand, inverted in self.operands(group):
+            code = self.code(operand)
+            values.append((given[code] if code else self.value(operand, given)) != inverted)
+        return all(values) if self.gates[group[0]][0] == AND else any(values)
 
 
 def tables(k, used, lines):
     """The records of a sheet that was read, without levels, for a part with some tables already. The list of a record's inputs is padded
     with zeros."""
     (out, _), *gates = lines
-    number = {gate: used + t for t, gate in enumerate(chosen_gates(k, gates), 1)}
-
-    def input_of(code):
-        """What a table reads for a fanin: a net, or a table that is another's; None for a gate that it holds."""
-        code = abs(code)
-        if is_net(code):
-            return code
-        return CODES + number[code - CODES] if code - CODES in number else None
-
-    def inputs(gate):
-        _, _, *fanins = gates[gate - 1]
-        return [code for fanin in fanins for code in ([input_of(fanin)] if input_of(fanin) else inputs(abs(fanin) - CODES))]
-
-    def value(gate, given):
-        kind, _, *fanins = gates[gate - 1]
-        values = [(given[input_of(f)] if input_of(f) else value(abs(f) - CODES, given)) != (f < 0) for f in fanins]
-        return all(values) if kind == AND else any(values)
-
+    mapped = Mapped(k, used, JOIN.joined(gates))
     records = []
-    for gate in number:
-        codes = sorted(inputs(gate))
-        root = gate == len(gates)
+    for group in mapped.cover:
+        codes = sorted(mapped.inputs(group))
+        root = group == mapped.cover[-1]
         truth = 0
         for i in range(2 ** len(codes)):
             given = {code: bool(i >> j & 1) for j, code in enumerate(codes)}
-            truth += (value(gate, given) != (root and out < 0)) << i
+            truth += (mapped.value(group, given) != (root and out < 0)) << i
         records.append(Record(abs(out) if root else 0, len(codes), (codes + [0] * 6)[:6], truth))
+    assert values_as_drawn(lines, records, used)
     return records
+
+
+def drawn_value(lines, given):
+    """The value of a sheet's output net, given those of its leaves."""
+    (out, _), *gates = lines
+    values = dict(given)
+    for gate, (kind, _, *fanins) in enumerate(gates, SHEET.FIRST_GATE):
+        read = [values[abs(fanin)] != (fanin < 0) for fanin in fanins]
+        values[gate] = all(read) if kind == AND else any(read)
+    return values[gate] != (out < 0)
+
+
+def mapped_value(records, used, given):
+    """What the last of some tables gives, which stand after the used ones."""
+    values = dict(given)
+    for code, record in enumerate(records, CODES + used + 1):
+        row = sum(values[read] << j for j, read in enumerate(record.inputs[: record.u]))
+        values[code] = bool(record.truth >> row & 1)
+    return values[code]
+
+
+def values_as_drawn(lines, records, used):
+    """ "Values are still those of the sheet as drawn": tried at every setting of the leaves, where these are twelve at most."""
+    leaves = [abs(fanin) for _, _, *fanins in lines[1:] for fanin in fanins if is_net(abs(fanin))]
+    settings = itertools.product([False, True], repeat=len(leaves)) if len(leaves) <= 12 else []
+    given = (dict(zip(leaves, setting)) for setting in settings)
+    return all(drawn_value(lines, values) == mapped_value(records, used, values) for values in given)
 
 
 def add(part, text):
@@ -229,7 +266,7 @@ def add(part, text):
         return -21, 0
     if any(abs(out) in table.inputs[: table.u] for table in in_use):
         return -22, 0
-    if least(part.k, gates) > part.capacity - part.used:
+    if least(part.k, JOIN.joined(gates)) > part.capacity - part.used:
         return -23, 0
     for record in tables(part.k, part.used, lines):
         part.records[part.used] = record

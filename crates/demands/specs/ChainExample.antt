@@ -44,7 +44,7 @@ first-text = bytes "    20     3\n     2     2     1     2\n     2     2     3  
 abbrev second-text : List ℕ
 second-text = bytes "   -21     1\n     1     2    20    -5\n"
 
--- the texts read as the sheets
+-- the texts read as the sheets: no gates of theirs are chained
 first-read : readOf first-text ≡ passed first
 unfolding readOf _>>=_ require given
 first-read = refl

@@ -9,6 +9,7 @@ use lib.ListN.{length, length-take}
 use Rattle.lists.specs.Trusted.Lists.{_∈_, first, later, Every}
 use Rattle.lists.specs.ListLaws.{every-none, every-cons, every-append}
 use Rattle.tree.specs.Trusted.Limits.{codeBase}
+use Rattle.tree.specs.Trusted.Tree.{turned}
 use Rattle.lists.specs.Trusted.Checked.{passed}
 use Rattle.cover.specs.Trusted.Tables.{LookupTable}
 use Rattle.cover.specs.Trusted.CoverTables.{Circuit}
@@ -16,15 +17,17 @@ use Rattle.cover.specs.History.{History, start, Met}
 use Rattle.cover.specs.HistoryLaws.{history-met}
 use Rattle.sheet.specs.Trusted.Sheet.{DrawnSheet}
 use Rattle.sheet.specs.Trusted.Read.{readSheet}
-use Rattle.sheet.specs.Trusted.Trees.{drawn}
+use Rattle.sheet.specs.Trusted.Trees.{treeOf}
 use Rattle.sheet.specs.ValueLaws.{sheet-value}
+use Rattle.joined.specs.Trusted.Covered.{covered}
+use Rattle.joined.specs.JoinedLaws.{joined-value}
 use Rattle.table.specs.Trusted.Records.{tableOf}
 use Rattle.part.specs.Trusted.Parts.{inUse, tablesOf, Shaped}
 use Rattle.part.specs.Trusted.Sound.{Sound}
 use Rattle.part.specs.Trusted.Reading.{readOf}
 use Rattle.part.specs.Trusted.Answers.{Answer, accepted, refused, Result}
 use Rattle.part.specs.Trusted.Add.{opened, Refused}
-use Rattle.demands.specs.ReadingLaws.{drawn-back, reads-right}
+use Rattle.demands.specs.ReadingLaws.{covered-back, reads-right}
 use Rattle.part.specs.ExtendedLaws.{extended-tables}
 use Rattle.demands.specs.ExtendLaws.{every-map}
 use Rattle.part.specs.OpenLaws.{opened-shaped, opened-empty}
@@ -157,15 +160,17 @@ module _ (p : Part) (shape : Shaped p) (history : History codeBase (p .k) (table
       read = d .1;
       tables = t .2 .tables;
       stay = link-grows l chain shape;
-      value = λ σ. subst (Met (valuesIn (final p rs) σ)) (sym (d .2)) (met σ) ∙ sym (sheet-value (valuesIn (final p rs) σ) (d .0));
+      value = λ σ.
+          let v = valuesIn (final p rs) σ in
+          subst (Met v) (sym (d .2)) (met σ) ∙ ap (turned (d .0 .inverted)) (joined-value v (treeOf (d .0))) ∙ sym (sheet-value v (d .0));
     },
   )
     where
       t : (s : Circuit) × (new : List LookupTable) × Taken (p .k) o text (r .part) s new
       t = (counted p shape cs rs chain) .each ss o (add text) r l .2 .taken e
 
-      d : (d : DrawnSheet) × (readSheet text ≡ passed d) × (drawn d ≡ t .0)
-      d = drawn-back text (t .0) (t .2 .read)
+      d : (d : DrawnSheet) × (readSheet text ≡ passed d) × (covered d ≡ t .0)
+      d = covered-back text (t .0) (t .2 .read)
 
       g : Goes (p .k) (final p rs) [] (acceptedIn cs rs)
       g = chain-goes chain shape [] history

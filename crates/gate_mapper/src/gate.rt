@@ -1,8 +1,9 @@
 // Mapping a gate of any number of fanins.
 ghost use mathlib.Core.Path.{_≡_};
 ghost use Prim.Native.Nat.{_<_};
-ghost use Rattle.mapper_laws.specs.CodeMap.{Begun, withFanin, Mappable, GateMapped, FaninsCounted, Reaches, Gathers};
+ghost use Rattle.mapper_laws.specs.CodeMap.{Begun, withFanin, Mappable, GateMapped, Reaches, Gathers};
 use crate::fanin::leaf;
+use gate_fanins::fanin_count;
 use gate_run::follow;
 use gate_run::operand;
 use mapper_laws::Held;
@@ -51,19 +52,6 @@ fn with_fanin(operands: Operands, inverted: bool, held: Held) -> Operands
     };
     o.count = count + 1;
     o
-}
-
-// How many fanins a gate has: those that its sheet has room for.
-pub fn fanin_count(gate: Gate) -> usize
-    ensures { λ r. ⌜ FaninsCounted gate r ⌝ }
-{
-    let first = gate.first as usize;
-    if FANIN_ROOM < first {
-        return 0;
-    }
-    let room = FANIN_ROOM - first;
-    let count = gate.count as usize;
-    if count <= room { count } else { room }
 }
 
 // The fanins of a gate, among its sheet's, where `held` has the gates before it.

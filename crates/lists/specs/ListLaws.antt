@@ -172,3 +172,8 @@ pub getD-any : {A : Type 0} (xs : List A) (i : ℕ) (y z : A) → i < length xs 
 getD-any [] i y z h = absurd (omega arith)
 getD-any (x ∷ xs) zero y z h = refl
 getD-any (x ∷ xs) (suc i) y z h = getD-any xs i y z (omega arith)
+
+pub map-at : {A B : Type 0} (f : A → B) (xs : List A) (i : ℕ) (x : A) (y : B) → i < length xs → getD (map f xs) i y ≡ f (getD xs i x)
+map-at f [] i x y l = absurd (omega arith)
+map-at f (a ∷ xs) zero x y l = refl
+map-at f (a ∷ xs) (suc i) x y l = map-at f xs i x y (omega arith)

@@ -18,10 +18,10 @@ use Rattle.cover.specs.Trusted.CoverTables.{LeastCoverTables}
 use Rattle.sheet.specs.declared.Edge.{Edge}
 use Rattle.sheet.specs.declared.Gate.{Gate}
 use Rattle.sheet.specs.declared.Sheet.{Sheet}
-use Rattle.sheet.specs.Trusted.Limits.{mostGates, faninRoom}
+use Rattle.sheet.specs.Trusted.Limits.{mostGates}
 use Rattle.sheet.specs.Trusted.Sheet.{DrawnGate, faninGates}
 use Rattle.sheet.specs.Trusted.Answers.{drawnGate, drawnSheet}
-use Rattle.sheet.specs.Trusted.Trees.{drawn}
+use Rattle.sheet.specs.Drawn.{drawn}
 use Rattle.sheet.specs.Trusted.Formed.{WellFormed}
 use Rattle.pending.specs.declared.Lut.{Lut}
 use Rattle.table.specs.Trusted.Limits.{inputRoom, tableRoom}
@@ -95,10 +95,6 @@ noHeld = record { below = 0; table = noTable }
 abbrev pub HeldAll : List GatesMapped → List Held → Type 0
 HeldAll done hs = (j : ℕ) → j < length done → HeldIs (getD hs j noHeld) (getD done j unmapped)
 
--- it has so many fanins among those of its sheet, whatever they are
-abbrev pub FaninsCounted : Gate → ℕ → Type 0
-FaninsCounted x n = (fs : List Edge) → length fs ≡ faninRoom → n ≡ length (drawnGate fs x .fanins)
-
 -- it has at most ten, and the gates that they read are in the array
 pub record Reaches (fs : List Edge) (x : Gate) : Type 0 where
   pub few : length (drawnGate fs x .fanins) ≤ mostFanins
@@ -143,7 +139,7 @@ pub record Staging (m : Mapping) (s : PlanRun) (i : ℕ) (r : Mapping) : Type 0 
 
 -- ---- a sheet
 
--- what is mapped: a sheet that was read, and tables of K inputs after so many
+-- what is mapped: a well formed sheet, to tables of K inputs after so many
 pub record Sheetable (K used : ℕ) (s : Sheet) : Type 0 where
   pub table : (2 ≤ K) × (K ≤ inputRoom)
   pub before : used ≤ tableRoom

@@ -1,17 +1,17 @@
 -- The code's mapping of a sheet follows the mapping on lists.
-use Prim.Native.Nat.{ℕ, zero, suc, _+_, _-_, _<_, _≤_}
+use Prim.Native.Nat.{ℕ, suc, _+_, _-_, _<_, _≤_}
 use native.Mathlib.Nat.{add-zero}
 use native.Mathlib.Numerals.{add-one}
 use native.Mathlib.Omega.{arith}
 use mathlib.Core.Path.{_≡_, refl, sym, ap, ap₂, _∙_, subst}
 use mathlib.Core.Bool.{false}
 use mathlib.Core.List.{List, [], _∷_, _++_, append-assoc, append-nil, map}
-use lib.ListN.{length, getD, set, take, drop, length-set, length-take}
-use lib.Seq.{getD-take, getD-drop, length-take-le, take-suc, take-suc-set, getD-set-same, getD-set-other}
+use lib.ListN.{length, getD, set, take, length-set}
+use lib.Seq.{getD-take, length-take-le, take-suc, take-suc-set, getD-set-same, getD-set-other}
 use Rattle.lists.specs.Trusted.Lists.{Every}
 use Rattle.lists.specs.Sequences.{Sorted}
 use Rattle.lists.specs.Cases.{by-eqb}
-use Rattle.lists.specs.ListLaws.{every-none, every-head, every-left, every-right}
+use Rattle.lists.specs.ListLaws.{every-none, map-at}
 use Rattle.lists.specs.NumberLaws.{sorted-sorted}
 use Rattle.tree.specs.declared.Kind.{Kind}
 use Rattle.tree.specs.Trusted.Limits.{codeBase}
@@ -33,7 +33,8 @@ use Rattle.sheet.specs.declared.Edge.{Edge}
 use Rattle.sheet.specs.declared.Gate.{Gate as SheetGate}
 use Rattle.sheet.specs.Trusted.Limits.{mostGates}
 use Rattle.sheet.specs.Trusted.Answers.{drawnGate}
-use Rattle.sheet.specs.Trusted.Sheet.{gateOf, faninGates}
+use Rattle.sheet.specs.Trusted.Sheet.{faninGates}
+use Rattle.sheet.specs.PlaceLaws.{noEdge, edge-drawn, every-source}
 use Rattle.mapper_laws.specs.declared.PlanRun.{PlanRun}
 use Rattle.mapper_laws.specs.declared.Operands.{Operands}
 use Rattle.mapper_laws.specs.declared.Held.{Held}
@@ -42,7 +43,7 @@ use Rattle.pending.specs.Operands.{single}
 use Rattle.pending.specs.declared.Pending.{Pending}
 use Rattle.pending.specs.Pendings.{operandOf, Neat}
 use Rattle.mapper_laws.specs.CodeRun.{noTable, noPending, operandAt, faninsOf, Runnable, Ran}
-use Rattle.mapper_laws.specs.CodeRunLaws.{map-at, kept-count, fanin-count, record-neat, stored-all}
+use Rattle.mapper_laws.specs.CodeRunLaws.{kept-count, fanin-count, record-neat, stored-all}
 use Rattle.mapper_laws.specs.SafeLaws.{safe-planned}
 use Rattle.mapper_laws.specs.Mapping.{GatesMapped as MappedOnList, mappedAt, keyOf, heldTable, sourceTable}
 use Rattle.mapper_laws.specs.CodeMap.{leafOf, Begun, withFanin, keysIn, Mappable, GateMapped, noHeld, HeldAll, Reaches, Gathered, Gathering, mostTables, Staging, Staged}
@@ -188,24 +189,12 @@ gathering-start {o = o} b = record {
   };
 }
 
--- what an array gives past its end: no fanin
-abbrev pub noEdge : Edge
-noEdge = record { inverted = false; source = Net 0 }
-
--- what holds of each gate that is read holds of one
-every-source : {P : ℕ → Type 0} (fs : List Edge) (i g : ℕ) → Every P (faninGates fs) → i < length fs → getD fs i noEdge .source ≡ Gate g → P g
-every-source [] i g h l e = absurd (omega arith)
-every-source {P} (f ∷ fs) zero g h l e = every-head (subst (λ s. Every P (gateOf s)) e (every-left (gateOf (f .source)) (faninGates fs) h))
-every-source {P} (f ∷ fs) (suc i) g h l e = every-source {P = P} fs i g (every-right (gateOf (f .source)) (faninGates fs) h) (omega arith) e
-
 module _ (fs : List Edge) (x : SheetGate) (held : List Held) {i : ℕ} {o : Operands} (g : Gathering (drawnGate fs x .fanins) held i o) (l : i < length (drawnGate fs x .fanins)) (few : i < 10) where
   abbrev edge : Edge
   edge = getD fs (x .first + i) noEdge
 
   drawn-edge : getD (drawnGate fs x .fanins) i noEdge ≡ edge
-  drawn-edge =
-      getD-take (x .count) (drop (x .first) fs) i noEdge (omega (arith, l, length-take (x .count) (drop (x .first) fs)))
-      ∙ getD-drop (x .first) fs i noEdge
+  drawn-edge = edge-drawn fs x l
 
   next-count-room : o .count < 10
   next-count-room = omega (arith, g .count)

@@ -1,5 +1,5 @@
 -- A gate of two fanins, which the code maps without a search: the run of a plan of three steps. Internal definitions: the laws are in PairLaws.
-use Prim.Native.Nat.{ℕ, _+_, _-_}
+use Prim.Native.Nat.{ℕ, _+_}
 use mathlib.Core.Bool.{Bool, true, false}
 use mathlib.Core.List.{List, [], _∷_}
 use lib.ListN.{replicate}
@@ -21,11 +21,6 @@ use Rattle.mapper_laws.specs.CodeRun.{noTable, noPending, pushed, heldIf
 use Rattle.mapper_laws.specs.CodeMap.{leafOf, withFanin}
 
 -- ---- a fanin
-
--- the place of the gate that it reads
-abbrev pub placeIn : Source → ℕ
-placeIn (Net n) = 0
-placeIn (Gate g) = g - 1
 
 -- what it reads, where `h` stands at that place
 abbrev pub readAs : Source → Held → Held

@@ -9,7 +9,7 @@ use lib.ListN.{length, getD, set, take, drop, length-map, length-set, length-tak
 use lib.Seq.{drop-cons, getD-take, getD-set-same, getD-set-other, take-suc-set, length-take-le}
 use Rattle.lists.specs.Cases.{by-eqb}
 use Rattle.lists.specs.Sequences.{Sorted}
-use Rattle.lists.specs.ListLaws.{every-none, drop-past}
+use Rattle.lists.specs.ListLaws.{every-none, drop-past, map-at}
 use Rattle.lists.specs.NumberLaws.{sorted-sorted}
 use Rattle.tree.specs.declared.Kind.{Kind}
 use Rattle.tree.specs.Trusted.Limits.{codeBase}
@@ -280,11 +280,6 @@ fanin-count o g = length-map (take (o .count) (o .fanins)) operandOf ∙ length-
 pub stack-length : (d : ℕ) (ps : List Pending) → length (stackOf d ps) ≡ d
 stack-length zero ps = refl
 stack-length (suc d) ps = ap suc (stack-length d ps)
-
-pub map-at : {A B : Type 0} (f : A → B) (xs : List A) (i : ℕ) (x : A) (y : B) → i < length xs → getD (map f xs) i y ≡ f (getD xs i x)
-map-at f [] i x y l = absurd (omega arith)
-map-at f (a ∷ xs) zero x y l = refl
-map-at f (a ∷ xs) (suc i) x y l = map-at f xs i x y (omega arith)
 
 module _ (first : ℕ) (k : Kind) (o : Operands) (s : PlanRun) where
   push-fits : (i : ℕ) → Advances first k o (Push i) s → (i < 10) × (s .depth < 10)

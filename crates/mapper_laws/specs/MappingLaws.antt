@@ -33,7 +33,8 @@ use Rattle.sheet.specs.declared.Source.{Source}
 use Rattle.sheet.specs.declared.Source.the-variants.{Net, Gate}
 use Rattle.sheet.specs.declared.Edge.{Edge}
 use Rattle.sheet.specs.Trusted.Sheet.{DrawnGate, DrawnSheet, netOf, gateOf, faninNets, faninGates, leafNets, gatesRead}
-use Rattle.sheet.specs.Trusted.Trees.{nodeOf, edgesOf, treesOf, treeOf, drawn as drawnSheet}
+use Rattle.sheet.specs.Trusted.Trees.{nodeOf, edgesOf, treesOf, treeOf}
+use Rattle.sheet.specs.Drawn.{drawn as drawnSheet}
 use Rattle.sheet.specs.Trusted.Formed.{WellFormed}
 use Rattle.sheet.specs.TreeLaws.{without, from-end}
 use Rattle.cover.specs.Trusted.CoverTables.{LeastCoverTables}

@@ -40,8 +40,10 @@ use Rattle.pending.specs.Luts.{lutOf}
 use Rattle.mapper_laws.specs.CodeRun.{operandAt, heldIf, pushed, leftPlaced, joined, Joins, Holds, Following, Runnable, Ran}
 use Rattle.mapper_laws.specs.CodeRunLaws.{push-advanced, join-fits, join-advanced, following-start, following-advances, following-next, following-end}
 use Rattle.mapper_laws.specs.CodeMap.{withFanin, keysIn, Mappable, GateMapped, noHeld, Reaches, Gathering, Gathers, Staged}
-use Rattle.mapper_laws.specs.CodeMapLaws.{gate-runnable, gate-mapped, noEdge, gathering-start, gather-net, gather-gate, gate-reached}
-use Rattle.mapper_laws.specs.CodePair.{placeIn, readAs, pendingOf, keyIn, noOperands, pairOf, countIf, twoTables, noRun, pairTaken, jointOf, pairMapped, stagedOf}
+use Rattle.mapper_laws.specs.CodeMapLaws.{gate-runnable, gate-mapped, gathering-start, gather-net, gather-gate, gate-reached}
+use Rattle.sheet.specs.PlaceLaws.{noEdge}
+use Rattle.gate_fanins.specs.Fanins.{placeIn}
+use Rattle.mapper_laws.specs.CodePair.{readAs, pendingOf, keyIn, noOperands, pairOf, countIf, twoTables, noRun, pairTaken, jointOf, pairMapped, stagedOf}
 
 -- ---- two keys have one join
 

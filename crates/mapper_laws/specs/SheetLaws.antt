@@ -12,7 +12,6 @@ use Rattle.lists.specs.Trusted.Lists.{Every, Distinct, gather, sorted}
 use Rattle.lists.specs.Sequences.{upto}
 use Rattle.lists.specs.ListLaws.{every-none, every-cons, every-head, every-append, every-left, every-right, every-at, permuted-length, gather-append}
 use Rattle.lists.specs.NumberLaws.{sorted-permuted}
-use Rattle.tree.specs.declared.Kind.the-variants.{And}
 use Rattle.tree.specs.Trusted.Limits.{codeBase}
 use Rattle.plan.specs.Entries.{Small, FewLeaves}
 use Rattle.plan.specs.Reach.{LeastReach}
@@ -27,19 +26,20 @@ use Rattle.sheet.specs.declared.Source.the-variants.{Net, Gate}
 use Rattle.sheet.specs.declared.Edge.{Edge}
 use Rattle.sheet.specs.Trusted.Limits.{mostGates, mostLeaves}
 use Rattle.sheet.specs.Trusted.Sheet.{DrawnGate, DrawnSheet, gateOf, faninNets, faninGates, leafNets, gatesRead}
-use Rattle.sheet.specs.Trusted.Trees.{drawn}
+use Rattle.sheet.specs.Drawn.{drawn}
 use Rattle.sheet.specs.ByteLaws.{formed-tables}
 use Rattle.sheet.specs.declared.Sheet.{Sheet}
 use Rattle.sheet.specs.declared.Gate.{Gate as SheetGate}
 use Rattle.sheet.specs.Trusted.Answers.{drawnGate, drawnSheet}
-use Rattle.sheet.specs.Trusted.Formed.{Before, Earlier, WellFormed}
+use Rattle.sheet.specs.Trusted.Formed.{WellFormed}
 use Rattle.sheet.specs.ReadLaws.{gates-distinct}
+use Rattle.sheet.specs.PlaceLaws.{noGate, noSheetGate, earlier-at, gates-drawn, gate-drawn}
 use Rattle.pending.specs.declared.Lut.{Lut}
 use Rattle.table.specs.Trusted.Limits.{inputRoom, tableRoom}
 use Rattle.pending.specs.Luts.{lutTable, lutOf}
 use Rattle.pending.specs.LutLaws.{lut-back}
 use Rattle.table.specs.RuleLaws.{map-append}
-use Rattle.mapper_laws.specs.CodeRunLaws.{map-at, stack-length, placed-length}
+use Rattle.mapper_laws.specs.CodeRunLaws.{stack-length, placed-length}
 use Rattle.mapper_laws.specs.declared.Operands.{Operands}
 use Rattle.mapper_laws.specs.declared.Held.{Held}
 use Rattle.mapper_laws.specs.declared.MappedGate.{MappedGate}
@@ -54,14 +54,6 @@ use Rattle.pending.specs.Merging.{Tabled}
 use Rattle.pending.specs.MergeLaws.{tabled-record, tabled-inverted}
 
 -- ---- a gate of a well-formed sheet
-
-abbrev pub noGate : DrawnGate
-noGate = record { kind = And; fanins = [] }
-
-earlier-at : (n : ℕ) (gs : List DrawnGate) (i : ℕ) (z : DrawnGate) → Earlier n gs → i < length gs → Every (Before (n + i)) (faninGates (getD gs i z .fanins))
-earlier-at n [] i z e l = absurd (omega arith)
-earlier-at n (x ∷ gs) zero z e l = λ j m. let b = e .0 j m in (b .0, omega arith)
-earlier-at n (x ∷ gs) (suc i) z e l = λ j m. let b = earlier-at (suc n) gs i z (e .1) (omega arith) j m in (b .0, omega arith)
 
 gather-at : {A B : Type 0} {P : B → Type 0} (f : A → List B) (xs : List A) (i : ℕ) (z : A) → Every P (gather f xs) → i < length xs → Every P (f (getD xs i z))
 gather-at f [] i z h l = absurd (omega arith)
@@ -341,13 +333,9 @@ module _ {K used : ℕ} {s : DrawnSheet} {g : ℕ} {held : List Held} {m : Mappi
 
 -- ---- for the code's sheet
 
--- what an array gives past its end: no gate
-abbrev pub noSheetGate : SheetGate
-noSheetGate = record { kind = And; count = 0; first = 0 }
-
 module _ {K used : ℕ} (c : Sheet) (p : Sheetable K used c) (room : length (c .gates) ≡ mostGates) (most : c .count ≤ mostGates) where
   drawn-count : length (drawnSheet c .gates) ≡ c .count
-  drawn-count = length-map (take (c .count) (c .gates)) (drawnGate (c .fanins)) ∙ length-take-le (c .count) (c .gates) (omega (arith, room))
+  drawn-count = gates-drawn (c .fanins) (c .gates) (omega (arith, room))
 
   pub some-gates : 1 ≤ c .count
   some-gates = omega (arith, drawn-count, p .formed .gate-count .0)
@@ -361,9 +349,7 @@ module _ {K used : ℕ} (c : Sheet) (p : Sheetable K used c) (room : length (c .
       inside = omega (arith, drawn-count)
 
       here-drawn : getD (drawnSheet c .gates) g noGate ≡ drawnGate (c .fanins) here
-      here-drawn =
-          map-at (drawnGate (c .fanins)) (take (c .count) (c .gates)) g noSheetGate noGate (omega (arith, length-take-le (c .count) (c .gates) (omega (arith, room))))
-          ∙ ap (drawnGate (c .fanins)) (getD-take (c .count) (c .gates) g noSheetGate l)
+      here-drawn = gate-drawn (c .fanins) (c .gates) (omega (arith, room)) l
 
       here-facts : Facts (drawnSheet c) g (drawnGate (c .fanins) here)
       here-facts = subst (λ x. Facts (drawnSheet c) g x) here-drawn (facts (drawnSheet c) (p .formed) g noGate inside)

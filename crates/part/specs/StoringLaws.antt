@@ -27,10 +27,10 @@ use Rattle.sheet.specs.declared.ReadResult.{ReadResult as CodeReading}
 use Rattle.sheet.specs.Trusted.Read.{readSheet}
 use Rattle.sheet.specs.Trusted.Answers.{drawnSheet, answered}
 use Rattle.sheet.specs.Trusted.Promise.{SheetRead}
-use Rattle.sheet.specs.Trusted.Trees.{drawn}
+use Rattle.joined.specs.Trusted.Covered.{covered}
 use Rattle.table.specs.declared.Table.{Table}
 use Rattle.table.specs.Trusted.Limits.{tableRoom}
-use Rattle.table.specs.Trusted.Records.{reads, tableOf, recordOf}
+use Rattle.table.specs.Trusted.Records.{reads, tableOf, recordOf, blank}
 use Rattle.table.specs.RecordLaws.{after-length, after-at}
 use Rattle.table.specs.Trusted.Rules.{Padded}
 use Rattle.table.specs.LevelTest.{levelIn, noted, LevelsStand}
@@ -50,7 +50,7 @@ use Rattle.part.specs.Trusted.Answers.{Answer, accepted, refused}
 use Rattle.part.specs.Trusted.Add.{extended, isDriven, isRead, Offer, Add}
 use Rattle.part.specs.Trusted.AddAnswers.{addingAnswer}
 use Rattle.part.specs.ExtendedLaws.{extended-tables}
-use Rattle.part.specs.Storing.{circuitOf, newTables, newRecords, stored}
+use Rattle.part.specs.Storing.{circuitOf, JoinedMapped, newTables, newRecords, stored}
 use Rattle.part.specs.declared.Part.{Part}
 use Rattle.part.specs.declared.Adding.{Adding}
 use Rattle.part.specs.declared.Added.{Added}
@@ -103,11 +103,10 @@ module _ (p : Part) (s : Circuit) where
 
 -- ---- 23, and the mapping's records stored
 
--- what stands past the last record
-abbrev past : Table
-past = record { net = 0; count = 0; inputs = []; truth = 0; level = 0 }
+module _ (p : Part) (shape : Shaped p) (h : Sound p) (s : CodeSheet) (m : Mapping) (j : JoinedMapped (p .k) (p .used) s m) where
+  abbrev g : SheetMapped (p .k) (p .used) (j .sheet) m
+  g = j .mapped
 
-module _ (p : Part) (shape : Shaped p) (h : Sound p) (s : CodeSheet) (m : Mapping) (g : SheetMapped (p .k) (p .used) s m) where
   abbrev new : List LookupTable
   new = newTables m
 
@@ -124,13 +123,13 @@ module _ (p : Part) (shape : Shaped p) (h : Sound p) (s : CodeSheet) (m : Mappin
   old-count = length-map (inUse p) tableOf ∙ used-count p shape h
 
   new-least : LeastCoverTables codeBase (p .k) (tablesOf p) new (circuitOf s)
-  new-least = g .least (tablesOf p) old-count
+  new-least = subst (LeastCoverTables codeBase (p .k) (tablesOf p) new) (j .covers) (g .least (tablesOf p) old-count)
 
   -- a new table drives no net or the sheet's
   new-nets : s .out ≤ greatestNet → Every (λ t. t .drives ≤ greatestNet) new
   new-nets o =
       every-numbered (λ t. t .drives ≤ greatestNet) (length (tablesOf p)) new
-      (λ q j. ⊎-elim (λ z. omega (arith, z)) (λ d. omega (arith, d .0, o)) (added-tidy codeBase (p .k) (tablesOf p) new (circuitOf s) (new-least .added) q j .0))
+      (λ q i. ⊎-elim (λ z. omega (arith, z)) (λ d. omega (arith, d .0, o)) (added-tidy codeBase (p .k) (tablesOf p) new (circuitOf s) (new-least .added) q i .0))
 
   -- ONE MORE RECORD is stored: the levels of the codes before it give its level
   module _ (levels : List ℕ) (n : ℕ) (l : n < m .count) (st : LevelsStand levels (tablesOf p ++ take n new)) where
@@ -146,12 +145,12 @@ module _ (p : Part) (shape : Shaped p) (h : Sound p) (s : CodeSheet) (m : Mappin
     level-is : level ≡ tableLevel (lutTable lut) (codeLevels codeBase (tablesOf p ++ take n new))
     level-is = level-stands levels (tablesOf p ++ take n new) st (lutTable lut)
 
-    pub store-record : record { net = lut .net; count = lut .count; inputs = lut .inputs; truth = lut .truth; level = level } ≡ getD (newRecords p m) n past
+    pub store-record : record { net = lut .net; count = lut .count; inputs = lut .inputs; truth = lut .truth; level = level } ≡ getD (newRecords p m) n blank
     store-record =
         ap (λ q. record { net = q .net; count = q .count; inputs = q .inputs; truth = q .truth; level = level }) (g .kept n l .padded)
         ∙ ap (λ x. recordOf x (lutTable lut)) level-is
         ∙ ap (λ t. recordOf (tableLevel t (codeLevels codeBase (tablesOf p ++ take n new))) t) (sym is-new)
-        ∙ sym (after-at (tablesOf p) new n past (lutTable noTable) (omega (arith, l, new-count)))
+        ∙ sym (after-at (tablesOf p) new n blank (lutTable noTable) (omega (arith, l, new-count)))
 
     pub store-levels : s .out ≤ greatestNet → p .used + n < tableRoom → LevelsStand (noted levels (p .used + n) (lut .net) level) (tablesOf p ++ take (n + 1) new)
     store-levels o room =
@@ -221,7 +220,7 @@ module _ (p : Part) (text : List ℕ) where
     unfolding Add readOf _>>=_
     add-misread number line e = rw (reflects-true (sound-reflects p) h) (rw e (refl, refl))
 
-    pub add-offered : (s : DrawnSheet) → readSheet text ≡ passed s → (q : Part) (a : Answer) → Offer p (drawn s) q a → Add p text q a
+    pub add-offered : (s : DrawnSheet) → readSheet text ≡ passed s → (q : Part) (a : Answer) → Offer p (covered s) q a → Add p text q a
     unfolding Add readOf _>>=_
     add-offered s e q a o = rw (reflects-true (sound-reflects p) h) (rw e o)
 

@@ -6,12 +6,16 @@ ghost use Rattle.table.specs.LevelTest.{LevelsStand};
 ghost use Rattle.part.specs.Trusted.Parts.{tablesOf};
 ghost use Rattle.part.specs.Trusted.Sound.{Sound};
 ghost use Rattle.part.specs.Trusted.Add.{Offer, Add};
-ghost use Rattle.part.specs.Storing.{circuitOf};
+ghost use Rattle.mapper_laws.specs.CodeMap.{Sheetable};
+ghost use Rattle.part.specs.Storing.{circuitOf, JoinedMapped};
 ghost use Rattle.part.specs.Trusted.AddAnswers.{addingAnswer};
 use crate::Added;
 use crate::Adding;
 use crate::Part;
+use joiner::joined;
+use joiner::none_joined;
 use mapper::map;
+use mapper_laws::Mapping;
 use part_records::Uses;
 use part_records::with_table;
 use sheet::ReadAnswer;
@@ -19,6 +23,18 @@ use sheet::Sheet;
 use table::CODE_ROOM;
 use table::Table;
 use table_levels::next_level;
+
+// Maps a sheet that was read with its chained gates joined; one that has none is mapped as it is.
+fn map_joined(sheet: Sheet, k: u8, used: u16) -> Mapping
+    requires { ⌜ Sheetable k used sheet ⌝ }
+    ensures { λ r. ⌜ JoinedMapped k used sheet r ⌝ }
+{
+    if none_joined(sheet) {
+        return map(sheet, k, used);
+    }
+    let covered = joined(sheet);
+    map(covered, k, used)
+}
 
 impl Part {
     // The part as it is, and why the sheet was not added.
@@ -28,8 +44,9 @@ impl Part {
         Added { part: self, answer }
     }
 
-    // Adds a sheet that was read to a part that is sound: its tables after the old ones, as few as it needs, each with its level. The
-    // conditions that refuse it are tested in 01's order: 21, 22, 23. The array has the levels of the part's codes, before and after.
+    // Adds a sheet that was read to a part that is sound: its tables after the old ones, as few as it needs with its chained gates
+    // joined, each with its level. The conditions that refuse it are tested in 01's order: 21, 22, 23. The array has the levels of the
+    // part's codes, before and after.
     pub fn offer(mut self, sheet: Sheet, levels: &mut [u16]) -> Added
         requires { ⌜ Sound self × WellFormed (drawnSheet sheet) × LevelsStand (now levels) (tablesOf self) ⌝ }
         ensures { λ r. ⌜ Offer self (circuitOf sheet) (r .part) (addingAnswer (r .answer)) × LevelsStand (now (levels .exit)) (tablesOf (r .part)) ⌝ }
@@ -53,7 +70,7 @@ impl Part {
         if uses.read {
             return self.refused(Adding::OutputRead);
         }
-        let mapping = map(sheet, self.k, used);
+        let mapping = map_joined(sheet, self.k, used);
         let needed = mapping.count as u16;
         if needed > self.capacity - used {
             return self.refused(Adding::Full);

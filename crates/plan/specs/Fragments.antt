@@ -9,7 +9,7 @@ use lib.ListN.{length, getD}
 use Rattle.lists.specs.Trusted.Lists.{Inserted, Permuted, empty, more}
 use Rattle.lists.specs.Sequences.{Paired, no-pair, pair, upto}
 use Rattle.lists.specs.MixLaws.{paired-append}
-use Rattle.tree.specs.Trusted.Tree.{Node, Edges, none, edge}
+use Rattle.tree.specs.Trusted.Tree.{Node, Edges, none, edge, edgeCount}
 use Rattle.cover.specs.Trusted.Cover.{Cover, net, top, Fanins, end, pick, arity, frontier, tables, tables*, width, widths, Fits*, Fits, SplitOf, same, split, Matched, done, match}
 use Rattle.plan.specs.declared.Key.{Key}
 use Rattle.plan.specs.Key.{leaf-key, KeyTaken, held, cut, Way}
@@ -27,16 +27,12 @@ names-up : (i : Bool) (t : Node) (es : Edges) (ns : List ℕ) {xs : List (Bool �
 names-up i t es [] no-pair = no-pair
 names-up i t es (n ∷ ns) (pair h p) = pair h (names-up i t es ns p)
 
--- each edge has one
-abbrev pub edges : Edges → ℕ
-edges none = 0
-edges (edge i t es) = suc (edges es)
-
-pub names-matched : (es : Edges) {xs ys : List (Bool × Cover)} → Paired (Names es) (upto (edges es)) xs → Permuted xs ys →
+-- each fanin has one
+pub names-matched : (es : Edges) {xs ys : List (Bool × Cover)} → Paired (Names es) (upto (edgeCount es)) xs → Permuted xs ys →
     Matched es ys
 names-matched none no-pair empty = done
 names-matched (edge i t es) (pair {y = q} h p) (more {ys = ys} {zs = zs} j r) =
-    match (subst (λ b. Inserted (b, q .1) ys zs) (h .0) j) (h .1) (names-matched es (names-up i t es (upto (edges es)) p) r)
+    match (subst (λ b. Inserted (b, q .1) ys zs) (h .0) j) (h .1) (names-matched es (names-up i t es (upto (edgeCount es)) p) r)
 
 -- ---- a fragment that stands for some fanins
 

@@ -12,14 +12,14 @@ use Rattle.lists.specs.ListLaws.{permuted-length}
 use Rattle.lists.specs.MixLaws.{paired-permuted}
 use Rattle.lists.specs.NumberLaws.{upto-length}
 use Rattle.tree.specs.declared.Kind.{Kind}
-use Rattle.tree.specs.Trusted.Tree.{leaf, gate, Edges}
+use Rattle.tree.specs.Trusted.Tree.{leaf, gate, Edges, edgeCount}
 use Rattle.cover.specs.Trusted.Cover.{Cover, net, top, Fanins, end, same, split, rooted, CoverOf}
 use Rattle.plan.specs.declared.Key.{Key}
 use Rattle.plan.specs.Key.{leaf-key}
 use Rattle.plan.specs.declared.Token.{Token}
 use Rattle.plan.specs.declared.Token.the-variants.{Push as push, Join as join}
 use Rattle.plan.specs.Plans.{Denotes, fanin, binary, Planned, Fragment, made, placeFragment, PlanSays, Runs, stop, pushed, joined, Standing, Ready, ready-none, ready-edge, Body}
-use Rattle.plan.specs.Fragments.{names-matched, edges, FragmentOf, as-drawn, as-made, ready-names, fragment-join}
+use Rattle.plan.specs.Fragments.{names-matched, FragmentOf, as-drawn, as-made, ready-names, fragment-join}
 
 -- ---- a run
 
@@ -55,13 +55,13 @@ module _ (K : ℕ) where
 
   -- ---- what it makes
 
-  ready-edges : {es : Edges} {ds : List (Bool × Cover)} {ks : List Key} → Ready K es ds ks → length ks ≡ edges es
+  ready-edges : {es : Edges} {ds : List (Bool × Cover)} {ks : List Key} → Ready K es ds ks → length ks ≡ edgeCount es
   ready-edges ready-none = refl
   ready-edges (ready-edge s r) = ap suc (ready-edges r)
 
-  fragment-body : {es : Edges} {f : Fragment} {ns : List ℕ} {k : Key} → FragmentOf K es f ns k → Permuted ns (upto (edges es)) →
-      2 ≤ edges es → (body : Fanins) × (f ≡ made body) × Body K es k body
-  fragment-body {es} (as-drawn s h) p two = absurd (omega (arith, permuted-length p, upto-length (edges es)))
+  fragment-body : {es : Edges} {f : Fragment} {ns : List ℕ} {k : Key} → FragmentOf K es f ns k → Permuted ns (upto (edgeCount es)) →
+      2 ≤ edgeCount es → (body : Fanins) × (f ≡ made body) × Body K es k body
+  fragment-body {es} (as-drawn s h) p two = absurd (omega (arith, permuted-length p, upto-length (edgeCount es)))
   fragment-body {es} (as-made {s = s} d h f w c i) p two =
       let q = paired-permuted p d in
       (s, refl, record { many = h; matched = names-matched es (q .2) (q .1); fits = f; small = w; count = c; inputs = i })

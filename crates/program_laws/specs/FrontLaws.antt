@@ -14,11 +14,13 @@ use Rattle.tree.specs.Measures.{leaves}
 use Rattle.cover.specs.Trusted.CoverTables.{Circuit}
 use Rattle.cover.specs.Nets.{least-bounds}
 use Rattle.sheet.specs.Trusted.Sheet.{DrawnSheet}
+use Rattle.sheet.specs.Trusted.Trees.{treeOf}
 use Rattle.sheet.specs.Trusted.Read.{readSheet}
 use Rattle.sheet.specs.Trusted.Cut.{sheetText}
 use Rattle.sheet.specs.CutLaws.{text-whole}
 use Rattle.sheet.specs.SizeLaws.{read-short}
 use Rattle.sheet.specs.FrontLaws.{sheetRoom, front-read, front-rest}
+use Rattle.joined.specs.JoinedLaws.{joined-leaves}
 use Rattle.table.specs.Trusted.Limits.{tableRoom}
 use Rattle.part.specs.Trusted.Parts.{Shaped}
 use Rattle.part.specs.Trusted.Sound.{Sound}
@@ -28,7 +30,7 @@ use Rattle.part.specs.Trusted.Reading.{readOf}
 use Rattle.demands.specs.AddLaws.{kept, add-case}
 use Rattle.demands.specs.Trusted.Calls.{add, call, done, here}
 use Rattle.demands.specs.Theorems.{demand-3}
-use Rattle.demands.specs.ReadingLaws.{drawn-back}
+use Rattle.demands.specs.ReadingLaws.{covered-back}
 use Rattle.part.specs.declared.Part.{Part}
 use Rattle.opening.specs.Trusted.Opening.{openingNumbers, openedBy}
 use Rattle.sheets.specs.Trusted.Sheets.{SheetsPrint, ended, stopped, added}
@@ -57,13 +59,13 @@ took : (p : Part) → Shaped p → Sound p → (text : List ℕ) (q : Part) → 
 took p shape sound text q a =
     let r : Result = record { part = q; answer = accepted } in
     let (s, new, t) = demand-3 p shape (add text ∷ []) (r ∷ []) (call a done) .each [] p (add text) r here .2 .taken refl in
-    let (d, e, i) = drawn-back text s (t .read) in
+    let (d, e, i) = covered-back text s (t .read) in
     let b = least-bounds (p .k) (t .least) .1 in
     let k : (p .k - 1) * length new ≤ 5 * length new = mul-le-mul-right (length new) (omega (arith, sound .k-range)) in
     record {
       sheet = d;
       read = e;
-      short = omega (arith, read-short text d e, ap (λ (x : Circuit). length (leaves (x .tree))) i, t .used, grown p text q accepted a refl);
+      short = omega (arith, read-short text d e, ap length (joined-leaves (treeOf d)), ap (λ (x : Circuit). length (leaves (x .tree))) i, t .used, grown p text q accepted a refl);
     }
 
 -- ---- sheets one after the other

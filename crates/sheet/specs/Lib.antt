@@ -1,4 +1,5 @@
 pub mod Trusted
+pub mod Drawn
 pub mod GateTrees
 pub mod NumberLaws
 pub mod ReadLaws
@@ -10,3 +11,5 @@ pub mod SizeLaws
 pub mod ByteLaws
 pub mod FrontLaws
 pub mod Checks
+pub mod StoreLaws
+pub mod PlaceLaws

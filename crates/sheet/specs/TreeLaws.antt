@@ -2,12 +2,12 @@
 use Prim.Native.Nat.{ℕ, zero, suc, _+_, _-_, _≤_, _<_}
 use native.Mathlib.Omega.{arith}
 use mathlib.Core.Path.{_≡_, refl, sym, ap, ap₂, _∙_, subst}
-use mathlib.Core.Bool.{Bool, true, false, _&&_}
 use mathlib.Core.List.{List, [], _∷_, _++_, append-assoc, append-nil}
 use lib.ListN.{length, getD, length-append, List·getD-append}
 use lib.Seq.{getD-append-add}
 use lib.Dec.{T}
 use Rattle.lists.specs.Trusted.Lists.{Every, Inserted, here, there, Permuted, empty, more, gather, from}
+use Rattle.lists.specs.Cases.{and-both}
 use Rattle.lists.specs.ListLaws.{every-none, every-cons, every-head, every-tail, every-append, gather-append, permuted-refl, permuted-insert, permuted-sym, permuted-trans, permuted-append, permuted-swap, permuted-to, permuted-length, gather-permuted, gather-same, interchange}
 use Rattle.tree.specs.Trusted.Limits.{codeBase}
 use Rattle.lists.specs.Trusted.Checked.{passed}
@@ -23,7 +23,8 @@ use Rattle.sheet.specs.Trusted.Sheet.{DrawnGate, DrawnSheet, netOf, gate
 use Rattle.sheet.specs.Trusted.Read.{readSheet}
 use Rattle.sheet.specs.ReadLaws.{read-formed}
 use Rattle.sheet.specs.NumberLaws.{distinct-permuted}
-use Rattle.sheet.specs.Trusted.Trees.{treeAt, nodeOf, edgesOf, treesOf, treeOf, drawn}
+use Rattle.sheet.specs.Trusted.Trees.{treeAt, nodeOf, edgesOf, treesOf, treeOf}
+use Rattle.sheet.specs.Drawn.{drawn}
 use Rattle.sheet.specs.GateTrees.{gateTrees, gateTrees*}
 use Rattle.sheet.specs.Trusted.Formed.{FaninCount, Earlier, WellFormed}
 use Rattle.cover.specs.Legal.{Legal}
@@ -53,13 +54,9 @@ node-proper : (ts : List Node) (s : Source) → Every (λ t. T (proper t)) ts �
 node-proper ts (net n) h = tt
 node-proper ts (gate g) h = at-proper ts (g - 1) h
 
-both : (a b : Bool) → T a → T b → T (a && b)
-both true b p q = q
-both false b p q = p
-
 edges-proper : (ts : List Node) (fs : List Fanin) → Every (λ t. T (proper t)) ts → T (propers (edgesOf ts fs))
 edges-proper ts [] h = tt
-edges-proper ts (f ∷ fs) h = both (proper (nodeOf ts (f .source))) _ (node-proper ts (f .source) h) (edges-proper ts fs h)
+edges-proper ts (f ∷ fs) h = and-both (proper (nodeOf ts (f .source))) _ (node-proper ts (f .source) h) (edges-proper ts fs h)
 
 edges-many : (ts : List Node) (fs : List Fanin) → 2 ≤ length fs → T (many (edgesOf ts fs))
 edges-many ts [] l = absurd (omega arith)
@@ -70,7 +67,7 @@ trees-proper : (ts : List Node) (gs : List DrawnGate) → Every FaninCount gs �
 trees-proper ts [] c h = h
 trees-proper ts (g ∷ gs) c h =
     trees-proper _ gs (every-tail c)
-    (every-append ts _ h (every-cons (both (many (edgesOf ts (g .fanins))) _ (edges-many ts (g .fanins) (every-head c .0)) (edges-proper ts (g .fanins) h)) (every-none _)))
+    (every-append ts _ h (every-cons (and-both (many (edgesOf ts (g .fanins))) _ (edges-many ts (g .fanins) (every-head c .0)) (edges-proper ts (g .fanins) h)) (every-none _)))
 
 pub tree-proper : (s : DrawnSheet) → WellFormed s → T (proper (treeOf s))
 tree-proper s w = at-proper (treesOf [] (s .gates)) (length (s .gates) - 1) (trees-proper [] (s .gates) (w .fanin-counts) (every-none _))
@@ -104,7 +101,7 @@ from-end g (suc n) = ap (λ l. g ∷ l) (from-end (suc g) n ∙ ap (λ m. from (
 
 -- ---- what a tree holds: what the gates in it bring, each once
 
-abbrev treeFor : List Node → DrawnGate → Node
+abbrev pub treeFor : List Node → DrawnGate → Node
 treeFor ts g = Node.gate (g .kind) (edgesOf ts (g .fanins))
 
 -- a gate's tree holds what the gate brings, and what the trees of the gates that it reads hold
@@ -151,7 +148,7 @@ module _ {A : Type 0} (held : Node → List A) (brings : List Node → DrawnGate
       ∙ (gather-append f (from 1 m) ((1 + m) ∷ [])
       ∙ ap (λ k. gather f (from 1 m) ++ (f k ++ [])) (let h : 1 + m ≡ length gs = omega arith in h))))
 
-  -- what each gate but the root holds is above on both sides
+  -- what each gate but the root holds is above on and-both sides
   root-held : (gs : List DrawnGate) (all : List Node) → treesOf [] gs ≡ all → 1 ≤ length gs → Earlier 1 gs → Permuted (gatesRead gs) (from 1 (length gs - 1)) →
       Permuted (brought [] gs) (heldAt all (length gs))
   root-held gs all e l h r =

@@ -1,3 +1,3 @@
-pub mod StoreLaws
+pub mod RoomLaws
 pub mod LinesLaws
 pub mod UnreadLaws

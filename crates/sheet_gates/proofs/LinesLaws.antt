@@ -34,7 +34,8 @@ use Rattle.flags.specs.Flags.{raised}
 use Rattle.sheet_fanin.specs.Fanins.{flagWords, Marked, saw, faninStep, FaninRead}
 use Rattle.sheet_line.proofs.HeadLaws.{zeroValue}
 use Rattle.sheet_fanin.proofs.FaninLaws.{marked-start, marked-more}
-use Rattle.sheet_gates.proofs.StoreLaws.{readCount, count-none, read-most, read-more, Below, drawn-same, taken-more, drawn-more, below-more}
+use Rattle.sheet.specs.StoreLaws.{Below, drawn-same, taken-more, drawn-more, below-more}
+use Rattle.sheet_gates.proofs.RoomLaws.{readCount, count-none, read-most, read-more}
 
 abbrev Gates : Type 0
 Gates = List DrawnGate × Seen × List ℕ

@@ -1,5 +1,5 @@
--- The worked examples that 01 stars ("Panels worked by hand"): for each tree and K the least number of tables and, where it is
--- given, the truth table.
+-- The worked examples that 01 stars ("Panels worked by hand"): for each tree and K the least number of tables of the
+-- joined tree (02, #104) and, where it is given, the truth table.
 -- Internal definitions: that every row is right is in WorkedRight.
 use Prim.Native.Nat.{ℕ, suc, zero, _+_}
 use mathlib.Core.Path.{_≡_}
@@ -12,8 +12,9 @@ use Rattle.tree.specs.declared.Kind.the-variants.{And as and, Or as or}
 use Rattle.tree.specs.Trusted.Tree.{Node, leaf, gate, Edges, edge}
 use Rattle.cover.specs.Trusted.Cover.{Cover, tables, CoverOf, Least}
 use Rattle.cover.specs.Trusted.Placed.{records}
+use Rattle.joined.specs.Trusted.Joined.{joinedTree}
 
--- the most inputs of a table, a tree, whether its output is inverted, the tables of its least cover, and their truth table
+-- the most inputs of a table, a tree as drawn, whether its output is inverted, the tables of its least cover, and their truth table
 pub record Row : Type 0 where
   pub inputs : ℕ
   pub tree : Node
@@ -24,11 +25,11 @@ pub record Row : Type 0 where
 -- where a truth table is given, each table of each least cover has it
 abbrev pub Shown : Row → Option ℕ → Type 0
 Shown r none = Unit {0}
-Shown r (some x) = (base out : ℕ) (c : Cover) → CoverOf (r .inputs) (r .tree) c → tables c ≡ r .count →
+Shown r (some x) = (base out : ℕ) (c : Cover) → CoverOf (r .inputs) (joinedTree (r .tree)) c → tables c ≡ r .count →
     Every (λ p. p .1 .truth ≡ x) (records base c out (r .inverted))
 
 pub record Right (r : Row) : Type 0 where
-  pub least : Least (r .inputs) (r .tree) (r .count)
+  pub least : Least (r .inputs) (joinedTree (r .tree)) (r .count)
   pub shown : Shown r (r .truth)
 
 -- `n` upright leaves, numbered from `i` on
@@ -61,5 +62,5 @@ worked =
     ∷ row 5 (gate or (edge false (gate and (ports 3 1)) (gates 4 and 2 4))) 3
     ∷ row 4 (gate or (edge false (gate and (ports 3 1)) (gates 4 and 2 4))) 4
     ∷ row 5 (gate and (gates 3 or 3 1)) 3
-    ∷ row 5 (gate and (gates 3 and 3 1)) 3
+    ∷ row 5 (gate and (gates 3 and 3 1)) 2
     ∷ []

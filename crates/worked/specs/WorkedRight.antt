@@ -1,5 +1,5 @@
 -- Every worked example is right: one computed test over the whole table of rows, by the computed best key and the table of the
--- whole tree.
+-- whole tree, both of the joined tree.
 use Prim.Native.Nat.{ℕ, _≤_}
 use mathlib.Core.Path.{_≡_, _∙_}
 use mathlib.Core.Bool.{Bool, true, false, _&&_}
@@ -16,6 +16,7 @@ use Rattle.plan.specs.Key.{pack, better}
 use Rattle.plan.specs.Subsets.{least-of}
 use Rattle.plan.specs.Least.{least-tables, least-is}
 use Rattle.cover.specs.Whole.{whole, one-table}
+use Rattle.joined.specs.Trusted.Joined.{joinedTree}
 use Rattle.worked.specs.Worked.{Row, Shown, Right, worked}
 
 abbrev is-gate : Node → Bool
@@ -24,12 +25,13 @@ is-gate (gate k es) = true
 
 -- what a row asks of the computed key
 abbrev count-right : Row → Bool
-count-right r = leb 2 (r .inputs) && (is-gate (r .tree) && (proper (r .tree) && eqb (least-tables (r .inputs) (r .tree)) (r .count)))
+count-right r =
+    leb 2 (r .inputs) && (is-gate (joinedTree (r .tree)) && (proper (joinedTree (r .tree)) && eqb (least-tables (r .inputs) (joinedTree (r .tree))) (r .count)))
 
 -- and of the table of the whole tree
 abbrev truth-right : Row → Option ℕ → Bool
 truth-right r none = true
-truth-right r (some x) = eqb (r .count) 1 && eqb ((whole 0 (r .inverted) (r .tree)) .truth) x
+truth-right r (some x) = eqb (r .count) 1 && eqb ((whole 0 (r .inverted) (joinedTree (r .tree))) .truth) x
 
 abbrev all-right : List Row → Bool
 all-right [] = true
@@ -39,12 +41,12 @@ gate-count : (K : ℕ) (t : Node) (n : ℕ) → 2 ≤ K → T (is-gate t) → T 
 gate-count K (leaf m) n two g p e = absurd g
 gate-count K (gate k es) n two g p e = rw e at (least-is K two k es p)
 
-row-count : (r : Row) → T (count-right r) → Least (r .inputs) (r .tree) (r .count)
+row-count : (r : Row) → T (count-right r) → Least (r .inputs) (joinedTree (r .tree)) (r .count)
 row-count r h =
     let a = and-split (leb 2 (r .inputs)) _ h in
-    let b = and-split (is-gate (r .tree)) _ (a .1) in
-    let c = and-split (proper (r .tree)) _ (b .1) in
-    gate-count (r .inputs) (r .tree) (r .count) (leb→le _ _ (a .0)) (b .0) (c .0) (eqb→eq _ _ (c .1))
+    let b = and-split (is-gate (joinedTree (r .tree))) _ (a .1) in
+    let c = and-split (proper (joinedTree (r .tree))) _ (b .1) in
+    gate-count (r .inputs) (joinedTree (r .tree)) (r .count) (leb→le _ _ (a .0)) (b .0) (c .0) (eqb→eq _ _ (c .1))
 
 row-truth : (r : Row) (o : Option ℕ) → T (truth-right r o) → Shown r o
 row-truth r none h = tt

@@ -1,1 +1,1 @@
-// 01's worked examples, computed.
+// 01's and 02's worked examples, computed.

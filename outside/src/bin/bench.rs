@@ -14,6 +14,7 @@ use std::process::ExitCode;
 use std::time::Instant;
 
 use outside::samples::{chain, full_part, input};
+use outside::sheet::Kind;
 use outside::tool::finish;
 use outside::{list, program};
 
@@ -35,6 +36,15 @@ fn one(name: &str, k: usize, gates: usize, fanins: usize) -> Sample {
     Sample { name: format!("{name}, K {k}"), text: input(k, 800, &[chain(9999, 1, gates, fanins)]), task: Task::Map }
 }
 
+/// A chain of ANDs, which are joined.
+fn ands(k: usize, gates: usize) -> Sample {
+    let mut sheet = chain(9999, 1, gates, 2);
+    for gate in &mut sheet.gates {
+        gate.kind = Kind::And;
+    }
+    Sample { name: format!("chain of {gates} ANDs, joined, K {k}"), text: input(k, 800, &[sheet]), task: Task::Map }
+}
+
 /// The list of a full part, cut to its first tables.
 fn listed(tables: usize) -> Sample {
     let mut part = list::read(program::print(full_part().as_bytes()).as_bytes()).expect("the list of a full part");
@@ -50,6 +60,7 @@ fn samples() -> Vec<Sample> {
     samples.extend([7, 14].map(|gates| one(&format!("{gates} gates of ten fanins"), 6, gates, 10)));
     samples.extend((2..=10).map(|fanins| one(&format!("one gate of {fanins} fanins"), 4, 1, fanins)));
     samples.extend([800, 400, 200, 1].map(listed));
+    samples.push(ands(6, 255));
     samples
 }
 

@@ -4,7 +4,8 @@
 //!
 //! `own` is the independent mapper, `linked` the archive linked in (feature `linked`), `command` a program that reads standard
 //! input and writes standard output. A case is known by its seed and index. The first ten failing inputs are saved.
-//! With `--write`, what the mapper prints in all cases goes into a file, so that two builds can be compared.
+//! With `--write`, what the mapper prints in all cases goes into a file, so that two builds can be compared. A run of 1,000 cases
+//! or more in which no input is accepted that has a join of some kind, or a chained edge without room for one, fails.
 
 use std::collections::BTreeMap;
 use std::fs::File;
@@ -13,8 +14,10 @@ use std::process::{Command, ExitCode, Stdio};
 
 use outside::check::check_answer;
 use outside::generate::case;
-use outside::program;
+use outside::join::{Chained, Joined};
+use outside::program::{self, Accepted};
 use outside::tool::{finish_run, Failures, Options};
+use outside::FANINS;
 
 enum Mapper {
     Own,
@@ -64,6 +67,33 @@ fn run(program: &str, input: &[u8]) -> std::io::Result<Vec<u8>> {
     }
 }
 
+/// How many cases a run has in which each kind of join must occur.
+const LONG: u64 = 1000;
+
+/// Whether a sheet with these chained edges shows what is counted.
+type Shows = fn(&[Chained]) -> bool;
+
+/// What is counted of the accepted inputs' joins.
+const JOINS: [(&str, Shows); 6] = [
+    ("a join", |edges| edges.iter().any(Chained::is_joined)),
+    ("an inverted edge joined", |edges| edges.iter().any(|edge| edge.is_joined() && edge.inverted)),
+    ("a join under a join", |edges| edges.iter().any(|edge| edge.is_joined() && reads_joined(edge, edges))),
+    ("a gate joined to ten fanins", |edges| edges.iter().any(|edge| edge.fanins == FANINS)),
+    ("a chained edge without room", |edges| edges.iter().any(|edge| !edge.is_joined())),
+    ("a chained edge that would make eleven fanins", |edges| edges.iter().any(|edge| edge.fanins == FANINS + 1)),
+];
+
+/// Whether the gate below this edge has a join of its own.
+fn reads_joined(edge: &Chained, edges: &[Chained]) -> bool {
+    edges.iter().any(|below| below.is_joined() && below.upper == edge.lower)
+}
+
+fn count_joins(accepted: &Accepted, counts: &mut [usize; JOINS.len()]) {
+    for ((_, shows), count) in JOINS.iter().zip(counts) {
+        *count += usize::from(accepted.joined.iter().any(|Joined { chained, .. }| shows(chained)));
+    }
+}
+
 fn created(name: &str) -> Result<File, String> {
     File::create(name).map_err(|error| format!("{name}: {error}"))
 }
@@ -76,11 +106,15 @@ fn run_cases() -> Result<usize, String> {
     };
     let mut mapper = Mapper::of(words)?;
     let mut outcomes: BTreeMap<u32, usize> = BTreeMap::new();
+    let mut joins = [0; JOINS.len()];
     let mut failures = Failures::none(&options);
     for index in options.first..options.first + options.count {
         let case = case(options.seed, index);
         let answer = program::read(&case.input);
         *outcomes.entry(answer.as_ref().map_or_else(|refusal| refusal.number, |_| 0)).or_default() += 1;
+        if let Ok(accepted) = &answer {
+            count_joins(accepted, &mut joins);
+        }
         let printed = mapper.map(&case.input);
         if let (Some(file), Ok(printed)) = (&mut file, &printed) {
             file.write_all(printed).map_err(|error| format!("--write: {error}"))?;
@@ -97,7 +131,13 @@ fn run_cases() -> Result<usize, String> {
         let outcome = if *number == 0 { "accepted".into() } else { format!("refusal {number}") };
         println!("{count:>8} {outcome}");
     }
+    for ((name, _), count) in JOINS.iter().zip(&joins) {
+        println!("{count:>8} accepted with {name}");
+    }
     println!("seed {}: {} cases, {} failed", options.seed, outcomes.values().sum::<usize>(), failures.count);
+    if failures.count == 0 && options.count >= LONG && joins.contains(&0) {
+        return Err("a kind of join that did not occur".into());
+    }
     Ok(failures.count)
 }
 

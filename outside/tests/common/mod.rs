@@ -1,6 +1,8 @@
 //! Texts in fields of six, for the tests.
 #![allow(dead_code)]
 
+pub mod nested;
+
 use outside::refusal::Refusal;
 
 /// One line of fields.

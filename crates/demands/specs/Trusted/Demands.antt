@@ -50,7 +50,7 @@ pub record OpeningTold (k capacity : ℕ) (r : Result) : Type 0 where
   pub accepts : (r .answer ≡ accepted) ↔ (KRange k × CapacityRange capacity)
   pub zeros : (number place : ℕ) → r .answer ≡ refused number place → r .part ≡ empty 0 0
 
--- no condition that an add tests before 23 holds, and the sheet is s
+-- no condition that an add tests before 23 holds, and s is the sheet as it is covered
 pub record Passes (o : Part) (text : List ℕ) (s : Circuit) : Type 0 where
   pub sound : Sound o
   pub read : readOf text ≡ passed s
@@ -100,7 +100,8 @@ abbrev pub valuesIn : Part → (ℕ → Bool) → ℕ → Bool
 valuesIn p = settled codeBase (tablesOf p)
 
 -- An add on the part o, with the result r, in calls that end with the part `last`: the text reads as the sheet d, and its tables `new` stand
--- unchanged in the last part; and there its output net has the value that its gates give, one after the other, at the values of the nets.
+-- unchanged in the last part; and there its output net has the value that its gates as drawn give, one after the other, at the values of
+-- the nets.
 pub record Served (last o : Part) (text : List ℕ) (r : Result) (d : DrawnSheet) (new : List LookupTable) : Type 0 where
   pub read : readSheet text ≡ passed d
   pub tables : tablesOf (r .part) ≡ tablesOf o ++ new
@@ -136,6 +137,8 @@ pub record Demand2 (k capacity : ℕ) (cs : List Call) (rs : List Result) : Type
 -- ---- DEMAND 3. "One claim over any list of adds, on any part: the tables taken for each accepted sheet are those of one of its covers, and
 -- ---- their number is its least number over all splittings and covers; 23 is given exactly when the least number is above the number
 -- ---- left; the used count is the start's plus the sum of the least numbers."
+
+-- a sheet's covers and its least number are those of its joined tree (02, #104), which `readOf` gives it
 
 -- n is the sum of the sheets' least numbers; a sheet has one at most (`least-unique`), and so has the sum one value (`total-unique`)
 pub data Total (k : ℕ) : List Circuit → ℕ → Type 0 where

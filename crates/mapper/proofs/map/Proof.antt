@@ -19,7 +19,8 @@ use Rattle.mapper_laws.specs.declared.Mapping.{Mapping}
 use Rattle.mapper_laws.specs.CodePair.{readAs, pairOf, stagedOf}
 use Rattle.mapper_laws.specs.CodeMapLaws.{staging-start, staging-next, staging-end}
 use Rattle.mapper_laws.specs.PairLaws.{edgeAt, readAt, pairGate, pair-mapped, pair-staged, pair-placed, pair-few, pair-room, pair-gathers, low-reached, high-reached}
-use Rattle.mapper_laws.specs.SheetLaws.{noSheetGate, going-start, some-gates, step-reaches, step-mappable, step-room, step-next, end-room, end-mapped}
+use Rattle.sheet.specs.PlaceLaws.{noSheetGate}
+use Rattle.mapper_laws.specs.SheetLaws.{going-start, some-gates, step-reaches, step-mappable, step-room, step-next, end-room, end-mapped}
 use Rattle.mapper.proofs.map.Statement.{statement}
 use Rattle.mapper.proofs.map.Tie as tie
 

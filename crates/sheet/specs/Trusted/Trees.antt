@@ -7,7 +7,6 @@ use Rattle.sheet.specs.declared.Source.{Source}
 use Rattle.sheet.specs.declared.Source.the-variants.{Net as net, Gate as gate}
 use Rattle.sheet.specs.declared.Edge.{Edge as Fanin}
 use Rattle.sheet.specs.Trusted.Sheet.{DrawnGate, DrawnSheet}
-use Rattle.cover.specs.Trusted.CoverTables as Added
 
 -- the tree of gate g, where `ts` has the gates' trees in order
 abbrev pub treeAt : List Node → ℕ → Node
@@ -29,7 +28,3 @@ treesOf ts (g ∷ gs) = treesOf (ts ++ (Node.gate (g .kind) (edgesOf ts (g .fani
 -- the last gate is the root
 abbrev pub treeOf : DrawnSheet → Node
 treeOf s = treeAt (treesOf [] (s .gates)) (length (s .gates))
-
--- the sheet as the theory has it
-abbrev pub drawn : DrawnSheet → Added.Circuit
-drawn s = record { tree = treeOf s; out = s .out; inverted = s .inverted }

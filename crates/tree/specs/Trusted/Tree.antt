@@ -1,5 +1,5 @@
 -- A fanout-free tree of AND and OR gates over nets, and the value of a gate. Definitions only.
-use Prim.Native.Nat.{ℕ}
+use Prim.Native.Nat.{ℕ, suc}
 use mathlib.Core.Bool.{Bool, true, false}
 -- the kinds of gates are those of the code
 use Rattle.tree.specs.declared.Kind.{Kind}
@@ -14,6 +14,11 @@ mutual
   pub data Edges : Type 0 where
     none : Edges
     edge : Bool → Node → Edges → Edges
+
+-- how many
+abbrev pub edgeCount : Edges → ℕ
+edgeCount none = 0
+edgeCount (edge i t es) = suc (edgeCount es)
 
 -- `b` turned over where `i` is true
 abbrev pub turned : Bool → Bool → Bool

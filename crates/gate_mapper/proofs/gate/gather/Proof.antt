@@ -9,7 +9,8 @@ use Rattle.sheet.specs.declared.Edge.{Edge}
 use Rattle.sheet.specs.Trusted.Limits.{mostGates, faninRoom}
 use Rattle.sheet.specs.Trusted.Answers.{drawnGate}
 use Rattle.mapper_laws.specs.CodeMap.{withFanin, Gathering}
-use Rattle.mapper_laws.specs.CodeMapLaws.{noEdge, gathering-start, gather-net, gather-gate, gate-reached}
+use Rattle.sheet.specs.PlaceLaws.{noEdge}
+use Rattle.mapper_laws.specs.CodeMapLaws.{gathering-start, gather-net, gather-gate, gate-reached}
 use Rattle.gate_mapper.proofs.gate.gather.Statement.{statement}
 use Rattle.gate_mapper.proofs.gate.gather.Tie as tie
 

@@ -10,6 +10,7 @@ use denote.Ref.{now}
 use lib.Seq.{paste, paste-zero, paste-suc}
 use Rattle.table.specs.declared.Table.{Table}
 use Rattle.table.specs.Trusted.Limits.{tableRoom}
+use Rattle.table.specs.Trusted.Records.{blank}
 use Rattle.table.specs.LevelTest.{levelIn, LevelsStand}
 use Rattle.table.specs.LevelTestLaws.{noted-length, levels-small}
 use Rattle.pending.specs.declared.Lut.{Lut}
@@ -132,8 +133,8 @@ returns-2 c =
       subst (λ r. LevelsStand (now (a .levels)) (tablesOf (r .part))) (sym (c .refused2 .ensures)) (s .pre .2),
     )
 
-map-requires : tie.Need-map-requires Inv-loop μ-loop Inv-loop2 μ-loop2
-map-requires c κs = search needs
+map-joined-requires : tie.Need-map-joined-requires Inv-loop μ-loop Inv-loop2 μ-loop2
+map-joined-requires c κs = search needs
 
 cast-needed : tie.Need-cast-needed Inv-loop μ-loop Inv-loop2 μ-loop2
 cast-needed c = search needs
@@ -151,7 +152,7 @@ returns-3 c =
     let s = c .before .before .before .before .before .before .before .before in
     let a = s .args in (
       offer-same (c .refused3 .result) (a .t1) Full (c .refused3 .ensures) (a .t1) (circuitOf (a .sheet))
-          (offer-full (a .t1) (self-shaped s) (s .pre .0) (a .sheet) (m .map .result) (m .map .ensures) (not-driven (d .before)) (not-read d) (c .before .if3 .taken)),
+          (offer-full (a .t1) (self-shaped s) (s .pre .0) (a .sheet) (m .map-joined .result) (m .map-joined .ensures) (not-driven (d .before)) (not-read d) (c .before .if3 .taken)),
       subst (λ r. LevelsStand (now (a .levels)) (tablesOf (r .part))) (sym (c .refused3 .ensures)) (s .pre .2),
     )
 
@@ -162,7 +163,7 @@ loop2-holds : tie.Need-loop2-holds Inv-loop μ-loop Inv-loop2 μ-loop2
 loop2-holds c =
     let s = c .before .before .before .before .before .before .before in
     let p = s .args .t1 in
-    let m = c .before .map .result in (
+    let m = c .before .map-joined .result in (
       omega arith,
       ap (holding p) (paste-zero (p .tables) (p .used) (newRecords p m)),
       rw (append-nil (tablesOf p)) (s .pre .2),
@@ -197,7 +198,7 @@ loop2-less c = omega arith
 
 loop2-again : tie.Need-loop2-again Inv-loop μ-loop Inv-loop2 μ-loop2
 loop2-again c =
-    let f = c .before .before .before .before .before .before .before .before .before .map in
+    let f = c .before .before .before .before .before .before .before .before .before .map-joined in
     let m = f .result in
     let s = c .before .before .before .before .before .before .before .before .before .before .before .before .before .before .before in
     let p = s .args .t1 in
@@ -210,7 +211,7 @@ loop2-again c =
       omega arith,
       ap (λ o. holding o (set (o .tables) (p .used + l .n) (atLevel r (n .result)))) (l .inv .1)
           ∙ ap q (ap (atLevel r) (n .ensures .0) ∙ store-record p h (s .pre .0) (s .args .sheet) m (f .ensures) (l .levels) (l .n) (omega arith) (l .inv .2))
-          ∙ ap (holding p) (paste-suc (p .tables) (p .used) (newRecords p m) (l .n) past (omega (arith, h .records, capacity-fits s))
+          ∙ ap (holding p) (paste-suc (p .tables) (p .used) (newRecords p m) (l .n) blank (omega (arith, h .records, capacity-fits s))
           (omega (arith, new-room p h (s .pre .0) (s .args .sheet) m (f .ensures))) ∙ e),
       subst (λ xs. LevelsStand xs (tablesOf p ++ take (l .n + 1) (newTables m))) (sym (n .ensures .1))
           (store-levels p h (s .pre .0) (s .args .sheet) m (f .ensures) (l .levels) (l .n) (omega arith) (l .inv .2) (s .pre .1 .out-net .1) (omega (arith, capacity-fits s))),
@@ -231,12 +232,12 @@ returns-4 c =
     let s = d .before .before .before .before .before in
     let p = s .args .t1 in
     let h = self-shaped s in
-    let r = m .map .result in
+    let r = m .map-joined .result in
     let e : l .n ≡ r .count = omega arith in
     let i = ap (counting (p .used + r .count)) (l .inv .1 ∙ ap (λ n. holding p (pasted p r n)) e) in
     subst (λ q. Offer p (circuitOf (s .args .sheet)) q accepted × LevelsStand (l .levels) (tablesOf q)) (sym i) (
-      offer-stored p h (s .pre .0) (s .args .sheet) r (m .map .ensures) (not-driven (d .before)) (not-read d) (c .before .before .if3 .left),
-      levels-stored p h (s .pre .0) (s .args .sheet) r (m .map .ensures) (l .levels) (subst (λ n. LevelsStand (l .levels) (tablesOf p ++ take n (newTables r))) e (l .inv .2)),
+      offer-stored p h (s .pre .0) (s .args .sheet) r (m .map-joined .ensures) (not-driven (d .before)) (not-read d) (c .before .before .if3 .left),
+      levels-stored p h (s .pre .0) (s .args .sheet) r (m .map-joined .ensures) (l .levels) (subst (λ n. LevelsStand (l .levels) (tablesOf p ++ take n (newTables r))) e (l .inv .2)),
     )
 
 pub offer-spec : {M : Type 1} → statement M
@@ -259,7 +260,7 @@ offer-spec =
     returns
     refused-requires-2
     returns-2
-    map-requires
+    map-joined-requires
     cast-needed
     sub-if3
     refused-requires-3

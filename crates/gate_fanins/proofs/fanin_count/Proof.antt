@@ -1,8 +1,8 @@
 use native.Mathlib.Omega.{arith}
 use lib.ListN.{drop, length-take, length-drop}
 use borrow.Author.Needs.{needs}
-use Rattle.gate_mapper.proofs.gate.fanin_count.Statement.{statement}
-use Rattle.gate_mapper.proofs.gate.fanin_count.Tie as tie
+use Rattle.gate_fanins.proofs.fanin_count.Statement.{statement}
+use Rattle.gate_fanins.proofs.fanin_count.Tie as tie
 
 cast-first : tie.Need-cast-first
 cast-first c = search needs

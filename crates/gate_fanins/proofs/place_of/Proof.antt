@@ -4,11 +4,11 @@ use mathlib.Core.Path.{sym, ap, subst}
 use Rattle.lists.specs.Trusted.Lists.{Every}
 use Rattle.sheet.specs.Trusted.Limits.{mostGates}
 use Rattle.sheet.specs.Trusted.Sheet.{gateOf}
-use Rattle.mapper_laws.specs.CodePair.{placeIn}
+use Rattle.gate_fanins.specs.Fanins.{placeIn}
 use Rattle.lists.specs.ListLaws.{every-head}
 use borrow.Author.Needs.{needs}
-use Rattle.gate_mapper.proofs.fanin.place_of.Statement.{statement}
-use Rattle.gate_mapper.proofs.fanin.place_of.Tie as tie
+use Rattle.gate_fanins.proofs.place_of.Statement.{statement}
+use Rattle.gate_fanins.proofs.place_of.Tie as tie
 
 enum-told : tie.Need-enum-told
 enum-told c = search needs

@@ -1,0 +1,64 @@
+// Joining the chained gates of a sheet that was read (02, #104).
+mod gates;
+mod staying;
+
+ghost use mathlib.Core.Path.{_≡_};
+ghost use Rattle.sheet.specs.Trusted.Answers.{drawnSheet};
+ghost use Rattle.sheet.specs.Trusted.Formed.{WellFormed};
+ghost use Rattle.joined.specs.JoinedSheet.{joinedSheet};
+ghost use Rattle.joiner_laws.specs.NoneJoined.{noneJoined};
+use crate::gates::chained;
+use crate::gates::join_gates;
+use crate::staying::write_staying;
+use gate_fanins::fanin_count;
+use sheet::Sheet;
+use sheet::Source;
+use tree::MOST_FANINS;
+
+// No edge of the sheet is joined, so that it is covered as it is (`none-joined` in joiner_laws/specs/NoneJoinedLaws).
+pub fn none_joined(sheet: Sheet) -> bool
+    requires { ⌜ WellFormed (drawnSheet sheet) ⌝ }
+    ensures { λ r. ⌜ r ≡ noneJoined (drawnSheet sheet .gates) ⌝ }
+{
+    let gates = sheet.count as usize;
+    let mut g: usize = 0;
+    while g < gates {
+        let gate = sheet.gates[g];
+        let kind = gate.kind;
+        let first = gate.first as usize;
+        let count = fanin_count(gate);
+        let mut i: usize = 0;
+        while i < count {
+            let edge = sheet.fanins[first + i];
+            let source = edge.source;
+            match source {
+                Source::Net(_) => {
+                    i += 1;
+                }
+                Source::Gate(j) => {
+                    let lower = sheet.gates[j as usize - 1];
+                    let below = lower.kind;
+                    if chained(edge.inverted, kind, below) {
+                        if count - 1 + fanin_count(lower) <= MOST_FANINS {
+                            return false;
+                        }
+                        i += 1;
+                    } else {
+                        i += 1;
+                    }
+                }
+            }
+        }
+        g += 1;
+    }
+    true
+}
+
+// The sheet that is covered: the sheet that was read with its chained gates joined, and the gates that are left numbered anew.
+pub fn joined(sheet: Sheet) -> Sheet
+    requires { ⌜ WellFormed (drawnSheet sheet) ⌝ }
+    ensures { λ r. ⌜ drawnSheet r ≡ joinedSheet (drawnSheet sheet) ⌝ }
+{
+    let gates = join_gates(sheet);
+    write_staying(sheet, gates)
+}
