@@ -20,8 +20,8 @@ use Rattle.gate_fanins.specs.Fanins.{placeIn}
 use Rattle.joiner_laws.specs.declared.JoinedGate.{JoinedGate}
 use Rattle.joiner_laws.specs.Joining.{withEdge, FaninsAdded, noJoinedGate, GatesJoining, FaninsJoining}
 use Rattle.joiner_laws.specs.JoiningLaws.{fanins-start, next-fits, edge-kept, join-room, edge-joined, gate-joined, joining-start, joining-end}
-use Rattle.joiner.proofs.gates.join_gates.Statement.{statement}
-use Rattle.joiner.proofs.gates.join_gates.Tie as tie
+use Rattle.gate_joiner.proofs.join_gates.Statement.{statement}
+use Rattle.gate_joiner.proofs.join_gates.Tie as tie
 
 abbrev Inv-loop2 : tie.InvT-loop2
 Inv-loop2 sheet gates joined gone₀ g kind first count x₀ i₀ gone x i =

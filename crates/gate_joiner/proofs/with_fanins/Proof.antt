@@ -8,8 +8,8 @@ use Prim.Native.Nat.{_-_, _≤_}
 use borrow.Author.Needs.{needs}
 use Rattle.joiner_laws.specs.Joining.{FaninsAdding}
 use Rattle.joiner_laws.specs.JoiningLaws.{adding-start, adding-next, adding-end}
-use Rattle.joiner.proofs.gates.with_fanins.Statement.{statement}
-use Rattle.joiner.proofs.gates.with_fanins.Tie as tie
+use Rattle.gate_joiner.proofs.with_fanins.Statement.{statement}
+use Rattle.gate_joiner.proofs.with_fanins.Tie as tie
 
 abbrev Inv-loop : tie.InvT-loop
 Inv-loop inverted count fanins g₀ i₀ g i = (FaninsAdding g₀ inverted fanins i g) × (i ≤ count)

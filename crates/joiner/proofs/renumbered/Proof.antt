@@ -4,8 +4,8 @@ use Rattle.sheet.specs.declared.Source.{Source}
 use Rattle.sheet.specs.declared.Edge.{Edge}
 use Rattle.joiner_laws.specs.Writing.{withNumber, renumberedEdge}
 use borrow.Author.Needs.{needs}
-use Rattle.joiner.proofs.staying.renumbered.Statement.{statement}
-use Rattle.joiner.proofs.staying.renumbered.Tie as tie
+use Rattle.joiner.proofs.renumbered.Statement.{statement}
+use Rattle.joiner.proofs.renumbered.Tie as tie
 
 is : (e : Edge) (n : ℕ) {s : Source} → s ≡ withNumber (e .source) n → record { inverted = e .inverted; source = s } ≡ renumberedEdge e n
 is e n h = ap (λ s. record { inverted = e .inverted; source = s }) h

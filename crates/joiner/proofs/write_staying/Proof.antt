@@ -21,8 +21,8 @@ use Rattle.joiner_laws.specs.JoiningLaws.{joined-few}
 use Rattle.sheet.specs.PlaceLaws.{noGate, noEdge, sheet-gates, few-gates}
 use Rattle.joiner_laws.specs.Writing.{GatesWriting, FaninsWriting}
 use Rattle.joiner_laws.specs.WritingLaws.{edge-is, edge-reads, kept-few, used-few, fanin-put, gate-put, gate-gone, writing-start, writing-end}
-use Rattle.joiner.proofs.staying.write_staying.Statement.{statement}
-use Rattle.joiner.proofs.staying.write_staying.Tie as tie
+use Rattle.joiner.proofs.write_staying.Statement.{statement}
+use Rattle.joiner.proofs.write_staying.Tie as tie
 
 abbrev Inv-loop2 : tie.InvT-loop2
 Inv-loop2 sheet joined count gates fanins₀ numbers kept used g x size edges i₀ fanins i = FaninsWriting (drawnSheet sheet .gates) g numbers kept used gates i fanins

@@ -3,8 +3,8 @@ use mathlib.Core.Bool.{Bool, true, false, not}
 use borrow.Author.Needs.{needs}
 use Rattle.tree.specs.declared.Kind.{Kind}
 use Rattle.joined.specs.Trusted.Joined.{alike, chained}
-use Rattle.joiner.proofs.gates.chained.Statement.{statement}
-use Rattle.joiner.proofs.gates.chained.Tie as tie
+use Rattle.chained_gates.proofs.chained.Statement.{statement}
+use Rattle.chained_gates.proofs.chained.Tie as tie
 
 -- between gates of one kind, and of two
 upright : (i : Bool) (k j : Kind) → alike k j ≡ true → not i ≡ chained i k j

@@ -21,8 +21,8 @@ use Rattle.joined.specs.Trusted.Joined.{chained}
 use Rattle.joined.specs.JoinedSheet.{gateAt, joinsSource}
 use Rattle.joiner_laws.specs.NoneJoined.{GatesKept, FaninsKept}
 use Rattle.joiner_laws.specs.NoneJoinedLaws.{kept-start, kept-end, fanins-first, fanins-last, fanin-stays, fanin-joins}
-use Rattle.joiner.proofs.none_joined.Statement.{statement}
-use Rattle.joiner.proofs.none_joined.Tie as tie
+use Rattle.chained_gates.proofs.none_joined.Statement.{statement}
+use Rattle.chained_gates.proofs.none_joined.Tie as tie
 
 abbrev Inv-loop2 : tie.InvT-loop2
 Inv-loop2 sheet gates g kind first count i₀ i = FaninsKept (drawnSheet sheet .gates) g (drawnGate (sheet .fanins) (getD (sheet .gates) g noSheetGate)) i

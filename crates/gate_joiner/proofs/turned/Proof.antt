@@ -3,8 +3,8 @@ use mathlib.Core.Bool.{Bool, true, false, not}
 use Rattle.tree.specs.Trusted.Tree.{turned}
 use Rattle.sheet.specs.declared.Edge.{Edge}
 use Rattle.joined.specs.JoinedSheet.{turnFanin}
-use Rattle.joiner.proofs.gates.turned.Statement.{statement}
-use Rattle.joiner.proofs.gates.turned.Tie as tie
+use Rattle.gate_joiner.proofs.turned.Statement.{statement}
+use Rattle.gate_joiner.proofs.turned.Tie as tie
 
 turned-not : (b : Bool) → not b ≡ turned true b
 turned-not true = refl

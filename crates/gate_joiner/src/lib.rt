@@ -1,13 +1,13 @@
-// The gates of a sheet, joined under their drawn numbers.
+// The gates of a sheet, joined under their drawn numbers (02, #104).
 ghost use mathlib.Core.Path.{_≡_};
 ghost use mathlib.Core.List.{[]};
 ghost use Prim.Native.Nat.{_+_, _≤_, _<_};
 ghost use Rattle.tree.specs.Trusted.Limits.{mostFanins};
 ghost use Rattle.sheet.specs.Trusted.Answers.{drawnSheet};
 ghost use Rattle.sheet.specs.Trusted.Formed.{WellFormed};
-ghost use Rattle.joined.specs.Trusted.Joined.{chained as isChained};
 ghost use Rattle.joined.specs.JoinedSheet.{turnFanin};
 ghost use Rattle.joiner_laws.specs.Joining.{GateIs, withEdge, FaninsAdded, joinsLower, AllJoined};
+use chained_gates::chained;
 use gate_fanins::fanin_count;
 use gate_fanins::place_of;
 use joiner_laws::JoinedGate;
@@ -18,22 +18,6 @@ use sheet::Sheet;
 use sheet::Source;
 use tree::Kind;
 use tree::MOST_FANINS;
-
-// Whether an edge between gates of these kinds is joined where there is room.
-pub fn chained(inverted: bool, upper: Kind, lower: Kind) -> bool
-    ensures { λ r. ⌜ r ≡ isChained inverted upper lower ⌝ }
-{
-    match upper {
-        Kind::And => match lower {
-            Kind::And => !inverted,
-            Kind::Or => inverted,
-        },
-        Kind::Or => match lower {
-            Kind::And => inverted,
-            Kind::Or => !inverted,
-        },
-    }
-}
 
 // Whether an edge is joined that stands in a gate beside so many other fanins, where `lower` is the gate that it reads, if it does.
 fn joins(kind: Kind, others: usize, edge: Edge, lower: JoinedGate) -> bool

@@ -5,8 +5,8 @@ use lib.Dec.{leb}
 use Rattle.tree.specs.Trusted.Limits.{mostFanins}
 use Rattle.joiner_laws.specs.Joining.{joinsLower}
 use borrow.Author.Needs.{needs}
-use Rattle.joiner.proofs.gates.joins.Statement.{statement}
-use Rattle.joiner.proofs.gates.joins.Tie as tie
+use Rattle.gate_joiner.proofs.joins.Statement.{statement}
+use Rattle.gate_joiner.proofs.joins.Tie as tie
 
 -- an edge that reads a gate, where it is known whether it is chained
 joins-so : (c : tie.After-chained) (b : Bool) → c .chained .result ≡ b →
