@@ -7,7 +7,7 @@ use mathlib.Core.List.{List, [], _∷_, _++_, map, Memᴰ·append-right}
 use lib.ListN.{length, drop, length-append, length-map, length-drop, length-replicate}
 use lib.Seq.{drop-append-seam, drop-at, drop-drop}
 use Rattle.lists.specs.Trusted.Lists.{_∈_, first, later, Every}
-use Rattle.lists.specs.ListLaws.{every-none, every-cons, every-head, every-tail, every-append, every-take, every-drop, every-replicate}
+use Rattle.lists.specs.ListLaws.{every-append, every-take, every-drop, every-replicate}
 use Rattle.tree.specs.Trusted.Limits.{codeBase}
 use Rattle.cover.specs.Trusted.Tables.{LookupTable, Placed, numbered, levelsAfter}
 use Rattle.cover.specs.Eval.{numbered-is, every-numbered}
@@ -26,13 +26,6 @@ use Rattle.part.specs.Trusted.Add.{extended}
 use Rattle.part.specs.ExtendedLaws.{front-length, extended-inUse}
 use Rattle.table.specs.declared.Table.{Table}
 use Rattle.part.specs.declared.Part.{Part}
-
--- ---- lists
-
-module _ {A : Type 0} where
-  pub every-map : {B : Type 0} (P : A → Type 0) (f : B → A) (xs : List B) → Every (λ x. P (f x)) xs → Every P (map f xs)
-  every-map P f [] h = every-none _
-  every-map P f (x ∷ xs) h = every-cons (every-head h) (every-map P f xs (every-tail h))
 
 -- each number is that of a table
 numbered-at : (n : ℕ) (ts : List LookupTable) (i : ℕ) → i < length ts → (q : Placed) × (q ∈ numbered n ts) × (q .0 ≡ suc (n + i))

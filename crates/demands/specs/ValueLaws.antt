@@ -7,7 +7,7 @@ use mathlib.Core.Bool.{Bool}
 use mathlib.Core.List.{List, [], _∷_, _++_, append-assoc, append-nil, Memᴰ·append-left, Memᴰ·append-right}
 use lib.ListN.{length, length-take}
 use Rattle.lists.specs.Trusted.Lists.{_∈_, first, later, Every}
-use Rattle.lists.specs.ListLaws.{every-none, every-cons, every-append}
+use Rattle.lists.specs.ListLaws.{every-none, every-cons, every-append, every-map}
 use Rattle.tree.specs.Trusted.Limits.{codeBase}
 use Rattle.tree.specs.Trusted.Tree.{turned}
 use Rattle.lists.specs.Trusted.Checked.{passed}
@@ -29,7 +29,6 @@ use Rattle.part.specs.Trusted.Answers.{Answer, accepted, refused, Result}
 use Rattle.part.specs.Trusted.Add.{opened, Refused}
 use Rattle.demands.specs.ReadingLaws.{covered-back, reads-right}
 use Rattle.part.specs.ExtendedLaws.{extended-tables}
-use Rattle.demands.specs.ExtendLaws.{every-map}
 use Rattle.part.specs.OpenLaws.{opened-shaped, opened-empty}
 use Rattle.demands.specs.AddLaws.{AddCase, unsound, misread, driven, read, full, taken, add-case}
 use Rattle.demands.specs.Trusted.Calls.{Call, add, final, sheetsRead, ifAccepted, Promise, sheetsOf, Chain, done, call, acceptedIn, Link, here, next}

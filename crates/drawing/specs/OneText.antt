@@ -8,7 +8,7 @@ use mathlib.Core.List.{List, [], _∷_, _++_, map, append-assoc, append-nil}
 use lib.Dec.{T, eqb→eq}
 use lib.ListN.{length, take, drop, length-map, take-append-drop}
 use Rattle.lists.specs.Trusted.Lists.{gather}
-use Rattle.lists.specs.Cases.{and-split}
+use Rattle.lists.specs.Cases.{by-test, and-split}
 use Rattle.lists.specs.Trusted.Tests.{within}
 use Rattle.lists.specs.Trusted.Checked.{passed}
 use Rattle.lists.specs.CheckedLaws.{Meets, on, meets-any, meets-of, meets-bind, meets-require, meets-given}
@@ -21,7 +21,7 @@ use Rattle.sheet.specs.Trusted.Line.{line, with, cells, fields}
 use Rattle.sheet.specs.Trusted.Sheet.{DrawnSheet, codeOf}
 use Rattle.sheet.specs.Trusted.Read.{counts, two, Seen, nothing, headOf, readFanin, readFanins, kindOf, gateHeadOf, readGate, readLeft, readSheet}
 use Rattle.sheet.specs.Trusted.Formed.{WellFormed}
-use Rattle.sheet.specs.NumberLaws.{by-test, counts-holds}
+use Rattle.sheet.specs.NumberLaws.{counts-holds}
 use Rattle.sheet.specs.ReadLaws.{source-named, read-formed}
 use Rattle.sheet.specs.CutLaws.{line-cut, empty-is}
 use Rattle.drawing.specs.Trusted.Written.{signedNumber, plainNumber, fieldsText, lineText, kindNumber, faninNumber, gateNumbers, gateText, written}

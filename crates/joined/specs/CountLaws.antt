@@ -13,7 +13,7 @@ use Rattle.sheet.specs.declared.Source.the-variants.{Net as net, Gate as gate}
 use Rattle.sheet.specs.declared.Edge.{Edge as Fanin}
 use Rattle.sheet.specs.Trusted.Sheet.{DrawnGate, gateOf, faninGates, gatesRead}
 use Rattle.sheet.specs.Trusted.Formed.{Earlier}
-use Rattle.sheet.specs.NumberLaws.{by-test}
+use Rattle.lists.specs.Cases.{by-test}
 use Rattle.joined.specs.JoinedSheet.{gateAt, joinsSource, turnFanin, faninsInPlace, goneBy, joinedFanins, goneInto, joinedGate, joinedGates, goneGates}
 
 -- ---- the gates that are gone are among those that were read

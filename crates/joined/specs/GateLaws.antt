@@ -9,7 +9,7 @@ use lib.ListN.{length, length-append, length-map, List·getD-append, List·getD-
 use lib.Seq.{getD-at}
 use Rattle.lists.specs.Trusted.Lists.{Every, gather}
 use Rattle.lists.specs.ListLaws.{every-none, every-head, every-tail, every-append, every-left, every-right, permuted-from}
-use Rattle.lists.specs.Cases.{by-leb}
+use Rattle.lists.specs.Cases.{by-test, by-leb}
 use Rattle.tree.specs.declared.Kind.{Kind}
 use Rattle.tree.specs.Trusted.Tree.{Node, leaf, none, edge, turned, edgeCount}
 use Rattle.sheet.specs.declared.Source.{Source}
@@ -19,7 +19,6 @@ use Rattle.tree.specs.Trusted.Limits.{mostFanins}
 use Rattle.sheet.specs.Trusted.Sheet.{DrawnGate, gateOf, faninGates}
 use Rattle.sheet.specs.Trusted.Trees.{treeAt, nodeOf, edgesOf, treesOf}
 use Rattle.sheet.specs.Trusted.Formed.{FaninCount, Before, Earlier}
-use Rattle.sheet.specs.NumberLaws.{by-test}
 use Rattle.sheet.specs.TreeLaws.{treeFor}
 use Rattle.joined.specs.Trusted.Joined.{chained, turnedOver, inPlace, _then_, joinedFrom, joinedTree, joinedBelow}
 use Rattle.joined.specs.JoinedSheet.{gateAt, joinsSource, turnFanin, faninsInPlace, joinedFanins, goneInto, joinedGate, joinedGates}

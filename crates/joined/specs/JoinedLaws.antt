@@ -7,13 +7,12 @@ use mathlib.Core.Bool.{Bool, true, false, not, cond}
 use mathlib.Core.List.{_++_, append-assoc, append-nil}
 use lib.ListN.{length, length-append}
 use lib.Dec.{T, leb→le}
-use Rattle.lists.specs.Cases.{and-split, and-both}
+use Rattle.lists.specs.Cases.{by-test, and-split, and-both}
 use Rattle.tree.specs.declared.Kind.{Kind}
 use Rattle.tree.specs.declared.Kind.the-variants.{And as and, Or as or}
 use Rattle.tree.specs.Trusted.Tree.{Node, leaf, gate, Edges, none, edge, turned, meet, unit, edgeCount}
 use Rattle.tree.specs.Measures.{leaves, leaves*, value, values, many, proper, propers}
 use Rattle.tree.specs.Trusted.Limits.{mostFanins}
-use Rattle.sheet.specs.NumberLaws.{by-test}
 use Rattle.sheet.specs.GateTrees.{gateTrees, gateTrees*}
 use Rattle.joined.specs.Trusted.Joined.{chained, isJoined, turnedOver, inPlace, _then_, joinedFrom, joinedTree, joinedBelow}
 use Rattle.joined.specs.Settled.{Narrow, NarrowFanins}

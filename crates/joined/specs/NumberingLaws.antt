@@ -12,7 +12,8 @@ use Rattle.lists.specs.Trusted.Lists.{Every, Distinct, Permuted, from}
 use Rattle.lists.specs.ListLaws.{every-none, every-cons, every-head, every-tail, every-append, every-right, gather-append, gather-permuted}
 use Rattle.lists.specs.Trusted.Tests.{elem}
 use Rattle.lists.specs.TestLaws.{reflects-elem}
-use Rattle.sheet.specs.NumberLaws.{by-test, distinct-permuted}
+use Rattle.lists.specs.Cases.{by-test}
+use Rattle.sheet.specs.NumberLaws.{distinct-permuted}
 use Rattle.sheet.specs.TreeLaws.{from-end}
 use Rattle.joined.specs.JoinedSheet.{stay, staying, newNumber}
 
@@ -30,10 +31,6 @@ from-parts g (suc m) n =
 
 pub from-last : (n : ℕ) → from 1 (suc n) ≡ from 1 n ++ (suc n ∷ [])
 from-last n = let a : 1 + n ≡ suc n = omega arith in from-end 1 n ∙ ap (λ k. from 1 n ++ (k ∷ [])) a
-
-pub from-length : (g n : ℕ) → length (from g n) ≡ n
-from-length g zero = refl
-from-length g (suc n) = ap suc (from-length (suc g) n)
 
 pub from-below : (g n : ℕ) → Every (λ j. j < g + n) (from g n)
 from-below g zero = every-none _

@@ -8,7 +8,7 @@ use lib.ListN.{length, length-append, length-map, List·getD-append, List·getD-
 use lib.Seq.{getD-at}
 use Rattle.lists.specs.Trusted.Lists.{Every, Inserted, here, there, Permuted, empty, more, gather, from}
 use Rattle.lists.specs.Sequences.{Paired, no-pair, pair}
-use Rattle.lists.specs.ListLaws.{every-none, every-cons, every-head, every-tail, every-left, every-right, gather-append, gather-permuted, map-at, permuted-append, permuted-from, permuted-length, permuted-refl, permuted-swap, permuted-sym, permuted-to, permuted-trans}
+use Rattle.lists.specs.ListLaws.{every-none, every-cons, every-head, every-tail, every-map, every-left, every-right, gather-append, gather-permuted, map-at, permuted-append, permuted-from, permuted-length, permuted-refl, permuted-swap, permuted-sym, permuted-to, permuted-trans}
 use Rattle.lists.specs.Trusted.Tests.{elem}
 use Rattle.tree.specs.Trusted.Tree.{Node, leaf, edge, turned}
 use Rattle.tree.specs.Measures.{value}
@@ -19,7 +19,9 @@ use Rattle.sheet.specs.Trusted.Sheet.{DrawnGate, DrawnSheet, netOf, gateOf, fan
 use Rattle.sheet.specs.Trusted.Trees.{treeAt, nodeOf, edgesOf, treesOf, treeOf}
 use Rattle.sheet.specs.Drawn.{drawn}
 use Rattle.sheet.specs.Trusted.Formed.{FaninCount, Before, Earlier, WellFormed}
-use Rattle.sheet.specs.NumberLaws.{by-test, distinct-permuted, from-least, from-once}
+use Rattle.lists.specs.Cases.{by-test}
+use Rattle.lists.specs.NumberLaws.{from-length}
+use Rattle.sheet.specs.NumberLaws.{distinct-permuted, from-least, from-once}
 use Rattle.sheet.specs.TreeLaws.{treeFor, without, tree-proper}
 use Rattle.sheet.specs.Trusted.Values.{sheetValue}
 use Rattle.sheet.specs.ValueLaws.{sheet-value}
@@ -29,7 +31,7 @@ use Rattle.joined.specs.Settled.{Settled}
 use Rattle.joined.specs.JoinedSheet.{gateAt, joinedGates, goneGates, stay, staying, newNumber, newSource, newFanin, newGate, stayingGates, joinedSheet}
 use Rattle.joined.specs.JoinedLaws.{joined-value}
 use Rattle.joined.specs.SettledLaws.{joined-settled}
-use Rattle.joined.specs.NumberingLaws.{from-length, from-below, from-last, Stays, not-gone, stay-one, staying-every, staying-length, staying-rest, staying-last, number-up, number-same, number-positive, numbers-rise, number-at, numbered-anew}
+use Rattle.joined.specs.NumberingLaws.{from-below, from-last, Stays, not-gone, stay-one, staying-every, staying-length, staying-rest, staying-last, number-up, number-same, number-positive, numbers-rise, number-at, numbered-anew}
 use Rattle.joined.specs.CountLaws.{gates-part, ofGates, ofGate, gates-bring}
 use Rattle.joined.specs.GateLaws.{edges-same, GateDraws, GatesDraw, joined-trees}
 
@@ -47,10 +49,6 @@ module _ {A : Type 0} where
   gather-every : {B : Type 0} {P : B → Type 0} (f : A → List B) (xs : List A) → Every P (gather f xs) → Every (λ x. Every P (f x)) xs
   gather-every f [] h = every-none _
   gather-every f (x ∷ xs) h = every-cons (every-left (f x) (gather f xs) h) (gather-every f xs (every-right (f x) (gather f xs) h))
-
-  every-map : {B : Type 0} (P : B → Type 0) (f : A → B) (xs : List A) → Every (λ x. P (f x)) xs → Every P (map f xs)
-  every-map P f [] h = every-none _
-  every-map P f (x ∷ xs) h = every-cons (every-head h) (every-map P f xs (every-tail h))
 
   inserted-map : {B : Type 0} (f : A → B) {x : A} {xs ys : List A} → Inserted x xs ys → Inserted (f x) (map f xs) (map f ys)
   inserted-map f here = here

@@ -12,6 +12,7 @@ use Rattle.lists.specs.Trusted.Lists.{Every, from}
 use Rattle.lists.specs.Trusted.Tests.{all}
 use Rattle.lists.specs.Cases.{and-split}
 use Rattle.lists.specs.ListLaws.{every-head, every-left, every-right, drop-past}
+use Rattle.lists.specs.NumberLaws.{from-length}
 use Rattle.tree.specs.declared.Kind.{Kind}
 use Rattle.tree.specs.Trusted.Limits.{mostFanins}
 use Rattle.sheet.specs.declared.Source.{Source}
@@ -22,7 +23,6 @@ use Rattle.sheet.specs.Trusted.Formed.{Before, Earlier, WellFormed}
 use Rattle.sheet.specs.PlaceLaws.{noGate, noEdge}
 use Rattle.joined.specs.Trusted.Joined.{chained}
 use Rattle.joined.specs.JoinedSheet.{gateAt, joinsSource, lowerFanins, turnFanin, joinedFanins, goneInto, joinedGate, joinedGates, goneGates, staying, newNumber, newSource, newFanin, newGate, stayingGates, joinedSheet}
-use Rattle.joined.specs.NumberingLaws.{from-length}
 use Rattle.joiner_laws.specs.NoneJoined.{keepsFanin, keepsFanins, noneJoined, GatesKept, FaninsKept}
 
 -- ---- nothing is joined

@@ -1,9 +1,10 @@
 -- What is held while the gates that stay are written into a sheet, numbered anew. Internal definitions: the laws are in WritingLaws.
-use Prim.Native.Nat.{ℕ, suc, _+_, _≤_, _<_}
+use Prim.Native.Nat.{ℕ, suc, _≤_, _<_}
 use mathlib.Core.Path.{_≡_}
-use mathlib.Core.List.{List, [], _∷_, map}
+use mathlib.Core.List.{List, [], map}
 use lib.ListN.{length, getD, take, drop}
 use Rattle.lists.specs.Trusted.Lists.{from}
+use Rattle.lists.specs.Sequences.{sum}
 use Rattle.sheet.specs.declared.Source.{Source}
 use Rattle.sheet.specs.declared.Source.the-variants.{Net, Gate as reads}
 use Rattle.sheet.specs.declared.Edge.{Edge}
@@ -29,8 +30,7 @@ newGates gs g = map (λ h. newGate (goneGates [] gs) (gateAt (joinedGates [] gs)
 
 -- how many fanins some gates have
 abbrev pub faninTotal : List DrawnGate → ℕ
-faninTotal [] = 0
-faninTotal (d ∷ ds) = length (d .fanins) + faninTotal ds
+faninTotal = sum (λ d. length (d .fanins))
 
 -- they were written: so many, with so many fanins, and the first g gates have new numbers
 pub record GatesWriting (gs : List DrawnGate) (g : ℕ) (numbers : List ℕ) (kept used : ℕ) (gates : List Gate) (fanins : List Edge) : Type 0 where

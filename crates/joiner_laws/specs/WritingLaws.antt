@@ -12,19 +12,21 @@ use Rattle.lists.specs.Trusted.Lists.{Every, from}
 use Rattle.lists.specs.Trusted.Tests.{elem}
 use Rattle.lists.specs.Cases.{by-eqb}
 use Rattle.lists.specs.ListLaws.{every-none, every-cons, every-head, permuted-length}
+use Rattle.lists.specs.NumberLaws.{sum-append, from-length}
 use Rattle.sheet.specs.declared.Source.{Source}
 use Rattle.sheet.specs.declared.Source.the-variants.{Net, Gate as reads}
 use Rattle.sheet.specs.declared.Edge.{Edge}
 use Rattle.sheet.specs.declared.Gate.{Gate}
 use Rattle.sheet.specs.Trusted.Limits.{mostGates, faninRoom}
-use Rattle.sheet.specs.Trusted.Sheet.{DrawnGate, DrawnSheet, netOf, gateOf, faninNets, faninGates, leafNets, gatesRead}
+use Rattle.sheet.specs.Trusted.Sheet.{DrawnGate, DrawnSheet, gateOf, faninNets, faninGates, leafNets, gatesRead}
 use Rattle.sheet.specs.Trusted.Answers.{drawnGate, drawnGates}
 use Rattle.sheet.specs.Trusted.Formed.{WellFormed}
+use Rattle.sheet.specs.SizeLaws.{fanins-split}
 use Rattle.sheet.specs.PlaceLaws.{noGate, noEdge, every-source}
 use Rattle.sheet.specs.StoreLaws.{drawn-same, taken-more, drawn-more, below-more}
 use Rattle.gate_fanins.specs.Fanins.{placeIn}
 use Rattle.joined.specs.JoinedSheet.{gateAt, joinedGates, goneGates, staying, newNumber, newSource, newFanin, newGate, joinedSheet}
-use Rattle.joined.specs.NumberingLaws.{from-length, staying-length, staying-last, staying-parts, number-up, number-same}
+use Rattle.joined.specs.NumberingLaws.{staying-length, staying-last, staying-parts, number-up, number-same}
 use Rattle.joined.specs.SheetLaws.{joined-formed, joined-length, joined-reads}
 use Rattle.joiner_laws.specs.declared.JoinedGate.{JoinedGate}
 use Rattle.joiner_laws.specs.Joining.{GateIs}
@@ -33,23 +35,12 @@ use Rattle.joiner_laws.specs.Writing.{withNumber, renumberedEdge, newGat
 -- ---- how many fanins there are
 
 total-append : (ds es : List DrawnGate) → faninTotal (ds ++ es) ≡ faninTotal ds + faninTotal es
-total-append [] es = omega arith
-total-append (d ∷ ds) es = omega (arith, total-append ds es)
-
--- each reads a net or a gate
-fanins-read : (fs : List Edge) → length fs ≡ length (faninNets fs) + length (faninGates fs)
-fanins-read [] = refl
-fanins-read (f ∷ fs) =
-    omega (arith, fanins-read fs, length-append (netOf (f .source)) (faninNets fs), length-append (gateOf (f .source)) (faninGates fs), one (f .source))
-  where
-    one : (s : Source) → length (netOf s) + length (gateOf s) ≡ 1
-    one (Net n) = refl
-    one (reads g) = refl
+total-append = sum-append (λ d. length (d .fanins))
 
 total-read : (ds : List DrawnGate) → faninTotal ds ≡ length (leafNets ds) + length (gatesRead ds)
 total-read [] = refl
 total-read (d ∷ ds) =
-    omega (arith, total-read ds, fanins-read (d .fanins), length-append (faninNets (d .fanins)) (leafNets ds), length-append (faninGates (d .fanins)) (gatesRead ds))
+    omega (arith, total-read ds, fanins-split (d .fanins), length-append (faninNets (d .fanins)) (leafNets ds), length-append (faninGates (d .fanins)) (gatesRead ds))
 
 -- a sheet has room for its own
 total-most : (s : DrawnSheet) → WellFormed s → faninTotal (s .gates) ≤ faninRoom

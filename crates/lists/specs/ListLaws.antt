@@ -173,6 +173,10 @@ getD-any [] i y z h = absurd (omega arith)
 getD-any (x ∷ xs) zero y z h = refl
 getD-any (x ∷ xs) (suc i) y z h = getD-any xs i y z (omega arith)
 
+pub every-map : {A B : Type 0} (P : B → Type 0) (f : A → B) (xs : List A) → Every (λ x. P (f x)) xs → Every P (map f xs)
+every-map P f [] h = every-none _
+every-map P f (x ∷ xs) h = every-cons (every-head h) (every-map P f xs (every-tail h))
+
 pub map-at : {A B : Type 0} (f : A → B) (xs : List A) (i : ℕ) (x : A) (y : B) → i < length xs → getD (map f xs) i y ≡ f (getD xs i x)
 map-at f [] i x y l = absurd (omega arith)
 map-at f (a ∷ xs) zero x y l = refl

@@ -1,4 +1,4 @@
--- Laws of lists of numbers: sums, the numbers below n, and numbers put in order, of which the result has the same numbers, is
+-- Laws of lists of numbers: sums, the numbers below n or from g on, and numbers put in order, of which the result has the same numbers, is
 -- sorted, and is the only such list; a sorted list in which no number stands twice is strictly rising.
 use Prim.Native.Nat.{ℕ, zero, suc, _+_, _≤_, _<_}
 use native.Mathlib.Omega.{arith}
@@ -61,7 +61,11 @@ upto-at zero i z h = absurd (omega arith)
 upto-at (suc n) zero z h = refl
 upto-at (suc n) (suc i) z h = up-at (upto n) i z (omega (arith, upto-length n)) ∙ ap suc (upto-at n i z (omega arith))
 
--- ---- the numbers from 1 on
+-- ---- the numbers from 1 on, or from another
+
+pub from-length : (g n : ℕ) → length (from g n) ≡ n
+from-length g zero = refl
+from-length g (suc n) = ap suc (from-length (suc g) n)
 
 from-up : (g n : ℕ) → from (suc g) n ≡ map suc (from g n)
 from-up g zero = refl

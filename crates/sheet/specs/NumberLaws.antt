@@ -3,7 +3,7 @@ use Prim.Native.Nat.{ℕ, zero, suc, _+_, _≤_, _<_}
 use native.Mathlib.Omega.{arith}
 use mathlib.Core.Path.{sym, subst}
 use mathlib.Core.Logic.{_≢_}
-use mathlib.Core.Bool.{Bool, true, false, not, _||_}
+use mathlib.Core.Bool.{not, _||_}
 use mathlib.Core.List.{List, [], _∷_, _++_, List·Memᴰ·not-nil}
 use lib.Dec.{T, eqb}
 use Rattle.lists.specs.Trusted.Lists.{_∈_, first, later, Every, Distinct, Inserted, here, there, Permuted, empty, more, from}
@@ -15,10 +15,6 @@ use Rattle.decimal.specs.Trusted.Number.{Number}
 use Rattle.sheet.specs.Trusted.Read.{counts}
 
 -- ---- tests
-
-pub by-test : (P : Bool → Type 0) (b : Bool) → (T b → P true) → (T (not b) → P false) → P b
-by-test P true f g = f tt
-by-test P false f g = g tt
 
 pub counts-holds : (low high : ℕ) (x : Number) → T (counts low high x) → (low ≤ x .magnitude) × (x .magnitude ≤ high)
 counts-holds low high x t = reflects-within low high (x .magnitude) .to (and-split (not (x .negative)) (within low high (x .magnitude)) t .1)

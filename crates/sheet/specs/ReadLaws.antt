@@ -9,7 +9,7 @@ use lib.Dec.{ltb, ltb→lt, eqb→eq}
 use lib.ListN.{length, length-append}
 use Rattle.lists.specs.Trusted.Lists.{_∈_, Every, Distinct, Permuted, from}
 use Rattle.lists.specs.ListLaws.{every-none, every-cons, every-head, every-append, permuted-sym}
-use Rattle.lists.specs.Cases.{and-split}
+use Rattle.lists.specs.Cases.{by-test, and-split}
 use Rattle.lists.specs.Trusted.Tests.{within}
 use Rattle.lists.specs.TestLaws.{reflects-elem, reflects-within}
 use Rattle.tree.specs.Trusted.Limits.{greatestNet, fewestFanins, mostFanins, codeBase}
@@ -24,7 +24,7 @@ use Rattle.sheet.specs.declared.Edge.{Edge as Fanin}
 use Rattle.sheet.specs.Trusted.Sheet.{DrawnGate, DrawnSheet, netOf, gateOf, codeOf, faninNets, faninGates, leafNets, gatesRead}
 use Rattle.sheet.specs.Trusted.Read.{Seen, nothing, headOf, sourceOf, readSource, readFanin, readFanins, gateHeadOf, readGate, readLeft, readUnread, readSheet}
 use Rattle.sheet.specs.Trusted.Formed.{Net, LeafNet, FaninCount, Before, Earlier, WellFormed}
-use Rattle.sheet.specs.NumberLaws.{by-test, counts-holds, not-eqb, not-elem, distinct-end, distinct-permuted, same-numbers, from-once, in-from}
+use Rattle.sheet.specs.NumberLaws.{counts-holds, not-eqb, not-elem, distinct-end, distinct-permuted, same-numbers, from-once, in-from}
 
 -- what holds of the nets and gates read so far
 pub record SeenSound (out : ℕ) (seen : Seen) : Type 0 where

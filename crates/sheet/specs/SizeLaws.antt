@@ -8,6 +8,7 @@ use lib.ListN.{length, take, drop, length-append, length-drop}
 use Rattle.lists.specs.Trusted.Lists.{Every, from}
 use Rattle.lists.specs.Sequences.{sum}
 use Rattle.lists.specs.ListLaws.{every-head, every-tail, permuted-length}
+use Rattle.lists.specs.NumberLaws.{from-length}
 use Rattle.tree.specs.Measures.{leaves}
 use Rattle.lists.specs.Trusted.Checked.{passed}
 use Rattle.lists.specs.CheckedLaws.{Meets, on, meets-any, meets-of, meets-bind, meets-require, meets-given}
@@ -104,7 +105,7 @@ source-one : (s : Source) → length (netOf s) + length (gateOf s) ≡ 1
 source-one (net n) = refl
 source-one (gate g) = refl
 
-fanins-split : (fs : List Fanin) → length (faninNets fs) + length (faninGates fs) ≡ length fs
+pub fanins-split : (fs : List Fanin) → length (faninNets fs) + length (faninGates fs) ≡ length fs
 fanins-split [] = refl
 fanins-split (f ∷ fs) = simp length-append (omega (arith, source-one (f .source), fanins-split fs))
 
@@ -115,10 +116,6 @@ lines-split (g ∷ gs) = simp length-append (omega (arith, fanins-split (g .fani
 fanins-many : (gs : List DrawnGate) → Every FaninCount gs → 2 * length gs ≤ length (leafNets gs) + length (gatesRead gs)
 fanins-many [] h = omega arith
 fanins-many (g ∷ gs) h = simp length-append (omega (arith, fanins-split (g .fanins), every-head h, fanins-many gs (every-tail h)))
-
-from-length : (g n : ℕ) → length (from g n) ≡ n
-from-length g zero = refl
-from-length g (suc n) = ap suc (from-length (suc g) n)
 
 -- A SHEET THAT WAS READ IS SHORT: each gate but the root is read once, and each has two fanins, so that there are fewer gates than leaves
 pub read-short : (text : List ℕ) (s : DrawnSheet) → readSheet text ≡ passed s → length text ≤ 13 + 25 * (length (leaves (treeOf s)) - 1)
