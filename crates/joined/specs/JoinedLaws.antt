@@ -64,15 +64,15 @@ meet-assoc and false b c = refl
 meet-assoc or true b c = refl
 meet-assoc or false b c = refl
 
-unit-meet : (k : Kind) (a : Bool) → meet k (unit k) a ≡ a
-unit-meet and a = refl
-unit-meet or a = refl
+meet-unit : (k : Kind) (a : Bool) → meet k (unit k) a ≡ a
+meet-unit and a = refl
+meet-unit or a = refl
 
-meet-unit : (k : Kind) (a : Bool) → meet k a (unit k) ≡ a
-meet-unit and true = refl
-meet-unit and false = refl
-meet-unit or true = refl
-meet-unit or false = refl
+meet-unit-right : (k : Kind) (a : Bool) → meet k a (unit k) ≡ a
+meet-unit-right and true = refl
+meet-unit-right and false = refl
+meet-unit-right or true = refl
+meet-unit-right or false = refl
 
 turned-turned : (i j b : Bool) → turned (turned i j) b ≡ turned i (turned j b)
 turned-turned false j b = refl
@@ -105,7 +105,7 @@ chained-meet true or or a b h = absurd h
 
 module _ (σ : ℕ → Bool) where
   then-values : (k : Kind) (es fs : Edges) → values (es then fs) k σ ≡ meet k (values es k σ) (values fs k σ)
-  then-values k none fs = sym (unit-meet k _)
+  then-values k none fs = sym (meet-unit k _)
   then-values k (edge i t es) fs = ap (meet k _) (then-values k es fs) ∙ sym (meet-assoc k _ _ _)
 
   turned-values : (i : Bool) (k j : Kind) (es : Edges) → T (chained i k j) → values (turnedOver i es) k σ ≡ turned i (values es j σ)
@@ -115,7 +115,7 @@ module _ (σ : ℕ → Bool) where
 
   place-values : (k : Kind) (n : ℕ) (i : Bool) (t : Node) → values (inPlace k n i t) k σ ≡ turned i (value t σ)
   place-values k n i =
-      by-joins (λ t fs. values fs k σ ≡ turned i (value t σ)) k n i (λ t u. meet-unit k _) (λ j es c l. turned-values i k j es c)
+      by-joins (λ t fs. values fs k σ ≡ turned i (value t σ)) k n i (λ t u. meet-unit-right k _) (λ j es c l. turned-values i k j es c)
 
   from-values : (k : Kind) (n : ℕ) (es : Edges) → values (joinedFrom k n es) k σ ≡ values es k σ
   from-values k n none = refl
