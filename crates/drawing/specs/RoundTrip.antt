@@ -26,6 +26,7 @@ use Rattle.sheet.specs.Trusted.Line.{fields}
 use Rattle.sheet.specs.Trusted.Sheet.{DrawnGate, DrawnSheet, netOf, gateOf, codeOf, faninNets, faninGates, leafNets, gatesRead}
 use Rattle.sheet.specs.Trusted.Read.{Seen, nothing, headOf, sourceOf, readSource, readFanins, kindOf, gateHeadOf, readGate, readLeft, readUnread, readSheet}
 use Rattle.sheet.specs.Trusted.Formed.{Net, LeafNet, FaninCount, Before, Earlier, WellFormed}
+use Rattle.sheet.specs.NumberLaws.{distinct-left}
 use Rattle.sheet.specs.ReadLaws.{gates-distinct}
 use Rattle.drawing.specs.Trusted.Written.{signedNumber, plainNumber, fieldsText, headNumbers, kindNumber, faninNumber, gateNumbers, gateText, written}
 use Rattle.drawing.specs.LineLaws.{line-written, fields-written}
@@ -98,10 +99,6 @@ seenWith seen ns gs = record { nets = seen .nets ++ ns; gates = seen .gates ++ g
 
 seen-both : (seen : Seen) (ns ms gs hs : List ℕ) → seenWith (seenWith seen ns gs) ms hs ≡ seenWith seen (ns ++ ms) (gs ++ hs)
 seen-both seen ns ms gs hs = ap₂ (λ x y. record { nets = x; gates = y }) (append-assoc (seen .nets) ns ms) (append-assoc (seen .gates) gs hs)
-
-distinct-left : (xs ys : List ℕ) → Distinct (xs ++ ys) → Distinct xs
-distinct-left [] ys d = tt
-distinct-left (x ∷ xs) ys d = (every-left xs ys (d .0), distinct-left xs ys (d .1))
 
 new-last : (xs : List ℕ) (x : ℕ) → Distinct (xs ++ (x ∷ [])) → ¬ (x ∈ xs)
 new-last (y ∷ ys) x d (first e) = every-right ys (x ∷ []) (d .0) x (first refl) (sym e)

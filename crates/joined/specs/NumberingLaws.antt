@@ -9,11 +9,11 @@ use lib.Dec.{T, not-T}
 use lib.ListN.{length, getD, length-append}
 use lib.Seq.{getD-append-seam}
 use Rattle.lists.specs.Trusted.Lists.{Every, Distinct, Permuted, from}
-use Rattle.lists.specs.ListLaws.{every-none, every-cons, every-head, every-tail, every-append, every-right, gather-append, gather-permuted}
+use Rattle.lists.specs.ListLaws.{every-none, every-cons, every-head, every-tail, every-append, gather-append, gather-permuted}
 use Rattle.lists.specs.Trusted.Tests.{elem}
 use Rattle.lists.specs.TestLaws.{reflects-elem}
 use Rattle.lists.specs.Cases.{by-test}
-use Rattle.sheet.specs.NumberLaws.{distinct-permuted}
+use Rattle.sheet.specs.NumberLaws.{distinct-apart, distinct-permuted}
 use Rattle.sheet.specs.TreeLaws.{from-end}
 use Rattle.joined.specs.JoinedSheet.{stay, staying, newNumber}
 
@@ -36,12 +36,7 @@ pub from-below : (g n : ℕ) → Every (λ j. j < g + n) (from g n)
 from-below g zero = every-none _
 from-below g (suc n) = every-cons (omega arith) (λ j m. let h = from-below (suc g) n j m in omega arith)
 
--- ---- numbers that stand once, in two parts
-
-distinct-apart : (xs ys : List ℕ) → Distinct (xs ++ ys) → Every (λ y. Every (λ x. y ≢ x) xs) ys
-distinct-apart [] ys d = λ y m. every-none _
-distinct-apart (x ∷ xs) ys d =
-    λ y m. every-cons (λ e. every-right xs ys (d .0) y m (sym e)) (distinct-apart xs ys (d .1) y m)
+-- ---- numbers that stay
 
 module _ (gone : List ℕ) where
   abbrev pub Stays : ℕ → Type 0

@@ -48,7 +48,7 @@ joins-fewer k n m i (gate j es) l h =
     let p = and-split (chained i k j) _ h in
     and-both (chained i k j) _ (p .0) (le→leb (n + edgeCount es) mostFanins (omega (arith, leb→le (m + edgeCount es) mostFanins (p .1))))
 
-settled-more : (es : Edges) (k : Kind) (n m : ℕ) → n ≤ m → SettledFanins es k n → SettledFanins es k m
+pub settled-more : (es : Edges) (k : Kind) (n m : ℕ) → n ≤ m → SettledFanins es k n → SettledFanins es k m
 settled-more none k n m l h = tt
 settled-more (edge i t es) k n m l h =
     (not-T (isJoined k m i t) (λ u. T-not (isJoined k n i t) (h .0) (joins-fewer k n m i t l u)), h .1, settled-more es k n m l (h .2))

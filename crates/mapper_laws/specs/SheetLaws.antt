@@ -32,6 +32,7 @@ use Rattle.sheet.specs.declared.Sheet.{Sheet}
 use Rattle.sheet.specs.declared.Gate.{Gate as SheetGate}
 use Rattle.sheet.specs.Trusted.Answers.{drawnGate, drawnSheet}
 use Rattle.sheet.specs.Trusted.Formed.{WellFormed}
+use Rattle.sheet.specs.NumberLaws.{distinct-left}
 use Rattle.sheet.specs.ReadLaws.{gates-distinct}
 use Rattle.sheet.specs.PlaceLaws.{noGate, noSheetGate, earlier-at, gates-drawn, gate-drawn}
 use Rattle.pending.specs.declared.Lut.{Lut}
@@ -59,10 +60,6 @@ gather-at : {A B : Type 0} {P : B → Type 0} (f : A → List B) (xs : List A) (
 gather-at f [] i z h l = absurd (omega arith)
 gather-at f (x ∷ xs) zero z h l = every-left (f x) (gather f xs) h
 gather-at {P = P} f (x ∷ xs) (suc i) z h l = gather-at {P = P} f xs i z (every-right (f x) (gather f xs) h) (omega arith)
-
-distinct-left : (xs ys : List ℕ) → Distinct (xs ++ ys) → Distinct xs
-distinct-left [] ys d = tt
-distinct-left (x ∷ xs) ys d = (every-left xs ys (d .0), distinct-left xs ys (d .1))
 
 take-every : {A : Type 0} (P : A → Type 0) (xs : List A) (n : ℕ) (z : A) → n ≤ length xs → ((i : ℕ) → i < n → P (getD xs i z)) → Every P (take n xs)
 take-every P xs zero z l h = every-none _

@@ -7,7 +7,7 @@ use mathlib.Core.Bool.{not, _||_}
 use mathlib.Core.List.{List, [], _∷_, _++_, List·Memᴰ·not-nil}
 use lib.Dec.{T, eqb}
 use Rattle.lists.specs.Trusted.Lists.{_∈_, first, later, Every, Distinct, Inserted, here, there, Permuted, empty, more, from}
-use Rattle.lists.specs.ListLaws.{not-first, every-none, every-cons, every-head, every-tail, every-append, inserted-to, inserted-from, permuted-to}
+use Rattle.lists.specs.ListLaws.{not-first, every-none, every-cons, every-head, every-tail, every-append, every-left, every-right, inserted-to, inserted-from, permuted-to}
 use Rattle.lists.specs.Cases.{by-eqb, and-split}
 use Rattle.lists.specs.Trusted.Tests.{within, elem}
 use Rattle.lists.specs.TestLaws.{reflects-within}
@@ -33,6 +33,19 @@ pub distinct-end : (xs : List ℕ) (x : ℕ) → Distinct xs → Every (λ y. x 
 distinct-end [] x d f = (every-none _, tt)
 distinct-end (y ∷ ys) x d f =
     (every-append ys (x ∷ []) (d .0) (every-cons (λ e. every-head f (sym e)) (every-none _)), distinct-end ys x (d .1) (every-tail f))
+
+pub distinct-left : (xs ys : List ℕ) → Distinct (xs ++ ys) → Distinct xs
+distinct-left [] ys d = tt
+distinct-left (x ∷ xs) ys d = (every-left xs ys (d .0), distinct-left xs ys (d .1))
+
+pub distinct-right : (xs ys : List ℕ) → Distinct (xs ++ ys) → Distinct ys
+distinct-right [] ys d = d
+distinct-right (x ∷ xs) ys d = distinct-right xs ys (d .1)
+
+pub distinct-apart : (xs ys : List ℕ) → Distinct (xs ++ ys) → Every (λ y. Every (λ x. y ≢ x) xs) ys
+distinct-apart [] ys d = λ y m. every-none _
+distinct-apart (x ∷ xs) ys d =
+    λ y m. every-cons (λ e. every-right xs ys (d .0) y m (sym e)) (distinct-apart xs ys (d .1) y m)
 
 pub distinct-inserted : {x : ℕ} {xs ys : List ℕ} → Inserted x xs ys → Distinct xs → Every (λ y. x ≢ y) ys × Distinct ys
 distinct-inserted here d = d

@@ -1,0 +1,10 @@
+pub mod Trusted
+pub mod OneMore
+pub mod Grown
+pub mod GrownLaws
+pub mod OneMoreLaws
+pub mod GrownTrees
+pub mod GrownSheet
+pub mod MoreSettled
+pub mod Theorems
+pub mod Examples
