@@ -21,6 +21,7 @@ pub mod linked;
 pub mod list;
 pub mod list_cases;
 pub mod list_check;
+pub mod one_more;
 pub mod part;
 pub mod program;
 pub mod refusal;

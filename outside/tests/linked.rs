@@ -3,12 +3,14 @@
 
 mod common;
 
-use common::text;
+use common::{input, text};
 use outside::check::check_output;
 use outside::explain::reason;
 use outside::generate::case;
 use outside::linked::{check_list, map, read_list, refusal, Refused, LONGEST, NUMBERS};
+use outside::one_more::{grown, has_join, Place};
 use outside::program::read;
+use outside::sheet::Sheet;
 
 /// The list of 01's example, which has one table for each sheet, so that nothing is left free.
 const LIST: &str = "     4     8     2
@@ -52,6 +54,27 @@ fn generated_inputs() {
         let input = case(1, index).input;
         assert_eq!(check_output(&input, map(&input, &mut output)), Ok(()), "case {index}");
     }
+}
+
+/// Request 111: on a part of its own, a sheet without an edge to join takes as many tables with one leaf more as without it, or one more.
+#[test]
+fn one_leaf_more() {
+    let mut output = vec![0; LONGEST];
+    let mut used = |k: usize, sheet: &Sheet| {
+        let input = input(k as i64, 800, &sheet.text());
+        outside::list::read(map(input.as_bytes(), &mut output)).expect("a list").tables.len()
+    };
+    let mut seen = [0; 2];
+    for accepted in (0..3000).filter_map(|index| read(&case(12, index).input).ok()) {
+        for sheet in accepted.sheets.iter().filter(|sheet| !has_join(sheet)) {
+            for gate in 0..sheet.gates.len().min(3) {
+                let place = Place { gate, left: 1, inverted: gate == 1 };
+                let Some(grown) = grown(sheet, place) else { continue };
+                seen[used(accepted.k, &grown) - used(accepted.k, sheet)] += 1;
+            }
+        }
+    }
+    assert!(seen.iter().all(|&times| times > 1000), "{seen:?}");
 }
 
 #[test]

@@ -2,10 +2,9 @@
 use Prim.Native.Nat.{ℕ}
 use native.Mathlib.Omega.{arith}
 use mathlib.Core.Path.{_≡_, refl}
-use mathlib.Core.Bool.{Bool, true, false}
+use mathlib.Core.Bool.{true, false}
 use mathlib.Core.List.{List, [], _∷_, _++_, map}
-use Rattle.lists.specs.Trusted.Lists.{Every, here, there, from}
-use Rattle.lists.specs.Trusted.Tests.{elem}
+use Rattle.lists.specs.Trusted.Lists.{here, there, from}
 use Rattle.tree.specs.declared.Kind.{Kind}
 use Rattle.tree.specs.declared.Kind.the-variants.{And as and, Or as or}
 use Rattle.cover.specs.Trusted.Cover.{Least}
@@ -80,6 +79,30 @@ in-twos : Least 2 (covered six .tree) 5 × Least 2 (covered seven .tree) 6 × Le
 unfolding pack better least-of
 in-twos = (least-is 2 (omega arith) and _ tt, least-is 2 (omega arith) and _ tt, least-is 2 (omega arith) and _ tt)
 
+-- ---- a gate of nine fanins
+
+abbrev flat : ℕ → DrawnSheet
+flat n = sheet (drawnGate and (ports 1 n) ∷ [])
+
+nine-ten : OneMoreLeaf (flat 9) (flat 10)
+nine-ten = record {
+  inverted = false;
+  number = 10;
+  new-net = ((omega arith, omega arith, omega arith), not-elem 10 _ tt);
+  gates = at-gate {fs = ports 1 9} (omega arith) (there (there (there (there (there (there (there (there (there here)))))))));
+  same-out = refl;
+  same-sign = refl;
+}
+
+-- in tables of five inputs it rises, of six it stays
+in-fives : Least 5 (covered (flat 9) .tree) 2 × Least 5 (covered (flat 10) .tree) 3
+unfolding pack better least-of
+in-fives = (least-is 5 (omega arith) and _ tt, least-is 5 (omega arith) and _ tt)
+
+of-nine-and-ten : Least 6 (covered (flat 9) .tree) 2 × Least 6 (covered (flat 10) .tree) 2
+unfolding pack better least-of
+of-nine-and-ten = (least-is 6 (omega arith) and _ tt, least-is 6 (omega arith) and _ tt)
+
 -- ---- an edge to join: it rises by two
 
 -- gates 1 to 5 are ORs of three leaves, gate 6 an AND of these, gate 7 an AND of gate 6 and some leaves
@@ -105,7 +128,7 @@ joined-with-five = refl
 not-with-six : NoneJoined (overFive (ports 16 6))
 not-with-six = refl
 
--- joined, each OR shares a table of five inputs with two others; apart, it does not
+-- joined, each OR fills a table with two leaves or tables of the same gate; apart, no leaf stands beside the ORs
 rises-by-two : Least 5 (covered (overFive (ports 16 5)) .tree) 5 × Least 5 (covered (overFive (ports 16 6)) .tree) 7
 unfolding pack better least-of
 rises-by-two = (least-is 5 (omega arith) and _ tt, least-is 5 (omega arith) and _ tt)

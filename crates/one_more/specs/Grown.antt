@@ -6,13 +6,13 @@ use Rattle.plan.specs.declared.Key.{Key}
 use Rattle.plan.specs.Key.{key, leaf-key, _≼_}
 
 -- `d` tables more, and as many inputs
-abbrev pub raised : ℕ → Key → Key
-raised d a = key (a .below + d) (a .width)
+abbrev pub deeper : ℕ → Key → Key
+deeper d a = key (a .below + d) (a .width)
 
 -- `b` is no better than `a`, and worse by at most one table
 pub record Near (a b : Key) : Type 0 where
   pub low : a ≼ b
-  pub high : b ≼ raised 1 a
+  pub high : b ≼ deeper 1 a
 
 -- the second list has one leaf's key more than the first, or a near key in the place of one
 pub data Grown : List Key → List Key → Type 0 where

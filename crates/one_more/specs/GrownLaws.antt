@@ -14,45 +14,45 @@ use Rattle.plan.specs.Key.{leaf-key, _≼_, join}
 use Rattle.plan.specs.KeyLaws.{≼-refl, ≼-trans, pack-cases, is-pack, join-comm, join-mono}
 use Rattle.plan.specs.Reach.{Reach, one, both, LeastReach, Wide}
 use Rattle.plan.specs.ReachLaws.{no-reach, reach-wide, least-permuted}
-use Rattle.one_more.specs.Grown.{raised, Near, Grown, added, changed}
+use Rattle.one_more.specs.Grown.{deeper, Near, Grown, added, changed}
 
 -- ---- joins
 
 join-above : (K : ℕ) (a b : Key) → b ≼ join K a b
 join-above K a b = pack-cases K _ _ _ (λ r. b ≼ r) (omega arith) (omega arith) (omega arith)
 
-raised-join : (K d : ℕ) (a b : Key) → raised d (join K a b) ≡ join K (raised d a) b
-raised-join K d a b =
-    pack-cases K _ _ _ (λ r. raised d r ≡ join K (raised d a) b)
+deeper-join : (K d : ℕ) (a b : Key) → deeper d (join K a b) ≡ join K (deeper d a) b
+deeper-join K d a b =
+    pack-cases K _ _ _ (λ r. deeper d r ≡ join K (deeper d a) b)
     (λ p. is-pack _ K _ _ _ (omega arith))
     (λ p q. is-pack _ K _ _ _ (omega arith))
     (λ p q. is-pack _ K _ _ _ (omega arith))
 
 module _ (K : ℕ) (two : 2 ≤ K) where
-  join-leaf : (a : Key) → join K leaf-key a ≼ raised 1 a
-  join-leaf a = pack-cases K _ _ _ (λ r. r ≼ raised 1 a) (omega arith) (omega arith) (omega arith)
+  join-leaf : (a : Key) → join K leaf-key a ≼ deeper 1 a
+  join-leaf a = pack-cases K _ _ _ (λ r. r ≼ deeper 1 a) (omega arith) (omega arith) (omega arith)
 
-  join-raised : (d : ℕ) (a c : Key) {b : Key} → b ≼ raised d a → 1 ≤ a .width → 1 ≤ c .width → join K b c ≼ raised d (join K a c)
-  join-raised d a c h u v = rw (raised-join K d a c) (join-mono K two h (≼-refl c) u v)
+  join-deeper : (d : ℕ) (a c : Key) {b : Key} → b ≼ deeper d a → 1 ≤ a .width → 1 ≤ c .width → join K b c ≼ deeper d (join K a c)
+  join-deeper d a c h u v = rw (deeper-join K d a c) (join-mono K two h (≼-refl c) u v)
 
   -- ---- the first key changed
 
-  reach-raised : (d : ℕ) {x y a : Key} {ks : List Key} → y ≼ raised d x → Wide (x ∷ ks) → Reach K (x ∷ ks) a →
-      (b : Key) × Reach K (y ∷ ks) b × (b ≼ raised d a)
-  reach-raised d h w one = (_, one, h)
-  reach-raised d h w (both {a = a} {b = b} (left m) p q) =
+  reach-deeper : (d : ℕ) {x y a : Key} {ks : List Key} → y ≼ deeper d x → Wide (x ∷ ks) → Reach K (x ∷ ks) a →
+      (b : Key) × Reach K (y ∷ ks) b × (b ≼ deeper d a)
+  reach-deeper d h w one = (_, one, h)
+  reach-deeper d h w (both {a = a} {b = b} (left m) p q) =
       let v = mix-every (left m) w in
-      let r = reach-raised d h (v .0) p in
-      (_, both (left m) (r .1) q, join-raised d a b (r .2) (reach-wide two p (v .0)) (reach-wide two q (v .1)))
-  reach-raised d h w (both {a = a} {b = b} (right m) p q) =
+      let r = reach-deeper d h (v .0) p in
+      (_, both (left m) (r .1) q, join-deeper d a b (r .2) (reach-wide two p (v .0)) (reach-wide two q (v .1)))
+  reach-deeper d h w (both {a = a} {b = b} (right m) p q) =
       let v = mix-every (right m) w in
-      let r = reach-raised d h (v .1) q in
-      let l = join-raised d b a (r .2) (reach-wide two q (v .1)) (reach-wide two p (v .0)) in
+      let r = reach-deeper d h (v .1) q in
+      let l = join-deeper d b a (r .2) (reach-wide two q (v .1)) (reach-wide two p (v .0)) in
       (_, both (right m) p (r .1), rw (join-comm K a b, join-comm K a (r .0)) l)
 
-  least-raised : (d : ℕ) {x y a b : Key} {ks : List Key} → y ≼ raised d x → Wide (x ∷ ks) →
-      LeastReach K (x ∷ ks) a → LeastReach K (y ∷ ks) b → b ≼ raised d a
-  least-raised d h w l g = let r = reach-raised d h w (l .reach) in ≼-trans (g .least (r .0) (r .1)) (r .2)
+  least-deeper : (d : ℕ) {x y a b : Key} {ks : List Key} → y ≼ deeper d x → Wide (x ∷ ks) →
+      LeastReach K (x ∷ ks) a → LeastReach K (y ∷ ks) b → b ≼ deeper d a
+  least-deeper d h w l g = let r = reach-deeper d h w (l .reach) in ≼-trans (g .least (r .0) (r .1)) (r .2)
 
   -- ---- the first key left out
 
@@ -92,6 +92,6 @@ module _ (K : ℕ) (two : 2 ≤ K) where
       let f = least-permuted l (more i (permuted-refl ls)) in
       let h = least-permuted g (more j (permuted-refl ls)) in
       record {
-        low = rw add-zero at (least-raised 0 (rw add-zero (n .low)) (inserted-from j v) h f);
-        high = least-raised 1 (n .high) (inserted-from i w) f h;
+        low = rw add-zero at (least-deeper 0 (rw add-zero (n .low)) (inserted-from j v) h f);
+        high = least-deeper 1 (n .high) (inserted-from i w) f h;
       }

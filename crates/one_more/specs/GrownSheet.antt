@@ -4,12 +4,11 @@ use native.Mathlib.Omega.{arith}
 use mathlib.Core.Path.{_≡_, refl, sym, ap, subst}
 use mathlib.Core.Bool.{Bool}
 use mathlib.Core.List.{List, _++_}
-use lib.ListN.{length}
-use Rattle.lists.specs.Trusted.Lists.{Every, Inserted, here, there, Permuted}
+use Rattle.lists.specs.Trusted.Lists.{Every, Inserted, here, there}
 use Rattle.lists.specs.ListLaws.{every-cons, every-head, every-tail, inserted-to, inserted-left, inserted-right, inserted-length, permuted-refl, permuted-insert, permuted-sym}
 use Rattle.sheet.specs.declared.Edge.{Edge as Fanin}
 use Rattle.sheet.specs.Trusted.Sheet.{DrawnGate, DrawnSheet, netOf, gateOf, faninNets, faninGates, leafNets, gatesRead}
-use Rattle.sheet.specs.Trusted.Formed.{FaninCount, LeafNet, Net, Earlier, WellFormed}
+use Rattle.sheet.specs.Trusted.Formed.{FaninCount, Net, Earlier, WellFormed}
 use Rattle.sheet.specs.NumberLaws.{distinct-permuted}
 use Rattle.one_more.specs.Trusted.OneMoreLeaf.{leafFanin, OneMoreFanin, at-gate, after, OneMoreLeaf, FewerLeaves}
 use Rattle.one_more.specs.GrownTrees.{more-gates}

@@ -1,7 +1,7 @@
 -- The tree of a sheet with one leaf more is the sheet's tree with one leaf more (`tree-more`).
 -- By going through the gates in rising number: each gate but the root is read once, by a later one, so among the gates that are still to be read
 -- there is at every moment one whose tree has the leaf more, and all others have the trees that they had.
-use Prim.Native.Nat.{ℕ, suc, _+_, _-_, _<_, _≤_}
+use Prim.Native.Nat.{ℕ, suc, _+_, _-_, _<_}
 use native.Mathlib.Omega.{arith}
 use mathlib.Core.Path.{_≡_, refl, sym, ap, _∙_, subst, subst₂}
 use mathlib.Core.Logic.{_≢_}

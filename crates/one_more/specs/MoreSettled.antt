@@ -1,12 +1,11 @@
 -- A tree with one leaf more has no edge that would be joined, if the tree has none: gates have no fewer fanins, and no other edges.
-use Prim.Native.Nat.{ℕ, suc, _+_, _-_, _≤_}
+use Prim.Native.Nat.{ℕ, _+_, _-_, _≤_}
 use native.Mathlib.Omega.{arith}
-use mathlib.Core.Path.{_≡_}
 use mathlib.Core.Bool.{Bool}
-use lib.Dec.{T, leb, T-not, not-T, leb→le, le→leb}
+use lib.Dec.{T, T-not, not-T, leb→le, le→leb}
 use Rattle.lists.specs.Cases.{and-split, and-both}
 use Rattle.tree.specs.declared.Kind.{Kind}
-use Rattle.tree.specs.Trusted.Tree.{Node, gate, Edges, none, edge, edgeCount}
+use Rattle.tree.specs.Trusted.Tree.{Node, Edges, edgeCount}
 use Rattle.tree.specs.Trusted.Limits.{mostFanins}
 use Rattle.joined.specs.Trusted.Joined.{chained, isJoined}
 use Rattle.joined.specs.Settled.{Settled, SettledFanins}

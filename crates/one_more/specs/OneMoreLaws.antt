@@ -1,4 +1,4 @@
--- ONE LEAF MORE: with one leaf added to a gate, the least number of tables stays or rises by one (`one-more`).
+-- ONE LEAF MORE: with one leaf added to a gate, the least number of tables stays or rises by one (`grown-least`).
 -- By induction over the tree: the best key of the second tree is near to that of the first.
 use Prim.Native.Nat.{ℕ, suc, _≤_}
 use native.Mathlib.Omega.{arith}
@@ -81,8 +81,8 @@ module _ (K : ℕ) (two : 2 ≤ K) where
 
   -- ---- the least number
 
-  pub one-more : {t u : Node} {m n : ℕ} → T (proper t) → OneMore t u → Least K t m → Least K u n → (n ≡ m) ⊎ (n ≡ suc m)
-  one-more {m = m} {n = n} p (grow {k = k} {es = es} {fs = fs} o) l h =
+  pub grown-least : {t u : Node} {m n : ℕ} → T (proper t) → OneMore t u → Least K t m → Least K u n → (n ≡ m) ⊎ (n ≡ suc m)
+  grown-least {m = m} {n = n} p (grow {k = k} {es = es} {fs = fs} o) l h =
       let r = more-near (grow {k = k} o) p in
       let e = least-unique l (least-is K two k es p) in
       let f = least-unique h (least-is K two k fs (more-proper (grow {k = k} o) p)) in
@@ -102,5 +102,5 @@ mutual
       omega (arith, length-append (leaves t) (leaves* es), length-append (leaves t) (leaves* fs), fanins-leaves o)
 
 -- a tree of L leaves takes L - 1 tables of two inputs, so the number rises
-pub one-more-two : {t u : Node} {m n : ℕ} → OneMore t u → Least 2 t m → Least 2 u n → n ≡ suc m
-one-more-two o l h = omega (arith, more-leaves o, least-bounds 2 l, least-bounds 2 h)
+pub grown-least-two : {t u : Node} {m n : ℕ} → OneMore t u → Least 2 t m → Least 2 u n → n ≡ suc m
+grown-least-two o l h = omega (arith, more-leaves o, least-bounds 2 l, least-bounds 2 h)

@@ -4,9 +4,7 @@ use Prim.Native.Nat.{ℕ, suc, _≤_}
 use mathlib.Core.Path.{_≡_, subst}
 use mathlib.Core.Logic.{_⊎_}
 use mathlib.Core.List.{List}
-use lib.Dec.{T}
 use Rattle.lists.specs.Trusted.Checked.{passed}
-use Rattle.tree.specs.Measures.{proper}
 use Rattle.cover.specs.Trusted.Cover.{Least}
 use Rattle.sheet.specs.Trusted.Sheet.{DrawnSheet}
 use Rattle.sheet.specs.Trusted.Trees.{treeOf}
@@ -19,8 +17,7 @@ use Rattle.joined.specs.SettledLaws.{settled-unchanged, unchanged-settled}
 use Rattle.drawing.specs.Trusted.Written.{written}
 use Rattle.drawing.specs.RoundTrip.{read-written}
 use Rattle.one_more.specs.Trusted.OneMoreLeaf.{OneMoreLeaf, NoneJoined, FewerLeaves}
-use Rattle.one_more.specs.OneMore.{OneMore}
-use Rattle.one_more.specs.OneMoreLaws.{one-more, one-more-two}
+use Rattle.one_more.specs.OneMoreLaws.{grown-least, grown-least-two}
 use Rattle.one_more.specs.MoreSettled.{more-settled}
 use Rattle.one_more.specs.GrownTrees.{tree-more}
 use Rattle.one_more.specs.GrownSheet.{more-formed}
@@ -42,9 +39,9 @@ module _ (text : List ℕ) (s s′ : DrawnSheet) (accepted : readSheet text ≡ 
     -- THE LEAST NUMBER AT THE SAME K STAYS OR RISES BY ONE
     pub more-least : (K : ℕ) → 2 ≤ K → {m n : ℕ} → Least K (covered s .tree) m → Least K (covered s′ .tree) n → (n ≡ m) ⊎ (n ≡ suc m)
     more-least K two {m} {n} l h =
-        one-more K two (tree-proper s formed) (tree-more s s′ formed o) (subst (λ t. Least K t m) none l) (subst (λ t. Least K t n) more-none-joined h)
+        grown-least K two (tree-proper s formed) (tree-more s s′ formed o) (subst (λ t. Least K t m) none l) (subst (λ t. Least K t n) more-none-joined h)
 
     -- and with K of 2 it rises
     pub more-least-two : {m n : ℕ} → Least 2 (covered s .tree) m → Least 2 (covered s′ .tree) n → n ≡ suc m
     more-least-two {m} {n} l h =
-        one-more-two (tree-more s s′ formed o) (subst (λ t. Least 2 t m) none l) (subst (λ t. Least 2 t n) more-none-joined h)
+        grown-least-two (tree-more s s′ formed o) (subst (λ t. Least 2 t m) none l) (subst (λ t. Least 2 t n) more-none-joined h)
