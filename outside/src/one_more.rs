@@ -1,6 +1,7 @@
 //! One leaf more (02, request 111): sheets with a leaf added to a gate, what that does to their least numbers, and small trees to try it on.
 
 use std::collections::{BTreeMap, HashMap};
+use std::ops::RangeInclusive;
 
 use crate::join::{join, Chained};
 use crate::least::{below, fanin_keys, Key, Search};
@@ -74,19 +75,19 @@ impl Tree {
 pub fn small_trees(most: usize) -> Vec<Tree> {
     let mut all = vec![(1, Tree::Leaf)];
     for leaves in 2..=most {
-        let mut gates = Vec::new();
-        for inside in 0..=leaves {
-            for apart in multisets(&all, leaves - inside, all.len()) {
-                for chained in sequences(&all, inside) {
-                    if (2..=FANINS).contains(&(apart.len() + chained.len())) {
-                        gates.push((leaves, Tree::Gate { apart: apart.clone(), chained }));
-                    }
-                }
-            }
-        }
-        all.extend(gates);
+        let gates: Vec<Tree> = (0..=leaves).flat_map(|chained| gates(&all, leaves - chained, chained)).collect();
+        all.extend(gates.into_iter().map(|gate| (leaves, gate)));
     }
     all.into_iter().skip(1).map(|(_, tree)| tree).collect()
+}
+
+/// All gates over these trees, with so many leaves in the trees that are apart, and so many in the chained ones.
+fn gates(trees: &[(usize, Tree)], apart: usize, chained: usize) -> Vec<Tree> {
+    let sequences = sequences(trees, chained);
+    let pairs =
+        multisets(trees, apart, trees.len()).into_iter().flat_map(|apart| sequences.iter().map(move |chained| (apart.clone(), chained)));
+    let gates = pairs.filter(|(apart, chained)| (2..=FANINS).contains(&(apart.len() + chained.len())));
+    gates.map(|(apart, chained)| Tree::Gate { apart, chained: chained.clone() }).collect()
 }
 
 /// All lists of the first `count` trees that have so many leaves together, in one order each.
@@ -118,29 +119,30 @@ fn after(tree: &Tree, mut rest: Vec<Tree>) -> Vec<Tree> {
     rest
 }
 
-/// Trees of two or three chained gates, each over leaves and gates of `width` leaves, as many of these together as `fanins` says: one gate
-/// below the root, two beside one another, or one below the other.
-pub fn chained_trees(width: usize, fanins: std::ops::RangeInclusive<usize>) -> Vec<Tree> {
-    let items = |count: usize| (0..=count).map(move |wide| [vec![Tree::Leaf; count - wide], vec![Tree::flat(width); wide]].concat());
-    let gate = |apart: &[Tree], chained: &[Tree]| Tree::Gate { apart: apart.to_vec(), chained: chained.to_vec() };
-    let mut all = Vec::new();
-    for (root, one, two) in triples(FANINS - 2, FANINS - 1, FANINS).filter(|(root, one, two)| fanins.contains(&(root + one + two))) {
-        for root in items(root) {
-            for one in items(one) {
-                for two in items(two) {
-                    match (root.len(), one.len(), two.len()) {
-                        (1.., 2.., 0) => all.push(gate(&root, &[gate(&one, &[])])),
-                        (0.., 1.., 2..) => {
-                            all.extend((one.len() > 1).then(|| gate(&root, &[gate(&one, &[]), gate(&two, &[])])));
-                            all.extend((!root.is_empty()).then(|| gate(&root, &[gate(&one, &[gate(&two, &[])])])));
-                        }
-                        _ => {}
-                    }
-                }
-            }
-        }
+/// Trees of two or three chained gates, each over leaves and gates of `width` leaves, as many of these together as `fanins` says.
+pub fn chained_trees(width: usize, fanins: RangeInclusive<usize>) -> Vec<Tree> {
+    let items = |count: usize, wide: usize| [vec![Tree::Leaf; count - wide], vec![Tree::flat(width); wide]].concat();
+    let counts = triples(FANINS - 2, FANINS - 1, FANINS).filter(|(root, one, two)| fanins.contains(&(root + one + two)));
+    let trees = |(root, one, two)| {
+        let wide = triples(root, one, two);
+        wide.flat_map(move |wide| arranged(&items(root, wide.0), &items(one, wide.1), &items(two, wide.2)))
+    };
+    counts.flat_map(trees).collect()
+}
+
+/// The trees of chained gates over these fanins, `root` those of the root: one gate below it, or two, beside one another or one below the other.
+fn arranged(root: &[Tree], one: &[Tree], two: &[Tree]) -> Vec<Tree> {
+    let gate = |apart: &[Tree], chained: Vec<Tree>| Tree::Gate { apart: apart.to_vec(), chained };
+    let single = || gate(root, vec![gate(one, vec![])]);
+    let beside = || gate(root, vec![gate(one, vec![]), gate(two, vec![])]);
+    let nested = || gate(root, vec![gate(one, vec![gate(two, vec![])])]);
+    match (root.len(), one.len(), two.len()) {
+        (1.., 2.., 0) => vec![single()],
+        (0, 2.., 2..) => vec![beside()],
+        (1.., 1, 2..) => vec![nested()],
+        (1.., 2.., 2..) => vec![beside(), nested()],
+        _ => vec![],
     }
-    all
 }
 
 /// All triples of numbers from 0 to these.

@@ -46,9 +46,8 @@ fn stays_or_rises_by_every_cover() {
         let before = splittings(&sheet);
         for gate in 0..sheet.gates.len() {
             let after = splittings(&grown(&sheet, Place { gate, left: 0, inverted: false }).expect("room"));
-            for k in 2..=6 {
-                let change = exhaustive::least(&after, k) - exhaustive::least(&before, k);
-                seen[k][change] += 1;
+            for (k, seen) in seen.iter_mut().enumerate().skip(2) {
+                seen[exhaustive::least(&after, k) - exhaustive::least(&before, k)] += 1;
             }
         }
     }

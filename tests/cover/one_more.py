@@ -29,7 +29,7 @@ def gate(kind, *fanins):
     return [kind, len(fanins), *fanins]
 
 
-SIX = [gate(OR, 1, 2), gate(AND, 3, 4, 5, 6, 10001)]
+SIX = [gate(OR, 1, 2), gate(AND, 10001, 3, 4, 5, 6)]
 SEVEN = grown(SIX, 1, 1, -7)
 EIGHT = grown(SEVEN, 2, 0, 8)
 NINE = [gate(AND, *range(1, 10))]

@@ -13,7 +13,6 @@ use Rattle.tree.specs.declared.Kind.{Kind}
 use Rattle.tree.specs.Trusted.Tree.{Node, gate, Edges, none, edge}
 use Rattle.tree.specs.Measures.{many, proper, propers, leaves, leaves*}
 use Rattle.cover.specs.Trusted.Cover.{Least}
-use Rattle.cover.specs.Nets.{least-bounds}
 use Rattle.plan.specs.Reach.{LeastReach, Wide}
 use Rattle.plan.specs.ReachLaws.{chain, bests-wide}
 use Rattle.plan.specs.SubsetLaws.{least-of-least}
@@ -88,10 +87,10 @@ module _ (K : ℕ) (two : 2 ≤ K) where
       let f = least-unique h (least-is K two k fs (more-proper (grow {k = k} o) p)) in
       by-leb (λ b. (n ≡ m) ⊎ (n ≡ suc m)) n m (λ g. inl (omega (arith, r .low .count))) (λ g. inr (omega (arith, r .high .count)))
 
--- ---- with K of 2
+-- ---- leaves
 
 mutual
-  more-leaves : {t u : Node} → OneMore t u → length (leaves u) ≡ suc (length (leaves t))
+  pub more-leaves : {t u : Node} → OneMore t u → length (leaves u) ≡ suc (length (leaves t))
   more-leaves (grow o) = fanins-leaves o
 
   fanins-leaves : {es fs : Edges} → OneMore* es fs → length (leaves* fs) ≡ suc (length (leaves* es))
@@ -100,7 +99,3 @@ mutual
       omega (arith, length-append (leaves t) (leaves* es), length-append (leaves u) (leaves* es), more-leaves o)
   fanins-leaves (later {t = t} {es = es} {fs = fs} o) =
       omega (arith, length-append (leaves t) (leaves* es), length-append (leaves t) (leaves* fs), fanins-leaves o)
-
--- a tree of L leaves takes L - 1 tables of two inputs, so the number rises
-pub grown-least-two : {t u : Node} {m n : ℕ} → OneMore t u → Least 2 t m → Least 2 u n → n ≡ suc m
-grown-least-two o l h = omega (arith, more-leaves o, least-bounds 2 l, least-bounds 2 h)

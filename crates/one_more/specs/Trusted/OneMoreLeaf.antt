@@ -21,22 +21,22 @@ use Rattle.joined.specs.Trusted.Joined.{joinedTree}
 abbrev pub leafFanin : Bool → ℕ → Fanin
 leafFanin i n = record { inverted = i; source = net n }
 
--- the second list has the gates of the first, but that one of them, "with at most 9 fanins", has the fanin f more, at any place
+-- the second list has the gates of the first, but that one of them, "a gate with at most 9 fanins", has the fanin f more, at any place
 pub data OneMoreFanin (f : Fanin) : List DrawnGate → List DrawnGate → Type 0 where
   at-gate : {k : Kind} {fs gs : List Fanin} {xs : List DrawnGate} → length fs < mostFanins → Inserted f gs fs →
       OneMoreFanin f (record { kind = k; fanins = fs } ∷ xs) (record { kind = k; fanins = gs } ∷ xs)
   after : {x : DrawnGate} {xs ys : List DrawnGate} → OneMoreFanin f xs ys → OneMoreFanin f (x ∷ xs) (x ∷ ys)
 
--- a net that a leaf may have, and that no leaf has
+-- "a net new to the sheet": a net that is not the output's, and that no leaf has
 abbrev pub NewNet : DrawnSheet → ℕ → Type 0
 NewNet s n = LeafNet (s .out) n × Every (λ m. n ≢ m) (leafNets (s .gates))
 
 -- "With one leaf of a net new to the sheet added to that gate"
 pub record OneMoreLeaf (s s′ : DrawnSheet) : Type 0 where
   pub inverted : Bool
-  pub number : ℕ
-  pub new-net : NewNet s number
-  pub gates : OneMoreFanin (leafFanin inverted number) (s .gates) (s′ .gates)
+  pub leaf-net : ℕ
+  pub new-net : NewNet s leaf-net
+  pub gates : OneMoreFanin (leafFanin inverted leaf-net) (s .gates) (s′ .gates)
   pub same-out : s′ .out ≡ s .out
   pub same-sign : s′ .inverted ≡ s .inverted
 
