@@ -65,7 +65,7 @@ one-longer ts t e = omega (arith, length-append ts (t ∷ []))
 
 -- ---- the gates that are left
 
--- n gates in all, of which `gs` are those after the first m: each of them but the last is read, and none twice
+-- n gates in all, of which `gs` are those after the first m: each of them but the last is read by one of them, and they read no gate twice
 record Left (m n : ℕ) (gs : List DrawnGate) : Type 0 where
   size : m + length gs ≡ n
   earlier : Earlier (suc m) gs
@@ -76,17 +76,20 @@ not-left : {a : ℕ} (xs : List ℕ) {ys : List ℕ} → Every (λ x. a ≢ x) x
 not-left [] h m = m
 not-left (x ∷ xs) h m = not-left xs (every-tail h) (not-first (every-head h) m)
 
+-- the next gate and those after it are read by the gates after it
+read-later : {m n : ℕ} {x : DrawnGate} {gs : List DrawnGate} → Left m n (x ∷ gs) → (j : ℕ) → m < j → j < n → j ∈ gatesRead gs
+read-later {x = x} h j l u = not-left (faninGates (x .fanins)) (λ i k. let b = h .earlier .0 i k in omega arith) (h .all j l u)
+
 left-next : {m n : ℕ} {x : DrawnGate} {gs : List DrawnGate} → Left m n (x ∷ gs) → Left (suc m) n gs
 left-next {x = x} h = record {
   size = omega (arith, h .size);
   earlier = h .earlier .1;
   once = distinct-right (faninGates (x .fanins)) _ (h .once);
-  all = λ j l u. not-left (faninGates (x .fanins)) (λ i k. let b = h .earlier .0 i k in omega arith) (h .all j (omega arith) u);
+  all = λ j l u. read-later h j (omega arith) u;
 }
 
--- the first of them is read by those after it, if it is not the last
-new-read : {m n : ℕ} {x : DrawnGate} {gs : List DrawnGate} → Left m n (x ∷ gs) → suc m ≢ n → suc m ∈ gatesRead gs
-new-read {m} {x = x} h d = not-left (faninGates (x .fanins)) (λ i k. let b = h .earlier .0 i k in omega arith) (h .all (suc m) (omega arith) (omega (arith, h .size, d)))
+next-read : {m n : ℕ} {x : DrawnGate} {gs : List DrawnGate} → Left m n (x ∷ gs) → suc m ≢ n → suc m ∈ gatesRead gs
+next-read {m} h d = read-later h (suc m) (omega arith) (omega (arith, h .size, d))
 
 -- ---- the trees
 
@@ -104,7 +107,7 @@ module _ {n : ℕ} where
     abbrev reads : List ℕ
     reads = faninGates (x .fanins)
 
-    -- the tree of a gate that is to be read stays the same with the next gate's tree, if it is not that gate, or the next gate's is the same
+    -- a gate that is to be read, and is not gate c, has the same tree in both lists with the next gate's trees too: that gate itself, if they are the same
     next-same : (t u : Node) (j : ℕ) → j ∈ gatesRead gs → j ≢ c → Before (suc (suc m)) j → (j ≡ suc m → t ≡ u) → treeAt (ts ++ (t ∷ [])) j ≡ treeAt (us ++ (u ∷ [])) j
     next-same t u j k d b e =
         by-leb (λ h. treeAt (ts ++ (t ∷ [])) j ≡ treeAt (us ++ (u ∷ [])) j) j m
@@ -112,7 +115,7 @@ module _ {n : ℕ} where
         (λ h. let p : j ≡ suc m = omega arith in
         ap (treeAt (ts ++ (t ∷ []))) p ∙ (new-tree ts t (g .sizes .0) ∙ (e p ∙ (sym (new-tree us u (g .sizes .1)) ∙ ap (treeAt (us ++ (u ∷ []))) (sym p)))))
 
-    -- the next gate reads gate c: its tree has the leaf more
+    -- the next gate reads gate c: then its tree has the leaf more
     by-reader : c ∈ reads → Grew (ts ++ (treeFor ts x ∷ [])) (us ++ (treeFor us x ∷ [])) (suc m) n (suc m) (gatesRead gs)
     by-reader r =
         let q = drawn-out r in
@@ -125,11 +128,11 @@ module _ {n : ℕ} where
           sizes = (one-longer ts _ (g .sizes .0), one-longer us _ (g .sizes .1));
           place = omega arith;
           more = subst₂ OneMore (sym (new-tree ts _ (g .sizes .0))) (sym (new-tree us _ (g .sizes .1))) now;
-          read = new-read l;
+          read = next-read l;
           same = λ j k d b. next-same _ _ j k (λ e. distinct-apart reads (gatesRead gs) (l .once) j k c r e) b (λ e. absurd (d e));
         }
 
-    -- it does not: its tree is the same
+    -- it does not: then its tree is the same
     by-other : Every (λ j. c ≢ j) reads → Grew (ts ++ (treeFor ts x ∷ [])) (us ++ (treeFor us x ∷ [])) (suc m) n c (gatesRead gs)
     by-other r =
         let own : Same ts us reads = λ j k. every-left reads (gatesRead gs) (g .same) j k (λ e. r j k (sym e)) (l .earlier .0 j k) in
@@ -160,7 +163,7 @@ module _ {n : ℕ} where
           sizes = (one-longer ts _ e, one-longer ts _ e);
           place = omega arith;
           more = subst₂ OneMore (sym (new-tree ts _ e)) (sym (new-tree ts _ e)) (grow (leaf-edges ts f));
-          read = new-read l;
+          read = next-read l;
           same = λ j k d b. kept-at ts _ e (omega arith) ∙ sym (kept-at ts _ e (omega arith));
         })
 

@@ -4,10 +4,10 @@ use Prim.Native.Nat.{ℕ, suc, _≤_}
 use native.Mathlib.Omega.{arith}
 use mathlib.Core.Path.{_≡_, refl}
 use mathlib.Core.Logic.{_⊎_, inl, inr}
-use mathlib.Core.Bool.{Bool, true, false, _&&_}
+use mathlib.Core.Bool.{Bool, _&&_}
 use lib.Dec.{T}
 use lib.ListN.{length, length-append}
-use Rattle.lists.specs.Cases.{and-split, by-leb}
+use Rattle.lists.specs.Cases.{and-split, and-both, by-leb}
 use Rattle.lists.specs.Trusted.Lists.{here as first, there}
 use Rattle.tree.specs.declared.Kind.{Kind}
 use Rattle.tree.specs.Trusted.Tree.{Node, gate, Edges, none, edge}
@@ -24,9 +24,7 @@ use Rattle.one_more.specs.GrownLaws.{grown-near}
 -- ---- each gate of the second tree has two fanins or more
 
 and-map : (a b c d : Bool) → (T a → T c) → (T b → T d) → T (a && b) → T (c && d)
-and-map true b true d f g h = g h
-and-map true b false d f g h = f tt
-and-map false b c d f g h = absurd h
+and-map a b c d f g h = let p = and-split a b h in and-both c d (f (p .0)) (g (p .1))
 
 more-many : {es fs : Edges} → OneMore* es fs → T (many es) → T (many fs)
 more-many (here {es = none}) h = absurd h
@@ -38,7 +36,7 @@ more-many (later (below o)) h = tt
 more-many (later (later o)) h = tt
 
 mutual
-  pub more-proper : {t u : Node} → OneMore t u → T (proper t) → T (proper u)
+  more-proper : {t u : Node} → OneMore t u → T (proper t) → T (proper u)
   more-proper (grow {es = es} {fs = fs} o) p =
       and-map (many es) (propers es) (many fs) (propers fs) (more-many o) (λ q. more-propers o q) p
 
