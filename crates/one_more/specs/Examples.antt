@@ -85,15 +85,6 @@ nine-ten : OneMoreLeaf (flat 9) (flat 10)
 nine-ten =
     with-leaf false 10 (omega arith) tt (at-gate {fs = leavesFrom 1 9} (omega arith) (there (there (there (there (there (there (there (there (there here))))))))))
 
--- in tables of five inputs it rises, of six it stays
-nine-ten-in-fives : Least 5 (covered (flat 9) .tree) 2 × Least 5 (covered (flat 10) .tree) 3
-unfolding pack better least-of
-nine-ten-in-fives = (least-is 5 (omega arith) and _ tt, least-is 5 (omega arith) and _ tt)
-
-nine-ten-in-sixes : Least 6 (covered (flat 9) .tree) 2 × Least 6 (covered (flat 10) .tree) 2
-unfolding pack better least-of
-nine-ten-in-sixes = (least-is 6 (omega arith) and _ tt, least-is 6 (omega arith) and _ tt)
-
 -- ---- an edge to join: it rises by two
 
 -- gates 1 to 5 are ORs of three leaves, gate 6 an AND of these, gate 7 an AND of gate 6 and so many leaves
