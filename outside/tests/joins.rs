@@ -3,21 +3,12 @@
 mod common;
 
 use common::nested::{self, RIGHT};
-use common::{gate, line};
+use common::{nets, sheet, AND, OR};
 use outside::generate::case;
 use outside::join::join;
 use outside::program::read;
 use outside::rng::Rng;
 use outside::sheet::{read_only, Sheet};
-
-const AND: i64 = 1;
-const OR: i64 = 2;
-
-/// The sheet of these gates, net 9999 its output: gate g is the fanin 10000 + g.
-fn sheet(gates: &[(i64, &[i64])]) -> Sheet {
-    let lines: String = gates.iter().map(|(kind, fanins)| gate(*kind, fanins)).collect();
-    read_only((line(&[9999, gates.len() as i64]) + &lines).as_bytes()).expect("a sheet")
-}
 
 /// These gates are joined to those.
 fn joins(drawn: &[(i64, &[i64])], joined: &[(i64, &[i64])]) {
@@ -32,10 +23,6 @@ fn stays(gates: &[(i64, &[i64])]) {
 /// Upper and lower gate, from 1, and fanin count of each chained edge.
 fn looked_at(gates: &[(i64, &[i64])]) -> Vec<(usize, usize, usize)> {
     join(&sheet(gates)).chained.iter().map(|edge| (edge.upper + 1, edge.lower + 1, edge.fanins)).collect()
-}
-
-fn nets(first: i64, last: i64) -> Vec<i64> {
-    (first..=last).collect()
 }
 
 #[test]

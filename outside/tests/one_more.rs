@@ -2,7 +2,7 @@
 
 mod common;
 
-use common::{gate, line};
+use common::{nets, sheet, sheet_text, AND, OR};
 use outside::exhaustive::{self, splittings};
 use outside::generate::case;
 use outside::join::join;
@@ -10,24 +10,7 @@ use outside::least::least_by_width;
 use outside::one_more::{chained_trees, changes, grown, has_join, small_trees, Place};
 use outside::program::read;
 use outside::rng::Rng;
-use outside::sheet::{read_only, Fault, Sheet};
-
-const AND: i64 = 1;
-const OR: i64 = 2;
-
-/// The text of the sheet of these gates, net 9999 its output: gate g is the fanin 10000 + g.
-fn text(gates: &[(i64, &[i64])]) -> String {
-    let lines: String = gates.iter().map(|(kind, fanins)| gate(*kind, fanins)).collect();
-    line(&[9999, gates.len() as i64]) + &lines
-}
-
-fn sheet(gates: &[(i64, &[i64])]) -> Sheet {
-    read_only(text(gates).as_bytes()).expect("a sheet")
-}
-
-fn nets(first: i64, last: i64) -> Vec<i64> {
-    (first..=last).collect()
-}
+use outside::sheet::{read_only, Edge, Fault, Sheet, Source};
 
 /// Leaves alone: 1. Of three: flat, or a gate of two, apart or chained. Of four: flat; two leaves and a gate of two, 2; a leaf and a gate of
 /// three, 6; two gates of two, both apart, one, or both chained, 3.
@@ -37,12 +20,18 @@ fn how_many_small_trees() {
     assert_eq!(counts, [1, 1 + 3, 1 + 3 + 12]);
 }
 
-/// On every tree of up to five leaves without an edge to join, at every gate and every K, by every splitting and every cover: the least number
-/// stays or rises by one, both of which occur where K is above 2.
+/// How often the number stayed and rose, by K: at K of 2 it rises, and at each other both occur.
+fn both_occur(seen: &[[usize; 2]; 7]) {
+    assert_eq!(seen[2][0], 0, "{seen:?}");
+    assert!(seen[2][1] > 0 && seen[3..].iter().flatten().all(|&times| times > 0), "{seen:?}");
+}
+
+/// On every tree of up to six leaves without an edge to join, at every gate and every K, by every splitting and every cover: the least number
+/// stays or rises by one.
 #[test]
 fn stays_or_rises_by_every_cover() {
     let mut seen = [[0; 2]; 7];
-    for sheet in small_trees(5).iter().map(|tree| tree.sheet()).filter(|sheet| !has_join(sheet)) {
+    for sheet in small_trees(6).iter().map(|tree| tree.sheet()).filter(|sheet| !has_join(sheet)) {
         let before = splittings(&sheet);
         for gate in 0..sheet.gates.len() {
             let after = splittings(&grown(&sheet, Place { gate, left: 0, inverted: false }).expect("room"));
@@ -51,9 +40,7 @@ fn stays_or_rises_by_every_cover() {
             }
         }
     }
-    assert_eq!(seen[2][0], 0);
-    assert!(seen[3..6].iter().flatten().all(|&times| times > 0), "{seen:?}");
-    assert!(seen[6][0] > 0);
+    both_occur(&seen);
 }
 
 /// The accepted sheets of a run without an edge to join, each with its K.
@@ -76,22 +63,21 @@ fn stays_or_rises_on_generated_sheets() {
         let change = least_by_width(&grown, k) - least_by_width(&sheet, k);
         seen[k][change] += 1;
     }
-    assert_eq!(seen[2][0], 0);
-    assert!(seen[2][1] > 0 && seen[3..].iter().flatten().all(|&times| times > 0), "{seen:?}");
+    both_occur(&seen);
 }
 
 /// What 02 asks for is what makes the sheet with the leaf acceptable: else it is refused.
 #[test]
 fn what_is_refused() {
-    let refused = |gates: &[(i64, &[i64])]| read_only(text(gates).as_bytes()).expect_err("a refusal");
+    let refused = |gates: &[(i64, &[i64])]| read_only(sheet_text(gates).as_bytes()).expect_err("a refusal");
     assert_eq!(refused(&[(AND, &nets(1, 11))]), Fault { number: 1, line: 2 });
     assert_eq!(refused(&[(AND, &[1, 2, -2])]), Fault { number: 10, line: 2 });
     assert_eq!(refused(&[(AND, &[1, 9999, 2])]), Fault { number: 11, line: 2 });
-    let chain = outside::samples::chain(9999, 1, 255, 2);
-    assert_eq!(chain.leaves().len(), 256);
+    let mut chain = outside::samples::chain(9999, 1, 255, 2);
     assert_eq!(grown(&chain, Place { gate: 0, left: 0, inverted: false }), None);
-    let full = text(&[(AND, &nets(1, 10))]);
-    assert_eq!(grown(&read_only(full.as_bytes()).expect("a sheet"), Place { gate: 0, left: 0, inverted: false }), None);
+    chain.gates[254].fanins.push(Edge { inverted: false, source: Source::Net(257) });
+    assert_eq!(read_only(chain.text().as_bytes()), Err(Fault { number: 12, line: 256 }));
+    assert_eq!(grown(&sheet(&[(AND, &nets(1, 10))]), Place { gate: 0, left: 0, inverted: false }), None);
 }
 
 /// The least number before and after, joined, by the search that keeps every width.

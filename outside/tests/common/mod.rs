@@ -4,6 +4,7 @@
 pub mod nested;
 
 use outside::refusal::Refusal;
+use outside::sheet::{read_only, Sheet};
 
 /// One line of fields.
 pub fn line(fields: &[i64]) -> String {
@@ -27,6 +28,26 @@ pub fn one_gate(net: i64, kind: i64, fanins: &[i64]) -> String {
 
 pub fn gate(kind: i64, fanins: &[i64]) -> String {
     line(&[&[kind, fanins.len() as i64], fanins].concat())
+}
+
+/// The kinds of gates, as they are written.
+pub const AND: i64 = 1;
+pub const OR: i64 = 2;
+
+/// The text of the sheet of these gates, net 9999 its output: gate g is the fanin 10000 + g.
+pub fn sheet_text(gates: &[(i64, &[i64])]) -> String {
+    let lines: String = gates.iter().map(|(kind, fanins)| gate(*kind, fanins)).collect();
+    line(&[9999, gates.len() as i64]) + &lines
+}
+
+/// That sheet, read.
+pub fn sheet(gates: &[(i64, &[i64])]) -> Sheet {
+    read_only(sheet_text(gates).as_bytes()).expect("a sheet")
+}
+
+/// These nets, or gates.
+pub fn nets(first: i64, last: i64) -> Vec<i64> {
+    (first..=last).collect()
 }
 
 /// A chain of gates of two fanins over nets 1 up, as text.
