@@ -43,12 +43,9 @@ pub enum Tree {
 }
 
 impl Tree {
-    /// A gate over so many leaves; one leaf is a leaf.
+    /// A gate over so many leaves.
     fn flat(leaves: usize) -> Tree {
-        match leaves {
-            1 => Tree::Leaf,
-            _ => Tree::Gate { apart: vec![Tree::Leaf; leaves], chained: Vec::new() },
-        }
+        Tree::Gate { apart: vec![Tree::Leaf; leaves], chained: Vec::new() }
     }
 
     /// The sheet that draws the tree, nets 1 up at its leaves.

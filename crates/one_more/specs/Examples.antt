@@ -1,14 +1,17 @@
 -- Sheets with one leaf more, computed, on least numbers that were worked out by hand.
 use Prim.Native.Nat.{ℕ}
 use native.Mathlib.Omega.{arith}
-use mathlib.Core.Path.{_≡_, refl}
+use mathlib.Core.Path.{_≡_, refl, ap}
+use mathlib.Core.Logic.{_⊎_}
 use mathlib.Core.Bool.{Bool, true, false, not}
 use mathlib.Core.List.{List, [], _∷_, _++_, map}
 use lib.Dec.{T}
 use Rattle.lists.specs.Trusted.Lists.{here, there, from}
 use Rattle.lists.specs.Trusted.Tests.{elem}
+use Rattle.lists.specs.Trusted.Checked.{passed, _>>=_, given, require}
 use Rattle.tree.specs.declared.Kind.{Kind}
 use Rattle.tree.specs.declared.Kind.the-variants.{And as and, Or as or}
+use Rattle.tree.specs.Trusted.Tree.{Node, edgeCount}
 use Rattle.cover.specs.Trusted.Cover.{Least}
 use Rattle.plan.specs.Key.{pack, better}
 use Rattle.plan.specs.Subsets.{least-of}
@@ -16,12 +19,14 @@ use Rattle.plan.specs.Least.{least-is}
 use Rattle.sheet.specs.declared.Source.the-variants.{Gate as numbered}
 use Rattle.sheet.specs.declared.Edge.{Edge as Fanin}
 use Rattle.sheet.specs.Trusted.Sheet.{DrawnGate, DrawnSheet, leafNets}
-use Rattle.sheet.specs.Trusted.Trees.{treeAt, treesOf}
 use Rattle.sheet.specs.Trusted.Formed.{LeafNet}
+use Rattle.sheet.specs.Trusted.Read.{readSheet}
 use Rattle.sheet.specs.NumberLaws.{not-elem}
-use Rattle.joined.specs.Trusted.Joined.{isJoined}
+use Rattle.joined.specs.Trusted.Joined.{edgesIn}
 use Rattle.joined.specs.Trusted.Covered.{covered}
-use Rattle.one_more.specs.Trusted.OneMoreLeaf.{leafFanin, OneMoreFanin, at-gate, after, OneMoreLeaf, NoneJoined}
+use Rattle.drawing.specs.Trusted.Written.{written}
+use Rattle.one_more.specs.Trusted.OneMoreLeaf.{leafFanin, OneMoreFanin, at-gate, after, OneMoreLeaf, NoneJoined, FewerLeaves}
+use Rattle.one_more.specs.Theorems.{more-least}
 
 -- so many upright leaves, from net n on
 abbrev leavesFrom : (n count : ℕ) → List Fanin
@@ -40,6 +45,10 @@ sheetWith gs = record { out = 100; inverted = false; gates = gs }
 with-leaf : {gs hs : List DrawnGate} (i : Bool) (n : ℕ) → LeafNet 100 n → T (not (elem n (leafNets gs))) → OneMoreFanin (leafFanin i n) gs hs →
     OneMoreLeaf (sheetWith gs) (sheetWith hs)
 with-leaf i n l e o = record { inverted = i; leaf-net = n; new-net = (l, not-elem n _ e); gates = o; same-out = refl; same-sign = refl }
+
+-- how many fanins the root has
+abbrev rootCount : Node → ℕ
+rootCount t = edgeCount (edgesIn t)
 
 -- ---- no edge to join
 
@@ -77,6 +86,16 @@ in-twos : Least 2 (covered six .tree) 5 × Least 2 (covered seven .tree) 6 × Le
 unfolding pack better least-of
 in-twos = (least-is 2 (omega arith) and _ tt, least-is 2 (omega arith) and _ tt, least-is 2 (omega arith) and _ tt)
 
+-- the sheet of six leaves is accepted, and what is proved of it and of the one with the leaf is this
+six-accepted : readSheet (written six) ≡ passed six
+unfolding _>>=_ given require
+six-accepted = refl
+
+six-rises : _≡_ {A = ℕ} 2 1 ⊎ _≡_ {A = ℕ} 2 2
+six-rises = more-least (written six) six seven six-accepted (omega arith) six-seven (none-joined .0) 6 (omega arith) (in-sixes .0) (in-sixes .1)
+
+-- ---- at the bounds
+
 -- a gate of nine fanins, the most that it may have
 abbrev flat : ℕ → DrawnSheet
 flat n = sheetWith (over and (leavesFrom 1 n) ∷ [])
@@ -84,6 +103,10 @@ flat n = sheetWith (over and (leavesFrom 1 n) ∷ [])
 nine-ten : OneMoreLeaf (flat 9) (flat 10)
 nine-ten =
     with-leaf false 10 (omega arith) tt (at-gate {fs = leavesFrom 1 9} (omega arith) (there (there (there (there (there (there (there (there (there here))))))))))
+
+-- 255 leaves are fewer than 256, and 256 are not
+fewer-leaves : FewerLeaves (flat 255) × ¬ FewerLeaves (flat 256)
+fewer-leaves = (omega arith, λ h. omega arith)
 
 -- ---- an edge to join: it rises by two
 
@@ -98,9 +121,9 @@ five-six =
     with-leaf false 21 (omega arith) tt (after (after (after (after (after (after (at-gate {fs = gateFanin 6 ∷ leavesFrom 16 5} (omega arith)
     (there (there (there (there (there (there here)))))))))))))
 
--- with five leaves the edge between the ANDs is joined, and with six it is not
-joined-with-five : isJoined and 5 false (treeAt (treesOf [] (overFive 5 .gates)) 6) ≡ true
-joined-with-five = refl
+-- with five leaves the edge between the ANDs is joined, so that the root has ten fanins instead of six, and with six leaves it is not
+joined-with-five : ¬ NoneJoined (overFive 5)
+joined-with-five e = omega (arith, ap rootCount e)
 
 not-with-six : NoneJoined (overFive 6)
 not-with-six = refl
@@ -124,6 +147,12 @@ none-one =
     with-leaf false 21 (omega arith) tt (after (after (after (after (after (at-gate {fs = gateFanin 4 ∷ gateFanin 5 ∷ []} (omega arith) (there (there here))))))))
 
 -- as drawn, gate 4 is joined to gate 6, and then there is no room for gate 5; with the leaf there is none for gate 4, but there is for gate 5
+joined-without : ¬ NoneJoined (overTwo 0)
+joined-without e = omega (arith, ap rootCount e)
+
+joined-with : ¬ NoneJoined (overTwo 1)
+joined-with e = omega (arith, ap rootCount e)
+
 falls : Least 6 (covered (overTwo 0) .tree) 5 × Least 6 (covered (overTwo 1) .tree) 4
 unfolding pack better least-of
 falls = (least-is 6 (omega arith) and _ tt, least-is 6 (omega arith) and _ tt)

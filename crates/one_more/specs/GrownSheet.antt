@@ -47,8 +47,6 @@ module _ {i : Bool} {n : ℕ} where
 -- A SHEET WITH ONE LEAF MORE IS WELL FORMED
 pub more-formed : (s s′ : DrawnSheet) → WellFormed s → FewerLeaves s → OneMoreLeaf s s′ → WellFormed s′
 more-formed s s′ w few o =
-    let gs = s .gates in
-    let hs = s′ .gates in
     let j = leaves-more (o .gates) in
     let size = more-gates (o .gates) in
     let new = o .new-net in
