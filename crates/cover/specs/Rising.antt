@@ -8,8 +8,8 @@ use mathlib.Core.Logic.{by-cases}
 use mathlib.Core.Bool.{Bool, false}
 use mathlib.Core.List.{List, [], _∷_, _++_, append-nil}
 use Rattle.lists.specs.Cases.{by-eqb}
-use Rattle.lists.specs.Trusted.Lists.{Every, Rising, Distinct, Permuted}
-use Rattle.lists.specs.Sequences.{Sorted, sum}
+use Rattle.lists.specs.Trusted.Lists.{Every, Rising, Distinct, Permuted, sum}
+use Rattle.lists.specs.Sequences.{Sorted}
 use Rattle.lists.specs.ListLaws.{every-none, every-cons, every-append}
 use Rattle.lists.specs.NumberLaws.{sum-append, sum-permuted, one-if, is, times, sorted-permuted, sorted-sorted, no-times, distinct-times, sorted-rising}
 use Rattle.tree.specs.declared.Kind.{Kind}

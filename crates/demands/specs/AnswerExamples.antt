@@ -12,6 +12,7 @@ use Rattle.part.specs.Trusted.SoundTest.{sound}
 use Rattle.part.specs.Trusted.Answers.{Answer, accepted, refused}
 use Rattle.demands.specs.Determined.{leastNumber, answerOf}
 use Rattle.part.specs.Trusted.Reading.{readOf}
+use Rattle.part.specs.Trusted.Ways.{least}
 use Rattle.list_reading.specs.PartExamples.{part}
 use Rattle.part.specs.declared.Part.{Part}
 
@@ -33,6 +34,6 @@ cases =
     ∷ (with 3 2, "    22     1\n     1     2     6     7\n", accepted)
     ∷ []
 
-answers-right : map (λ (c : Case). answerOf (c .0) (readOf (bytes (c .1)))) cases ≡ map (λ (c : Case). c .2) cases
+answers-right : map (λ (c : Case). answerOf least (c .0) (readOf (bytes (c .1)))) cases ≡ map (λ (c : Case). c .2) cases
 unfolding readOf sound blanks leastNumber pack least-of _>>=_ require given
 answers-right = refl

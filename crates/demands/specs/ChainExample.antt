@@ -1,13 +1,14 @@
--- The two adds of 01's example, "List", one after the other on the part that an opening gave: the promises can be kept, and the part
--- that they leave behind is the one whose list 01 prints (Examples).
+-- The two adds of 01's example, "List", one after the other on the part that an opening gave, and the two sheets as a set: the promises can
+-- be kept, and the part that they leave behind is the one whose list 01 prints (Examples). And sets that are turned down.
 use Prim.Native.Nat.{ℕ, _≤_}
 use native.Mathlib.Omega.{arith}
 use mathlib.Core.Path.{_≡_, refl}
 use mathlib.Core.Bool.{true, false}
-use mathlib.Core.List.{List, [], _∷_}
+use mathlib.Core.List.{List, [], _∷_, _++_, map}
+use lib.ListN.{take, replicate}
 use Rattle.lists.specs.Trusted.Lists.{Every, here}
 use Rattle.lists.specs.ListLaws.{every-none, every-cons, permuted-refl}
-use Rattle.lists.specs.Trusted.Checked.{passed, _>>=_, require, given}
+use Rattle.lists.specs.Trusted.Checked.{passed, refused as unread, _>>=_, require, given}
 use Rattle.tree.specs.declared.Kind.the-variants.{And as and, Or as or}
 use Rattle.tree.specs.Trusted.Limits.{codeBase}
 use Rattle.tree.specs.Trusted.Tree.{leaf, gate, none, edge}
@@ -18,9 +19,13 @@ use Rattle.sheet.specs.Checks.{bytes}
 use Rattle.part.specs.Trusted.Parts.{blanks}
 use Rattle.part.specs.Trusted.SoundTest.{sound}
 use Rattle.part.specs.Trusted.Reading.{readOf}
-use Rattle.part.specs.Trusted.Answers.{accepted, Result}
+use Rattle.set_lengths.specs.Trusted.Lengths.{isWhole}
+use Rattle.part.specs.Trusted.Ways.{least}
+use Rattle.part.specs.Trusted.Answers.{accepted, refused}
+use Rattle.part.specs.Trusted.Tries.{Try, CallResult}
+use Rattle.part.specs.Trusted.Sets.{InTurn, turnedAway, AddSet}
 use Rattle.part.specs.Trusted.Add.{opened, extended, Add}
-use Rattle.demands.specs.Trusted.Calls.{add, final, Chain, call}
+use Rattle.demands.specs.Trusted.Calls.{add, oneSheet, final, Chain, call}
 use Rattle.list_reading.specs.PartExamples.{part}
 use Rattle.part.specs.declared.Part.{Part}
 use Rattle.demands.specs.Trusted.Calls as calls
@@ -115,26 +120,70 @@ added-2 = record {
   fewest = least-2;
 }
 
-add-1 : Add start first-text middle accepted
+add-1 : Add least start first-text middle accepted
 unfolding Add sound blanks
-add-1 = rw first-read (1, least-1, record { new = table-1; least = added-1; part = refl; answer = refl })
+add-1 = rw first-read (1, least-1, record { new = table-1; chosen = added-1; part = refl; answer = refl })
 
-add-2 : Add middle second-text end-part accepted
+add-2 : Add least middle second-text end-part accepted
 unfolding Add sound blanks
-add-2 = rw second-read (1, least-2, record { new = table-2; least = added-2; part = refl; answer = refl })
+add-2 = rw second-read (1, least-2, record { new = table-2; chosen = added-2; part = refl; answer = refl })
 
-abbrev results : List Result
-results = record { part = middle; answer = accepted } ∷ record { part = end-part; answer = accepted } ∷ []
+abbrev results : List CallResult
+results = oneSheet least first-text start middle accepted ∷ oneSheet least second-text middle end-part accepted ∷ []
 
 -- the sum of the sheets' least numbers is the part's used count
-sum : Total 4 (first ∷ second ∷ []) (part .used)
-sum = more least-1 (more least-2 Demands.none)
+total : Total (record { way = least; part = start; sheet = first } ∷ record { way = least; part = middle; sheet = second } ∷ []) (part .used)
+total = more 1 least-1 (more 1 least-2 Demands.none)
 
 -- the promises can be kept
-chain : Chain start (add first-text ∷ add second-text ∷ []) results
-chain = call add-1 (call add-2 calls.done)
+chain : Chain start (add least first-text ∷ add least second-text ∷ []) results
+chain = call {c = add least first-text} (add-1, refl) (call {c = add least second-text} (add-2, refl) calls.done)
 
 -- and the part is the one in 01
 ends : final start results ≡ part
 unfolding blanks
 ends = refl
+
+-- ---- sets (02, #106): the first sheet has 88 bytes, the second 38
+
+-- the second sheet reads what the first one drives
+set-accepted : (ts : List Try) × AddSet start (88 ∷ 38 ∷ []) (first-text ++ second-text) (record { part = end-part; answer = accepted; position = 0; tries = ts })
+unfolding AddSet sound blanks
+set-accepted = (_, InTurn.next add-1 (InTurn.next add-2 InTurn.all))
+
+-- the first sheet again, as the second of three: its net is driven already, and the part is unaltered
+driven-again : Add least middle first-text middle (refused 21 0)
+unfolding Add sound blanks
+driven-again = rw first-read (refl, refl)
+
+set-refused : (ts : List Try) ×
+    AddSet start (88 ∷ 88 ∷ 38 ∷ []) (first-text ++ first-text ++ second-text) (record { part = start; answer = refused 21 0; position = 2; tries = ts })
+unfolding AddSet sound blanks
+set-refused = (_, InTurn.next add-1 (InTurn.stop driven-again))
+
+-- the second sheet's first byte with the first: bytes after its last line, so 1 there, at line 5
+one-byte-more : readOf (take 89 (first-text ++ second-text)) ≡ unread 1 5
+unfolding readOf _>>=_ require given
+one-byte-more = refl
+
+misread-first : Add least start (take 89 (first-text ++ second-text)) start (refused 1 5)
+unfolding Add sound blanks
+misread-first = rw one-byte-more (refl, refl)
+
+set-torn : (ts : List Try) × AddSet start (89 ∷ 37 ∷ []) (first-text ++ second-text) (record { part = start; answer = refused 1 5; position = 1; tries = ts })
+unfolding AddSet sound blanks
+set-torn = (_, InTurn.stop misread-first)
+
+-- lengths that do not add up, no sheet, and seventeen; and 20 before 33
+sets-unfit :
+    map (λ (lengths : List ℕ). isWhole lengths 126) ((88 ∷ 38 ∷ []) ∷ (88 ∷ 37 ∷ []) ∷ (88 ∷ 39 ∷ []) ∷ (126 ∷ replicate 15 0) ∷ (126 ∷ replicate 16 0) ∷ (126 ∷ 4294967295 ∷ 1 ∷ []) ∷ [])
+    ≡ true ∷ false ∷ false ∷ true ∷ false ∷ false ∷ []
+sets-unfit = refl
+
+set-empty : AddSet start [] [] (turnedAway start 33)
+unfolding AddSet sound blanks
+set-empty = refl
+
+unsound-first : AddSet ((opened 7 8) .part) [] [] (turnedAway ((opened 7 8) .part) 20)
+unfolding AddSet sound blanks
+unsound-first = refl

@@ -10,8 +10,6 @@ use lib.ListN.{length}
 use Rattle.lists.specs.TestLaws.{reflects-le, reflects-true, by-reflects}
 use Rattle.lists.specs.Trusted.Tests.{Reflects}
 use Rattle.lists.specs.Trusted.Checked.{Checked, passed, refused as unwritten}
-use Rattle.cover.specs.Trusted.Cover.{Least}
-use Rattle.plan.specs.Least.{least-unique}
 use Rattle.cover.specs.Trusted.CoverTables.{Circuit}
 use Rattle.table.specs.Trusted.Limits.{KRange, CapacityRange}
 use Rattle.part.specs.declared.Part.{Part}
@@ -19,15 +17,15 @@ use Rattle.part.specs.Trusted.Parts.{tablesOf}
 use Rattle.part.specs.Trusted.Sound.{Sound}
 use Rattle.part.specs.Trusted.SoundTest.{sound}
 use Rattle.part.specs.SoundLaws.{sound-reflects}
-use Rattle.part.specs.Trusted.Reading.{readOf}
+use Rattle.part.specs.Trusted.Ways.{Way, reading, NumberBy}
+use Rattle.part.specs.WayLaws.{reading-right, number-unique, chosen-number}
 use Rattle.part.specs.Trusted.Answers.{Answer, accepted, refused}
 use Rattle.part.specs.Trusted.Add.{opened, isDriven, isRead, Add}
 use Rattle.part.specs.OpenLaws.{opened-cases}
-use Rattle.demands.specs.AddLaws.{driven-reflects, read-reflects, AddCase, unsound, misread, driven, read, full, taken, add-case, not-refused, refused-stays}
+use Rattle.part.specs.AddLaws.{driven-reflects, read-reflects, AddCase, unsound, misread, driven, read, full, taken, add-case, not-refused, refused-stays}
 use Rattle.demands.specs.Determined as Determined
-use Rattle.demands.specs.Determined.{leastNumber, answerOf}
-use Rattle.demands.specs.ReadingLaws.{reads-right}
-use Rattle.demands.specs.DeterminedLaws.{least-number, add-answer}
+use Rattle.demands.specs.Determined.{numberIn, answerOf}
+use Rattle.demands.specs.DeterminedLaws.{number-is, add-answer}
 use Rattle.listing.specs.Trusted.Listing.{lineOf, listOf}
 use Rattle.list_line.specs.Trusted.Writes.{pasted}
 use Rattle.listing.specs.Lines.{turnedDown, fitted, lineWritten, listWritten}
@@ -77,40 +75,40 @@ module _ (k capacity : ℕ) where
 
 -- ---- adding
 
-module _ (p : Part) (text : List ℕ) where
+module _ (w : Way) (p : Part) (text : List ℕ) where
   abbrev fits : Circuit → Bool
-  fits s = leb (leastNumber (p .k) s) (p .capacity - p .used)
+  fits s = leb (numberIn w p s) (p .capacity - p .used)
 
-  fits-reflects : (s : Circuit) (n : ℕ) → Sound p → readOf text ≡ passed s → Least (p .k) (s .tree) n → Reflects (fits s) (n ≤ p .capacity - p .used)
+  fits-reflects : (s : Circuit) (n : ℕ) → Sound p → reading w text ≡ passed s → NumberBy w p s n → Reflects (fits s) (n ≤ p .capacity - p .used)
   fits-reflects s n h e l =
-      subst (λ m. Reflects (fits s) (m ≤ p .capacity - p .used)) (least-unique (least-number (p .k) (h .k-range .0) s (reads-right text s e)) l)
-      (reflects-le (leastNumber (p .k) s) (p .capacity - p .used))
+      subst (λ m. Reflects (fits s) (m ≤ p .capacity - p .used)) (number-unique w p s (number-is w p (h .k-range .0) s (reading-right w text s e)) l)
+      (reflects-le (numberIn w p s) (p .capacity - p .used))
 
   -- the answer of a sound part to what is read, and by the last three tests
-  read-answer : Sound p → {v : Checked Circuit} → readOf text ≡ v → answerOf p (readOf text) ≡ Determined.taken p v
-  read-answer h e = ap (λ b. cond b (Determined.taken p (readOf text)) (refused 20 0)) (reflects-true (sound-reflects p) h) ∙ ap (Determined.taken p) e
+  read-answer : Sound p → {v : Checked Circuit} → reading w text ≡ v → answerOf w p (reading w text) ≡ Determined.taken w p v
+  read-answer h e = ap (λ b. cond b (Determined.taken w p (reading w text)) (refused 20 0)) (reflects-true (sound-reflects p) h) ∙ ap (Determined.taken w p) e
 
-  tests-answer : (s : Circuit) {d r f : Bool} → Sound p → readOf text ≡ passed s → isDriven (s .out) (tablesOf p) ≡ d → isRead (s .out) (tablesOf p) ≡ r →
-      fits s ≡ f → answerOf p (readOf text) ≡ cond d (refused 21 0) (cond r (refused 22 0) (cond f accepted (refused 23 0)))
+  tests-answer : (s : Circuit) {d r f : Bool} → Sound p → reading w text ≡ passed s → isDriven (s .out) (tablesOf p) ≡ d → isRead (s .out) (tablesOf p) ≡ r →
+      fits s ≡ f → answerOf w p (reading w text) ≡ cond d (refused 21 0) (cond r (refused 22 0) (cond f accepted (refused 23 0)))
   tests-answer s h e x y z = read-answer h e ∙ (λ i. cond (x i) (refused 21 0) (cond (y i) (refused 22 0) (cond (z i) accepted (refused 23 0))))
 
-  passes-answer : (s : Circuit) {f : Bool} → Passes p text s → fits s ≡ f → answerOf p (readOf text) ≡ cond f accepted (refused 23 0)
+  passes-answer : (s : Circuit) {f : Bool} → Passes w p text s → fits s ≡ f → answerOf w p (reading w text) ≡ cond f accepted (refused 23 0)
   passes-answer s g =
       tests-answer s (g .sound) (g .read) (reflects-false (driven-reflects (s .out) (tablesOf p)) (λ d. g .fresh (d .0) (d .1) .0 (d .2)))
       (reflects-false (read-reflects (s .out) (tablesOf p)) (λ r. g .fresh (r .0) (r .1) .1 (r .2)))
 
-  condition-answer : {number place : ℕ} → AddCondition p text number place → answerOf p (readOf text) ≡ refused number place
-  condition-answer (not-sound n) = ap (λ b. cond b (Determined.taken p (readOf text)) (refused 20 0)) (reflects-false (sound-reflects p) n)
+  pub condition-answer : {number place : ℕ} → AddCondition w p text number place → answerOf w p (reading w text) ≡ refused number place
+  condition-answer (not-sound n) = ap (λ b. cond b (Determined.taken w p (reading w text)) (refused 20 0)) (reflects-false (sound-reflects p) n)
   condition-answer (not-read number place h e) = read-answer h e
   condition-answer (out-driven s h e d) = tests-answer s h e (reflects-true (driven-reflects (s .out) (tablesOf p)) d) refl refl
   condition-answer (out-read s h e n r) =
       tests-answer s h e (reflects-false (driven-reflects (s .out) (tablesOf p)) n) (reflects-true (read-reflects (s .out) (tablesOf p)) r) refl
   condition-answer (no-room s n g l m) = passes-answer s g (reflects-false (fits-reflects s n (g .sound) (g .read) l) (λ x. omega (arith, m, x)))
 
-  told : {a : Answer} {m l number place : ℕ} → a ≡ refused m l → a ≡ refused number place → AddCondition p text m l → AddCondition p text number place
-  told e f c = moved (AddCondition p text) c (cc) (cc)
+  told : {a : Answer} {m l number place : ℕ} → a ≡ refused m l → a ≡ refused number place → AddCondition w p text m l → AddCondition w p text number place
+  told e f c = moved (AddCondition w p text) c (cc) (cc)
 
-  found : {q : Part} {a : Answer} {number place : ℕ} → AddCase p text q a → a ≡ refused number place → AddCondition p text number place
+  found : {q : Part} {a : Answer} {number place : ℕ} → AddCase w p text q a → a ≡ refused number place → AddCondition w p text number place
   found (unsound n r) e = told (r .1) e (not-sound n)
   found (misread m l h g r) e = told (r .1) e (not-read m l h g)
   found (driven s h g d r) e = told (r .1) e (out-driven s h g d)
@@ -118,23 +116,24 @@ module _ (p : Part) (text : List ℕ) where
   found (full s n h g f l m r) e = told (r .1) e (no-room s n (record { sound = h; read = g; fresh = f }) l m)
   found (taken s h g f t room) e = absurd (not-refused e (t .answer))
 
-  accepted-passes : {q : Part} {a : Answer} → AddCase p text q a → a ≡ accepted →
-      (s : Circuit) × (n : ℕ) × Passes p text s × Least (p .k) (s .tree) n × (n ≤ p .capacity - p .used)
+  accepted-passes : {q : Part} {a : Answer} → AddCase w p text q a → a ≡ accepted →
+      (s : Circuit) × (n : ℕ) × Passes w p text s × NumberBy w p s n × (n ≤ p .capacity - p .used)
   accepted-passes (unsound n r) e = absurd (not-refused (r .1) e)
   accepted-passes (misread m l h g r) e = absurd (not-refused (r .1) e)
   accepted-passes (driven s h g d r) e = absurd (not-refused (r .1) e)
   accepted-passes (read s h g d i r) e = absurd (not-refused (r .1) e)
   accepted-passes (full s n h g f l m r) e = absurd (not-refused (r .1) e)
-  accepted-passes (taken s h g f t room) e = (s, length (t .new), record { sound = h; read = g; fresh = f }, t .least .fewest, omega (arith, room))
+  accepted-passes (taken s h g f t room) e =
+      (s, length (t .new), record { sound = h; read = g; fresh = f }, chosen-number w p s (t .new) (t .chosen), omega (arith, room))
 
-  pub add-told : (q : Part) (a : Answer) → Add p text q a → AddTold p text q a
+  pub add-told : (q : Part) (a : Answer) → Add w p text q a → AddTold w p text q a
   add-told q a h =
-      let o = add-case p text q a h in
-      let e = add-answer p text q a h in
+      let o = add-case w p text q a h in
+      let e = add-answer w p text q a h in
       record {
         refuses = λ m l. (found o, λ c. e ∙ condition-answer c);
         accepts = (accepted-passes o, λ g. e ∙ passes-answer (g .0) (g .2) (reflects-true (fits-reflects (g .0) (g .1) (g .2 .sound) (g .2 .read) (g .3)) (g .4)));
-        stays = λ m l r. refused-stays p text q a m l h r;
+        stays = λ m l r. refused-stays w p text q a m l h r;
       }
 
 -- ---- writing a line, and the list

@@ -1,4 +1,4 @@
--- The answer of an add, computed: all that an add leaves free is which least cover is taken, and the order of its tables.
+-- The answer of an add, computed: all that an add leaves free is which cover of those that its way allows is taken, and the order of its tables.
 -- Internal definitions: the laws are in DeterminedLaws.
 use Prim.Native.Nat.{ℕ, _-_}
 use mathlib.Core.Path.{_≡_}
@@ -9,6 +9,7 @@ use Rattle.plan.specs.Least.{least-tables}
 use Rattle.cover.specs.Trusted.CoverTables.{Circuit}
 use Rattle.table.specs.Trusted.Rules.{IsNet}
 use Rattle.part.specs.Trusted.Parts.{tablesOf}
+use Rattle.part.specs.Trusted.Ways.{Way, least}
 use Rattle.part.specs.Trusted.SoundTest.{sound}
 use Rattle.part.specs.Trusted.Answers.{Answer, accepted, refused}
 use Rattle.part.specs.Trusted.Add.{isDriven, isRead}
@@ -17,6 +18,10 @@ use Rattle.part.specs.declared.Part.{Part}
 -- the number that the search finds, which is the least number of a sheet that was read (`least-number` in DeterminedLaws)
 unfoldable pub leastNumber : ℕ → Circuit → ℕ
 leastNumber k s = least-tables k (s .tree)
+
+-- the number of a sheet that was read, in each way (`number-is` in DeterminedLaws)
+abbrev pub numberIn : Way → Part → Circuit → ℕ
+numberIn least p s = leastNumber (p .k) s
 
 -- two parts that differ in nothing that an answer depends on
 pub record Alike (p q : Part) : Type 0 where
@@ -27,15 +32,15 @@ pub record Alike (p q : Part) : Type 0 where
   pub driven : (n : ℕ) → IsNet n → isDriven n (tablesOf p) ≡ isDriven n (tablesOf q)
   pub read : (n : ℕ) → IsNet n → isRead n (tablesOf p) ≡ isRead n (tablesOf q)
 
-abbrev pub offered : Part → Circuit → Answer
-offered p s =
+abbrev pub offered : Way → Part → Circuit → Answer
+offered w p s =
     cond (isDriven (s .out) (tablesOf p)) (refused 21 0)
     (cond (isRead (s .out) (tablesOf p)) (refused 22 0)
-    (cond (leb (leastNumber (p .k) s) (p .capacity - p .used)) accepted (refused 23 0)))
+    (cond (leb (numberIn w p s) (p .capacity - p .used)) accepted (refused 23 0)))
 
-abbrev pub taken : Part → Checked Circuit → Answer
-taken p (passed s) = offered p s
-taken p (unread number place) = refused number place
+abbrev pub taken : Way → Part → Checked Circuit → Answer
+taken w p (passed s) = offered w p s
+taken w p (unread number place) = refused number place
 
-abbrev pub answerOf : Part → Checked Circuit → Answer
-answerOf p v = cond (sound p) (taken p v) (refused 20 0)
+abbrev pub answerOf : Way → Part → Checked Circuit → Answer
+answerOf w p v = cond (sound p) (taken w p v) (refused 20 0)

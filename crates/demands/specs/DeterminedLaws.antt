@@ -1,5 +1,6 @@
 -- Every answer of every list of calls is settled: an add's by a definition that computes, and, since what is read and driven after
--- an add does not depend on the cover taken, those of a list of calls by the part at the start.
+-- an add does not depend on the cover taken, those of a list of calls by the part at the start. A further kind of call has its clause of
+-- `call-alike`, and a further way its clauses of `number-is` and `number-alike`.
 use Prim.Native.Nat.{ℕ, _+_, _-_, _≤_}
 use native.Mathlib.Omega.{arith}
 use mathlib.Core.Path.{_≡_, refl, sym, ap, ap₂, _∙_, subst}
@@ -14,53 +15,72 @@ use Rattle.tree.specs.Trusted.Limits.{codeBase}
 use Rattle.tree.specs.Measures.{proper}
 use Rattle.tree.specs.Measures.{leaves}
 use Rattle.lists.specs.Trusted.Checked.{Checked, passed, refused as unread}
-use Rattle.cover.specs.Trusted.Cover.{Least}
-use Rattle.plan.specs.Least.{least-unique, least-tables, least-is}
-use Rattle.cover.specs.Trusted.CoverTables.{Circuit, Fresh}
+use Rattle.plan.specs.Least.{least-tables, least-is}
+use Rattle.cover.specs.Trusted.CoverTables.{Circuit, CoverTables, Fresh}
 use Rattle.table.specs.Trusted.Rules.{IsNet}
+use Rattle.table.specs.ResultLaws.{says-true}
 use Rattle.part.specs.Trusted.Parts.{tablesOf, Shaped}
 use Rattle.part.specs.Trusted.Sound.{Sound}
 use Rattle.part.specs.Trusted.SoundTest.{sound}
 use Rattle.part.specs.SoundLaws.{sound-reflects}
-use Rattle.part.specs.Trusted.Reading.{readOf}
-use Rattle.part.specs.Trusted.Answers.{Answer, accepted, refused, Result}
+use Rattle.part.specs.Trusted.Nets.{Driven, Read}
+use Rattle.part.specs.Trusted.Ways.{Way, least, reading, NumberBy}
+use Rattle.part.specs.Trusted.Answers.{Answer, accepted, refused}
 use Rattle.part.specs.Trusted.Add.{isDriven, isRead, Refused, Accepted, Fill, Offer, Take, Add}
+use Rattle.part.specs.Trusted.Tries.{CallResult}
+use Rattle.part.specs.Trusted.Sets.{InTurn, all, next, stop, turnedAway}
 use Rattle.part.specs.ExtendedLaws.{extended-tables}
-use Rattle.demands.specs.ExtendLaws.{extended-sound}
-use Rattle.demands.specs.Trusted.Nets.{Driven, Read}
-use Rattle.demands.specs.AddLaws.{driven-reflects, read-reflects, AddCase, unsound, misread, driven, read, full, taken as took, add-case, not-refused}
+use Rattle.part.specs.ExtendLaws.{extended-sound}
+use Rattle.part.specs.Readable.{Readable}
+use Rattle.part.specs.WayLaws.{reading-right, number-unique, chosen-added, chosen-number}
+use Rattle.part.specs.AddLaws.{driven-reflects, read-reflects, AddCase, unsound, misread, driven, read, full, taken as took, add-case, kept, not-refused}
 use Rattle.demands.specs.LeafLaws.{reads-after, reads-still, drives-after, drives-still}
-use Rattle.demands.specs.Trusted.Calls.{Call, add, final, Promise, Chain, done, call}
-use Rattle.demands.specs.Readable.{Readable}
-use Rattle.demands.specs.ReadingLaws.{reads-right}
-use Rattle.demands.specs.CountLaws.{same-sheet, call-kept}
-use Rattle.demands.specs.Determined.{leastNumber, Alike, offered, taken, answerOf}
+use Rattle.demands.specs.Trusted.Calls.{Call, add, addSet, Promise, Chain, done, call, final}
+use Rattle.demands.specs.TryLaws.{same-sheet}
+use Rattle.part.specs.SetLaws.{SetCase, unsound-part, unfit, in-turn, set-case}
+use Rattle.demands.specs.CallLaws.{call-kept}
+use Rattle.demands.specs.Determined.{leastNumber, numberIn, Alike, offered, taken, answerOf}
 use Rattle.part.specs.declared.Part.{Part}
 
--- the least number of a sheet that was read
-pub least-number : (k : ℕ) → 2 ≤ k → (s : Circuit) → Readable s → Least k (s .tree) (leastNumber k s)
+-- the number of a sheet that was read
+pub number-is : (w : Way) (p : Part) → 2 ≤ p .k → (s : Circuit) → Readable s → NumberBy w p s (numberIn w p s)
 unfolding leastNumber
-least-number k two s r =
+number-is least p two s r =
     let g = r .root in
-    subst (λ t. Least k t (least-tables k t)) (sym (g .2)) (least-is k two (g .0) (g .1) (subst (λ t. T (proper t)) (g .2) (r .proper)))
+    subst (λ t. NumberBy least p (record { tree = t; out = s .out; inverted = s .inverted }) (least-tables (p .k) t)) (sym (g .2))
+    (least-is (p .k) two (g .0) (g .1) (subst (λ t. T (proper t)) (g .2) (r .proper)))
 
 pub alike-refl : (p : Part) → Alike p p
 alike-refl p = record { k = refl; capacity = refl; used = refl; sound = refl; driven = λ n h. refl; read = λ n h. refl }
 
+alike-sym : {p q : Part} → Alike p q → Alike q p
+alike-sym g = record {
+  k = sym (g .k);
+  capacity = sym (g .capacity);
+  used = sym (g .used);
+  sound = sym (g .sound);
+  driven = λ n h. sym (g .driven n h);
+  read = λ n h. sym (g .read n h);
+}
+
 -- what an accepted sheet changes, of what an answer depends on
-record After (p : Part) (s : Circuit) (q : Part) : Type 0 where
+record After (w : Way) (p : Part) (s : Circuit) (q : Part) : Type 0 where
   k : q .k ≡ p .k
   capacity : q .capacity ≡ p .capacity
-  used : q .used ≡ p .used + leastNumber (p .k) s
+  used : q .used ≡ p .used + numberIn w p s
   sound : sound q ≡ true
   driven : (n : ℕ) → IsNet n → isDriven n (tablesOf q) ≡ (isDriven n (tablesOf p) || eqb (s .out) n)
   read : (n : ℕ) → IsNet n → isRead n (tablesOf q) ≡ (isRead n (tablesOf p) || elem n (leaves (s .tree)))
 
-alike-after : (p p′ q q′ : Part) (s : Circuit) → Alike p p′ → After p s q → After p′ s q′ → Alike q q′
-alike-after p p′ q q′ s g a b = record {
+-- parts that are alike have one number for a sheet
+number-alike : (w : Way) (p q : Part) (s : Circuit) → Alike p q → numberIn w p s ≡ numberIn w q s
+number-alike least p q s g = ap (λ k. leastNumber k s) (g .k)
+
+alike-after : (w : Way) (p p′ q q′ : Part) (s : Circuit) → Alike p p′ → After w p s q → After w p′ s q′ → Alike q q′
+alike-after w p p′ q q′ s g a b = record {
   k = a .k ∙ g .k ∙ sym (b .k);
   capacity = a .capacity ∙ g .capacity ∙ sym (b .capacity);
-  used = a .used ∙ ap₂ (λ n m. n + leastNumber m s) (g .used) (g .k) ∙ sym (b .used);
+  used = a .used ∙ ap₂ _+_ (g .used) (number-alike w p p′ s g) ∙ sym (b .used);
   sound = a .sound ∙ sym (b .sound);
   driven = λ n h. a .driven n h ∙ ap (λ t. t || eqb (s .out) n) (g .driven n h) ∙ sym (b .driven n h);
   read = λ n h. a .read n h ∙ ap (λ t. t || elem n (leaves (s .tree))) (g .read n h) ∙ sym (b .read n h);
@@ -68,85 +88,90 @@ alike-after p p′ q q′ s g a b = record {
 
 -- ---- one add
 
-module _ (p : Part) (text : List ℕ) (q : Part) (a : Answer) where
-  fill-answer : (s : Circuit) → Fill p s (leastNumber (p .k) s) q a → a ≡ cond (leb (leastNumber (p .k) s) (p .capacity - p .used)) accepted (refused 23 0)
+module _ (w : Way) (p : Part) (text : List ℕ) (q : Part) (a : Answer) where
+  fill-answer : (s : Circuit) → Fill w p s (numberIn w p s) q a → a ≡ cond (leb (numberIn w p s) (p .capacity - p .used)) accepted (refused 23 0)
   fill-answer s =
-      by-reflects (λ b. either b (Accepted p s q a) (Refused p 23 0 q a) → a ≡ cond b accepted (refused 23 0))
-      (reflects-le (leastNumber (p .k) s) (p .capacity - p .used)) (λ l t. t .answer) (λ l r. r .1)
+      by-reflects (λ b. either b (Accepted w p s q a) (Refused p 23 0 q a) → a ≡ cond b accepted (refused 23 0))
+      (reflects-le (numberIn w p s) (p .capacity - p .used)) (λ l t. t .answer) (λ l r. r .1)
 
-  offer-answer : Sound p → (s : Circuit) → readOf text ≡ passed s → Offer p s q a → a ≡ offered p s
+  offer-answer : Sound p → (s : Circuit) → reading w text ≡ passed s → Offer w p s q a → a ≡ offered w p s
   offer-answer h s e =
       by-reflects (λ b. either b (Refused p 21 0 q a) Others → a ≡ cond b (refused 21 0) others) (driven-reflects (s .out) (tablesOf p))
       (λ d r. r .1)
       (λ d. by-reflects (λ b. either b (Refused p 22 0 q a) Last → a ≡ cond b (refused 22 0) last) (read-reflects (s .out) (tablesOf p))
       (λ i r. r .1)
-      (λ i o. fill-answer s (subst (λ n. Fill p s n q a) (least-unique (o .1) (least-number (p .k) (h .k-range .0) s (reads-right text s e))) (o .2))))
+      (λ i o. fill-answer s (subst (λ n. Fill w p s n q a) (number-unique w p s (o .1) (number-is w p (h .k-range .0) s (reading-right w text s e))) (o .2))))
     where
       Last : Type 0
-      Last = (n : ℕ) × Least (p .k) (s .tree) n × Fill p s n q a
+      Last = (n : ℕ) × NumberBy w p s n × Fill w p s n q a
 
       Others : Type 0
       Others = either (isRead (s .out) (tablesOf p)) (Refused p 22 0 q a) Last
 
       last : Answer
-      last = cond (leb (leastNumber (p .k) s) (p .capacity - p .used)) accepted (refused 23 0)
+      last = cond (leb (numberIn w p s) (p .capacity - p .used)) accepted (refused 23 0)
 
       others : Answer
       others = cond (isRead (s .out) (tablesOf p)) (refused 22 0) last
 
-  take-answer : Sound p → (v : Checked Circuit) → readOf text ≡ v → Take p v q a → a ≡ taken p v
+  take-answer : Sound p → (v : Checked Circuit) → reading w text ≡ v → Take w p v q a → a ≡ taken w p v
   take-answer h (passed s) e o = offer-answer h s e o
   take-answer h (unread number place) e r = r .1
 
   -- THE ANSWER OF AN ADD
-  pub add-answer : Add p text q a → a ≡ answerOf p (readOf text)
+  pub add-answer : Add w p text q a → a ≡ answerOf w p (reading w text)
   unfolding Add
   add-answer =
-      by-reflects (λ b. either b (Take p (readOf text) q a) (Refused p 20 0 q a) → a ≡ cond b (taken p (readOf text)) (refused 20 0))
-      (sound-reflects p) (λ h. take-answer h (readOf text) refl) (λ n r. r .1)
+      by-reflects (λ b. either b (Take w p (reading w text) q a) (Refused p 20 0 q a) → a ≡ cond b (taken w p (reading w text)) (refused 20 0))
+      (sound-reflects p) (λ h. take-answer h (reading w text) refl) (λ n r. r .1)
 
 -- ---- adds on parts that are alike
 
-alike-offered : (p q : Part) (s : Circuit) → IsNet (s .out) → Alike p q → offered p s ≡ offered q s
-alike-offered p q s h g = λ i.
-    cond (g .driven (s .out) h i) (refused 21 0)
-    (cond (g .read (s .out) h i) (refused 22 0) (cond (leb (leastNumber (g .k i) s) (g .capacity i - g .used i)) accepted (refused 23 0)))
+module _ (w : Way) where
+  alike-offered : (p q : Part) (s : Circuit) → IsNet (s .out) → Alike p q → offered w p s ≡ offered w q s
+  alike-offered p q s h g = λ i.
+      cond (g .driven (s .out) h i) (refused 21 0)
+      (cond (g .read (s .out) h i) (refused 22 0) (cond (leb (number-alike w p q s g i) (g .capacity i - g .used i)) accepted (refused 23 0)))
 
-alike-taken : (p q : Part) (text : List ℕ) (v : Checked Circuit) → readOf text ≡ v → Alike p q → taken p v ≡ taken q v
-alike-taken p q text (passed s) e g = let l = reads-right text s e .legal .out-net in alike-offered p q s (omega arith) g
-alike-taken p q text (unread number place) e g = refl
+  alike-taken : (p q : Part) (text : List ℕ) (v : Checked Circuit) → reading w text ≡ v → Alike p q → taken w p v ≡ taken w q v
+  alike-taken p q text (passed s) e g = let l = reading-right w text s e .legal .out-net in alike-offered p q s (omega arith) g
+  alike-taken p q text (unread number place) e g = refl
 
-alike-answer : (p q : Part) (text : List ℕ) → Alike p q → answerOf p (readOf text) ≡ answerOf q (readOf text)
-alike-answer p q text g = ap₂ (λ b a. cond b a (refused 20 0)) (g .sound) (alike-taken p q text (readOf text) refl g)
+  pub alike-answer : (p q : Part) (text : List ℕ) → Alike p q → answerOf w p (reading w text) ≡ answerOf w q (reading w text)
+  alike-answer p q text g = ap₂ (λ b a. cond b a (refused 20 0)) (g .sound) (alike-taken p q text (reading w text) refl g)
 
 -- an add leaves the part as it was, or takes a sheet
 abbrev Stays : Part → Part → Answer → Type 0
 Stays p q a = (number : ℕ) × (place : ℕ) × Refused p number place q a
 
-abbrev Takes : Part → List ℕ → Part → Answer → Type 0
-Takes p text q a = (s : Circuit) × (readOf text ≡ passed s) × After p s q × (a ≡ accepted)
+abbrev Takes : Way → Part → List ℕ → Part → Answer → Type 0
+Takes w p text q a = (s : Circuit) × (reading w text ≡ passed s) × After w p s q × (a ≡ accepted)
 
-module _ (p : Part) (shape : Shaped p) (text : List ℕ) where
-  accepted-after : (s : Circuit) (q : Part) (a : Answer) → Sound p → readOf text ≡ passed s → Fresh s (tablesOf p) → (t : Accepted p s q a) →
-      p .used + length (t .new) ≤ p .capacity → After p s q
+module _ (w : Way) (p : Part) (shape : Shaped p) (text : List ℕ) where
+  accepted-after : (s : Circuit) (q : Part) (a : Answer) → Sound p → reading w text ≡ passed s → Fresh s (tablesOf p) → (t : Accepted w p s q a) →
+      p .used + length (t .new) ≤ p .capacity → After w p s q
   accepted-after s q a h e f t room = record {
     k = ap (λ q. q .k) (t .part);
     capacity = ap (λ q. q .capacity) (t .part);
-    used = ap (λ q. q .used) (t .part) ∙ ap (λ n. p .used + n) (least-unique (t .least .fewest) (least-number (p .k) (h .k-range .0) s (reads-right text s e)));
+    used = ap (λ q. q .used) (t .part) ∙
+        ap (λ n. p .used + n) (number-unique w p s (chosen-number w p s (t .new) (t .chosen)) (number-is w p (h .k-range .0) s (reading-right w text s e)));
     sound = reflects-true (sound-reflects q)
-        (subst Sound (sym (t .part)) (extended-sound p shape h (t .new) s (reads-right text s e .legal) (t .least .added) f room));
+        (subst Sound (sym (t .part)) (extended-sound p shape h (t .new) s (reading-right w text s e .legal) new-tables f room));
     driven = λ n l. reflects-same (driven-reflects n (tablesOf q)) (reflects-or (driven-reflects n (tablesOf p)) (reflects-eq (s .out) n))
-        (λ d. drives-after codeBase (p .k) (tablesOf p) (t .new) s (t .least .added) n (l .0) (subst (λ ts. Driven n ts) grown d))
-        (λ d. subst (λ ts. Driven n ts) (sym grown) (drives-still codeBase (p .k) (tablesOf p) (t .new) s (t .least .added) n d));
+        (λ d. drives-after codeBase (p .k) (tablesOf p) (t .new) s new-tables n (l .0) (subst (λ ts. Driven n ts) grown d))
+        (λ d. subst (λ ts. Driven n ts) (sym grown) (drives-still codeBase (p .k) (tablesOf p) (t .new) s new-tables n d));
     read = λ n l. reflects-same (read-reflects n (tablesOf q)) (reflects-or (read-reflects n (tablesOf p)) (reflects-elem n (leaves (s .tree))))
-        (λ d. reads-after codeBase (p .k) (tablesOf p) (t .new) s (t .least .added) n (omega (arith, l .1)) (subst (λ ts. Read n ts) grown d))
-        (λ d. subst (λ ts. Read n ts) (sym grown) (reads-still codeBase (p .k) (tablesOf p) (t .new) s (t .least .added) n d));
+        (λ d. reads-after codeBase (p .k) (tablesOf p) (t .new) s new-tables n (omega (arith, l .1)) (subst (λ ts. Read n ts) grown d))
+        (λ d. subst (λ ts. Read n ts) (sym grown) (reads-still codeBase (p .k) (tablesOf p) (t .new) s new-tables n d));
   }
     where
+      new-tables : CoverTables codeBase (p .k) (tablesOf p) (t .new) s
+      new-tables = chosen-added w p s (t .new) (t .chosen)
+
       grown : tablesOf q ≡ tablesOf p ++ t .new
       grown = ap tablesOf (t .part) ∙ extended-tables p shape h (t .new)
 
-  stays-or-takes : {q : Part} {a : Answer} → AddCase p text q a → Stays p q a ⊎ Takes p text q a
+  stays-or-takes : {q : Part} {a : Answer} → AddCase w p text q a → Stays p q a ⊎ Takes w p text q a
   stays-or-takes (unsound n r) = inl (20, 0, r)
   stays-or-takes (misread number place h e r) = inl (number, place, r)
   stays-or-takes (driven s h e d r) = inl (21, 0, r)
@@ -154,31 +179,84 @@ module _ (p : Part) (shape : Shaped p) (text : List ℕ) where
   stays-or-takes (full s n h e f l m r) = inl (23, 0, r)
   stays-or-takes (took s h e f t room) = inr (s, e, accepted-after s _ _ h e f t room, t .answer)
 
-alike-step : (p p′ q q′ : Part) (text : List ℕ) (a b : Answer) → Alike p p′ → a ≡ b → Stays p q a ⊎ Takes p text q a →
-    Stays p′ q′ b ⊎ Takes p′ text q′ b → Alike q q′
-alike-step p p′ q q′ text a b g e (inl x) (inl y) =
+alike-step : (w : Way) (p p′ q q′ : Part) (text : List ℕ) (a b : Answer) → Alike p p′ → a ≡ b → Stays p q a ⊎ Takes w p text q a →
+    Stays p′ q′ b ⊎ Takes w p′ text q′ b → Alike q q′
+alike-step w p p′ q q′ text a b g e (inl x) (inl y) =
     subst (λ o. Alike o q′) (sym (x .2 .0)) (subst (λ o. Alike p o) (sym (y .2 .0)) g)
-alike-step p p′ q q′ text a b g e (inl x) (inr y) = absurd (not-refused (x .2 .1) (e ∙ y .3))
-alike-step p p′ q q′ text a b g e (inr x) (inl y) = absurd (not-refused (y .2 .1) (sym e ∙ x .3))
-alike-step p p′ q q′ text a b g e (inr x) (inr y) =
-    alike-after p p′ q q′ (x .0) g (x .2) (subst (λ s. After p′ s q′) (same-sheet (y .1) (x .1)) (y .2))
+alike-step w p p′ q q′ text a b g e (inl x) (inr y) = absurd (not-refused (x .2 .1) (e ∙ y .3))
+alike-step w p p′ q q′ text a b g e (inr x) (inl y) = absurd (not-refused (y .2 .1) (sym e ∙ x .3))
+alike-step w p p′ q q′ text a b g e (inr x) (inr y) =
+    alike-after w p p′ q q′ (x .0) g (x .2) (subst (λ s. After w p′ s q′) (same-sheet (y .1) (x .1)) (y .2))
 
-call-alike : (p p′ : Part) → Shaped p → Shaped p′ → Alike p p′ → (c : Call) (r r′ : Result) → Promise p c (r .part) (r .answer) →
-    Promise p′ c (r′ .part) (r′ .answer) → (r .answer ≡ r′ .answer) × Alike (r .part) (r′ .part)
-call-alike p p′ f f′ g (add text) r r′ h h′ = (
+-- AN ADD on parts that are alike
+pub add-alike : (w : Way) (p p′ : Part) → Shaped p → Shaped p′ → Alike p p′ → (text : List ℕ) (q q′ : Part) (a a′ : Answer) → Add w p text q a →
+    Add w p′ text q′ a′ → (a ≡ a′) × Alike q q′
+add-alike w p p′ f f′ g text q q′ a a′ h h′ = (
   same,
-  alike-step p p′ (r .part) (r′ .part) text (r .answer) (r′ .answer) g same
-      (stays-or-takes p f text (add-case p text (r .part) (r .answer) h)) (stays-or-takes p′ f′ text (add-case p′ text (r′ .part) (r′ .answer) h′)),
+  alike-step w p p′ q q′ text a a′ g same (stays-or-takes w p f text (add-case w p text q a h)) (stays-or-takes w p′ f′ text (add-case w p′ text q′ a′ h′)),
 )
   where
-    same : r .answer ≡ r′ .answer
-    same = add-answer p text (r .part) (r .answer) h ∙ alike-answer p p′ text g ∙ sym (add-answer p′ text (r′ .part) (r′ .answer) h′)
+    same : a ≡ a′
+    same = add-answer w p text q a h ∙ alike-answer w p p′ text g ∙ sym (add-answer w p′ text q′ a′ h′)
+
+-- ---- calls on parts that are alike
+
+-- what a caller sees of two results is the same but for the covers taken
+pub record AlikeResults (r r′ : CallResult) : Type 0 where
+  pub answer : r .answer ≡ r′ .answer
+  pub position : r .position ≡ r′ .position
+  pub part : Alike (r .part) (r′ .part)
+
+pub add-shaped : (w : Way) (p : Part) → Shaped p → (text : List ℕ) (q : Part) (a : Answer) → Add w p text q a → Shaped q
+add-shaped w p f text q a h = kept p f (add-case w p text q a h) .shaped
+
+turn-alike : {o o′ p p′ : Part} {i : ℕ} {sheets : List (List ℕ)} {r r′ : CallResult} → InTurn o i sheets p r → InTurn o′ i sheets p′ r′ → Shaped p → Shaped p′ →
+    Alike o o′ → Alike p p′ → AlikeResults r r′
+turn-alike all all f f′ g k = record { answer = refl; position = refl; part = k }
+turn-alike (next {text = text} {p = p} {q = q} x y) (next {p = p′} {q = q′} x′ y′) f f′ g k =
+    let z = turn-alike y y′ (add-shaped least p f text q accepted x) (add-shaped least p′ f′ text q′ accepted x′) g (add-alike least p p′ f f′ k text q q′ accepted accepted x x′ .1) in
+    record { answer = z .answer; position = z .position; part = z .part }
+turn-alike (next {text = text} {p = p} {q = q} x y) (stop {p = p′} {q = q′} x′) f f′ g k =
+    absurd (not-refused refl (sym (add-alike least p p′ f f′ k text q q′ accepted (refused _ _) x x′ .0)))
+turn-alike (stop {text = text} {p = p} {q = q} x) (next {p = p′} {q = q′} x′ y′) f f′ g k =
+    absurd (not-refused refl (add-alike least p p′ f f′ k text q q′ (refused _ _) accepted x x′ .0))
+turn-alike (stop {text = text} {p = p} {q = q} {number = m} {place = l} x) (stop {p = p′} {q = q′} {number = m′} {place = l′} x′) f f′ g k =
+    record { answer = add-alike least p p′ f f′ k text q q′ (refused m l) (refused m′ l′) x x′ .0; position = refl; part = g }
+
+away-alike : (p p′ : Part) (number : ℕ) (r r′ : CallResult) → Alike p p′ → r ≡ turnedAway p number → r′ ≡ turnedAway p′ number → AlikeResults r r′
+away-alike p p′ number r r′ g e e′ = subst (λ x. AlikeResults x r′) (sym e) (subst (λ x. AlikeResults (turnedAway p number) x) (sym e′) (record { answer = refl; position = refl; part = g }))
+
+sound-alike : (p q : Part) → Alike p q → Sound p → Sound q
+sound-alike p q g s = says-true (sound-reflects q) (sym (g .sound) ∙ reflects-true (sound-reflects p) s)
+
+set-alike : (p p′ : Part) → Shaped p → Shaped p′ → Alike p p′ → (lengths text : List ℕ) (r r′ : CallResult) → SetCase p lengths text r → SetCase p′ lengths text r′ →
+    AlikeResults r r′
+set-alike p p′ f f′ g lengths text r r′ (unsound-part n e) (unsound-part n′ e′) = away-alike p p′ 20 r r′ g e e′
+set-alike p p′ f f′ g lengths text r r′ (unsound-part n e) (unfit s′ n′ e′) = absurd (n (sound-alike p′ p (alike-sym g) s′))
+set-alike p p′ f f′ g lengths text r r′ (unsound-part n e) (in-turn s′ w′ t′) = absurd (n (sound-alike p′ p (alike-sym g) s′))
+set-alike p p′ f f′ g lengths text r r′ (unfit s n e) (unsound-part n′ e′) = absurd (n′ (sound-alike p p′ g s))
+set-alike p p′ f f′ g lengths text r r′ (unfit s n e) (unfit s′ n′ e′) = away-alike p p′ 33 r r′ g e e′
+set-alike p p′ f f′ g lengths text r r′ (unfit s n e) (in-turn s′ w′ t′) = absurd (n w′)
+set-alike p p′ f f′ g lengths text r r′ (in-turn s w t) (unsound-part n′ e′) = absurd (n′ (sound-alike p p′ g s))
+set-alike p p′ f f′ g lengths text r r′ (in-turn s w t) (unfit s′ n′ e′) = absurd (n′ w)
+set-alike p p′ f f′ g lengths text r r′ (in-turn s w t) (in-turn s′ w′ t′) = turn-alike t t′ f f′ g g
+
+call-alike : (p p′ : Part) → Shaped p → Shaped p′ → Alike p p′ → (c : Call) (r r′ : CallResult) → Promise p c r → Promise p′ c r′ → AlikeResults r r′
+call-alike p p′ f f′ g (add w text) r r′ h h′ =
+    let z = add-alike w p p′ f f′ g text (r .part) (r′ .part) (r .answer) (r′ .answer) (h .0) (h′ .0) in
+    record { answer = z .0; position = ap (λ r. r .position) (h .1) ∙ sym (ap (λ r. r .position) (h′ .1)); part = z .1 }
+call-alike p p′ f f′ g (addSet lengths text) r r′ h h′ =
+    set-alike p p′ f f′ g lengths text r r′ (set-case p lengths text r h) (set-case p′ lengths text r′ h′)
+
+-- what is seen of a result but for the part
+abbrev pub seen : CallResult → Answer × ℕ
+seen r = (r .answer, r .position)
 
 -- EVERY ANSWER of a list of calls is settled by the part at the start
-pub answers-determined : {p p′ : Part} {cs : List Call} {rs rs′ : List Result} → Chain p cs rs → Chain p′ cs rs′ →
-    Shaped p → Shaped p′ → Alike p p′ → (map (λ r. r .answer) rs ≡ map (λ r. r .answer) rs′) × Alike (final p rs) (final p′ rs′)
+pub answers-determined : {p p′ : Part} {cs : List Call} {rs rs′ : List CallResult} → Chain p cs rs → Chain p′ cs rs′ → Shaped p → Shaped p′ → Alike p p′ →
+    (map seen rs ≡ map seen rs′) × Alike (final p rs) (final p′ rs′)
 answers-determined done done f f′ g = (refl, g)
 answers-determined {p} {p′} (call {c = c} {r = r} h t) (call {r = r′} h′ t′) f f′ g =
     let x = call-alike p p′ f f′ g c r r′ h h′ in
-    let y = answers-determined t t′ (call-kept p f c (r .part) (r .answer) h .shaped) (call-kept p′ f′ c (r′ .part) (r′ .answer) h′ .shaped) (x .1) in
-    (ap₂ _∷_ (x .0) (y .0), y .1)
+    let y = answers-determined t t′ (call-kept p f c r h .shaped) (call-kept p′ f′ c r′ h′ .shaped) (x .part) in
+    (ap₂ _∷_ (ap₂ (λ a i. (a, i)) (x .answer) (x .position)) (y .0), y .1)

@@ -15,7 +15,7 @@ use Rattle.table.specs.Trusted.Records.{tableOf}
 use Rattle.table.specs.Trusted.Rules.{IsNet, places, Rules}
 use Rattle.part.specs.Trusted.Parts.{inUse, tablesOf}
 use Rattle.part.specs.Trusted.Sound.{Sound}
-use Rattle.demands.specs.Trusted.Nets.{Driven}
+use Rattle.part.specs.Trusted.Nets.{Driven}
 use Rattle.table.specs.declared.Table.{Table}
 use Rattle.part.specs.declared.Part.{Part}
 

@@ -21,7 +21,7 @@ use Rattle.cover.specs.Trusted.Placed.{rootNumber, placed, code, codes, codes*,
 use Rattle.cover.specs.Inputs.{root-in}
 use Rattle.cover.specs.Trusted.CoverTables.{Circuit, CoverTables}
 use Rattle.cover.specs.CoverTableLaws.{added-inputs, added-tidy}
-use Rattle.demands.specs.Trusted.Nets.{Driven, Read}
+use Rattle.part.specs.Trusted.Nets.{Driven, Read}
 
 module _ (base : ℕ) where
   -- one of the tables reads x

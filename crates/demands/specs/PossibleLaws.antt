@@ -1,4 +1,4 @@
--- Every promise of an add can be kept: for each part and each text there is a part and an answer that keep it.
+-- Every promise of a call can be kept: for each part and each call there is a result that keeps it.
 -- The tables of any cover can be numbered so that each stands after those that it reads: gates below come first, the root's last.
 use Prim.Native.Nat.{ℕ, zero, suc, _+_, _-_, _≤_, _<_}
 use native.Mathlib.Omega.{arith}
@@ -23,18 +23,22 @@ use Rattle.cover.specs.Eval.{numbered-append}
 use Rattle.cover.specs.Trusted.Placed.{rootNumber, placed, code, codes, codes*, gateTable, records, records*}
 use Rattle.cover.specs.Trusted.CoverTables.{Circuit, CoverTables}
 use Rattle.cover.specs.Legal.{Legal}
+use Rattle.set_lengths.specs.Trusted.Lengths.{isWhole, cut}
+use Rattle.set_lengths.specs.LengthLaws.{whole-reflects}
 use Rattle.part.specs.Trusted.Parts.{tablesOf}
 use Rattle.part.specs.Trusted.Sound.{Sound}
 use Rattle.part.specs.SoundLaws.{sound-reflects}
-use Rattle.part.specs.Trusted.Reading.{readOf}
-use Rattle.demands.specs.Readable.{Readable}
-use Rattle.demands.specs.ReadingLaws.{reads-right}
-use Rattle.part.specs.Trusted.Answers.{Answer, accepted, refused, Result}
+use Rattle.part.specs.Readable.{Readable}
+use Rattle.part.specs.Trusted.Ways.{Way, least, reading, NumberBy, Chosen}
+use Rattle.part.specs.WayLaws.{reading-right}
+use Rattle.part.specs.Trusted.Answers.{Answer, accepted, refused}
 use Rattle.part.specs.Trusted.Add.{extended, isRead, Refused, Accepted, Fill, Offer, Take, Add}
-use Rattle.demands.specs.AddLaws.{driven-reflects, read-reflects}
-use Rattle.demands.specs.Trusted.Calls.{Call, add, Promise, Chain, call}
-use Rattle.demands.specs.Determined.{leastNumber}
-use Rattle.demands.specs.DeterminedLaws.{least-number}
+use Rattle.part.specs.Trusted.Tries.{CallResult}
+use Rattle.part.specs.Trusted.Sets.{InTurn, all, next, stop, turnedAway, AddSet}
+use Rattle.part.specs.AddLaws.{driven-reflects, read-reflects}
+use Rattle.demands.specs.Trusted.Calls.{Call, add, addSet, oneSheet, Promise, Chain, call}
+use Rattle.demands.specs.Determined.{numberIn}
+use Rattle.demands.specs.DeterminedLaws.{number-is}
 use Rattle.part.specs.declared.Part.{Part}
 use Rattle.demands.specs.Trusted.Calls as calls
 
@@ -243,22 +247,14 @@ module _ (base : ℕ) where
 
 -- ---- the promises can be kept
 
-module _ (p : Part) (text : List ℕ) where
-  accepted-possible : (s : Circuit) → Readable s → Least (p .k) (s .tree) (leastNumber (p .k) s) → (q : Part) × (a : Answer) × Accepted p s q a
-  accepted-possible s r l =
-      let c = l .some in
-      let n = cover-added codeBase (p .k) (tablesOf p) s (r .legal) (c .0) (c .1) in (
-        extended p (n .0),
-        accepted,
-        record {
-          new = n .0;
-          least = record { added = n .1; fewest = subst (λ m. Least (p .k) (s .tree) m) (sym (n .2 ∙ c .2)) l };
-          part = refl;
-          answer = refl;
-        },
-      )
+chosen-possible : (w : Way) (p : Part) (s : Circuit) (n : ℕ) → Readable s → NumberBy w p s n → (new : List LookupTable) × Chosen w p s new
+chosen-possible least p s n r l =
+    let c = l .some in
+    let a = cover-added codeBase (p .k) (tablesOf p) s (r .legal) (c .0) (c .1) in
+    (a .0, record { added = a .1; fewest = subst (λ m. Least (p .k) (s .tree) m) (sym (a .2 ∙ c .2)) l })
 
-  offer-possible : Sound p → (s : Circuit) → Readable s → (q : Part) × (a : Answer) × Offer p s q a
+module _ (w : Way) (p : Part) (text : List ℕ) where
+  offer-possible : Sound p → (s : Circuit) → Readable s → (q : Part) × (a : Answer) × Offer w p s q a
   offer-possible h s r =
       by-reflects (λ b. (q : Part) × (a : Answer) × either b (Refused p 21 0 q a) (either (isRead (s .out) (tablesOf p)) (Refused p 22 0 q a) (Last q a)))
       (driven-reflects (s .out) (tablesOf p)) (λ d. (p, refused 21 0, (refl, refl)))
@@ -266,37 +262,63 @@ module _ (p : Part) (text : List ℕ) where
       (read-reflects (s .out) (tablesOf p)) (λ i. (p, refused 22 0, (refl, refl))) (λ i. last))
     where
       Last : Part → Answer → Type 0
-      Last q a = (n : ℕ) × Least (p .k) (s .tree) n × Fill p s n q a
+      Last q a = (n : ℕ) × NumberBy w p s n × Fill w p s n q a
 
-      least : Least (p .k) (s .tree) (leastNumber (p .k) s)
-      least = least-number (p .k) (h .k-range .0) s r
+      n : ℕ
+      n = numberIn w p s
 
-      filled : (q : Part) × (a : Answer) × Fill p s (leastNumber (p .k) s) q a
+      number : NumberBy w p s n
+      number = number-is w p (h .k-range .0) s r
+
+      takes : (q : Part) × (a : Answer) × Accepted w p s q a
+      takes = let c = chosen-possible w p s n r number in (extended p (c .0), accepted, record { new = c .0; chosen = c .1; part = refl; answer = refl })
+
+      filled : (q : Part) × (a : Answer) × Fill w p s n q a
       filled =
-          by-reflects (λ b. (q : Part) × (a : Answer) × either b (Accepted p s q a) (Refused p 23 0 q a))
-          (reflects-le (leastNumber (p .k) s) (p .capacity - p .used)) (λ l. accepted-possible s r least) (λ l. (p, refused 23 0, (refl, refl)))
+          by-reflects (λ b. (q : Part) × (a : Answer) × either b (Accepted w p s q a) (Refused p 23 0 q a))
+          (reflects-le n (p .capacity - p .used)) (λ l. takes) (λ l. (p, refused 23 0, (refl, refl)))
 
       last : (q : Part) × (a : Answer) × Last q a
-      last = (filled .0, filled .1, (leastNumber (p .k) s, least, filled .2))
+      last = (filled .0, filled .1, (n, number, filled .2))
 
-  take-possible : Sound p → (v : Checked Circuit) → readOf text ≡ v → (q : Part) × (a : Answer) × Take p v q a
-  take-possible h (passed s) e = offer-possible h s (reads-right text s e)
+  take-possible : Sound p → (v : Checked Circuit) → reading w text ≡ v → (q : Part) × (a : Answer) × Take w p v q a
+  take-possible h (passed s) e = offer-possible h s (reading-right w text s e)
   take-possible h (unread number place) e = (p, refused number place, (refl, refl))
 
   -- EVERY PROMISE OF AN ADD can be kept
-  pub add-possible : (q : Part) × (a : Answer) × Add p text q a
+  add-possible : (q : Part) × (a : Answer) × Add w p text q a
   unfolding Add
   add-possible =
-      by-reflects (λ b. (q : Part) × (a : Answer) × either b (Take p (readOf text) q a) (Refused p 20 0 q a))
-      (sound-reflects p) (λ h. take-possible h (readOf text) refl) (λ n. (p, refused 20 0, (refl, refl)))
+      by-reflects (λ b. (q : Part) × (a : Answer) × either b (Take w p (reading w text) q a) (Refused p 20 0 q a))
+      (sound-reflects p) (λ h. take-possible h (reading w text) refl) (λ n. (p, refused 20 0, (refl, refl)))
 
-call-possible : (p : Part) (c : Call) → (q : Part) × (a : Answer) × Promise p c q a
-call-possible p (add text) = add-possible p text
+turn-possible : (o : Part) (i : ℕ) (sheets : List (List ℕ)) (p : Part) → (r : CallResult) × InTurn o i sheets p r
+turn-possible o i [] p = (_, all)
+turn-possible o i (text ∷ sheets) p = let (q, a, x) = add-possible least p text in of (turn-possible o (suc i) sheets) q a x
+  where
+    of : ((p : Part) → (r : CallResult) × InTurn o (suc i) sheets p r) → (q : Part) (a : Answer) → Add least p text q a →
+        (r : CallResult) × InTurn o i (text ∷ sheets) p r
+    of f q accepted x = (_, next x (f q .1))
+    of f q (refused number place) x = (_, stop x)
+
+-- EVERY PROMISE OF ADDING A SET can be kept
+set-possible : (p : Part) (lengths text : List ℕ) → (r : CallResult) × AddSet p lengths text r
+unfolding AddSet
+set-possible p lengths text =
+    by-reflects (λ b. (r : CallResult) × either b (either (isWhole lengths (length text)) (InTurn p 1 (cut lengths text) p r) (r ≡ turnedAway p 33)) (r ≡ turnedAway p 20))
+    (sound-reflects p)
+    (λ s. by-reflects (λ b. (r : CallResult) × either b (InTurn p 1 (cut lengths text) p r) (r ≡ turnedAway p 33)) (whole-reflects lengths (length text))
+    (λ w. turn-possible p 1 (cut lengths text) p) (λ n. (turnedAway p 33, refl)))
+    (λ n. (turnedAway p 20, refl))
+
+call-possible : (p : Part) (c : Call) → (r : CallResult) × Promise p c r
+call-possible p (add w text) = let (q, a, x) = add-possible w p text in (oneSheet w text p q a, (x, refl))
+call-possible p (addSet lengths text) = set-possible p lengths text
 
 -- and so those of every list of calls
-pub chain-possible : (p : Part) (cs : List Call) → (rs : List Result) × Chain p cs rs
+pub chain-possible : (p : Part) (cs : List Call) → (rs : List CallResult) × Chain p cs rs
 chain-possible p [] = ([], calls.done)
 chain-possible p (c ∷ cs) =
     let x = call-possible p c in
-    let y = chain-possible (x .0) cs in
-    (record { part = x .0; answer = x .1 } ∷ y .0, call (x .2) (y .1))
+    let y = chain-possible (x .0 .part) cs in
+    (x .0 ∷ y .0, call (x .1) (y .1))

@@ -1,41 +1,49 @@
 -- THE THREE DEMANDS HOLD: `demand-1`, `demand-2` and `demand-3`; and what else is proved of lists of calls. `Part::add` ensures, of every
--- part p and text, `Add p text (r .part) (addingAnswer (r .answer))` of its result r; so calls of the code, each given the part that the one
--- before handed back, are a `Chain` (`called`). `Shaped` says of a part what its type does.
+-- part p and text, `Add least p text (r .part) (addingAnswer (r .answer))` of its result r, and `Part::add_set` likewise `AddSet`, for some
+-- tries; so calls of the code, each given the part that the one before handed back, are a `Chain` (`called`, `set-called`). `Shaped` says of a
+-- part what its type does.
 use Prim.Native.Nat.{ℕ, _≤_}
 use native.Mathlib.Omega.{arith}
-use mathlib.Core.Path.{_≡_, refl, ap, _∙_, subst}
+use mathlib.Core.Path.{_≡_, refl, sym, ap, _∙_, subst}
 use mathlib.Core.List.{List, _∷_, map}
 use lib.ListN.{length}
 use Rattle.lists.specs.Trusted.Lists.{Every}
 use Rattle.lists.specs.ListLaws.{every-none, every-cons}
 use Rattle.part.specs.Trusted.Parts.{tablesOf, Shaped}
 use Rattle.part.specs.Trusted.Sound.{Sound}
-use Rattle.part.specs.Trusted.Answers.{accepted, refused, Result}
+use Rattle.part.specs.Trusted.Ways.{least}
+use Rattle.part.specs.Trusted.Answers.{accepted, refused}
 use Rattle.part.specs.Trusted.Add.{opened, Add}
-use Rattle.part.specs.Trusted.AddAnswers.{addingAnswer, addedResult}
+use Rattle.part.specs.Trusted.AddAnswers.{addingAnswer}
+use Rattle.part.specs.Trusted.Tries.{Try, CallResult}
+use Rattle.part.specs.Trusted.Sets.{AddSet}
+use Rattle.part.specs.Trusted.SetAnswers.{setResult}
 use Rattle.part.specs.declared.Part.{Part}
 use Rattle.part.specs.declared.Added.{Added}
-use Rattle.demands.specs.Trusted.Calls.{Call, add, Chain, done, call, acceptedIn}
+use Rattle.part.specs.declared.SetAdded.{SetAdded}
+use Rattle.demands.specs.Trusted.Calls.{Call, add, addSet, oneSheet, Chain, done, call, acceptedIn}
 use Rattle.demands.specs.Trusted.Demands.{Demand1, lastPart, Demand2, Total, Demand3}
 use Rattle.part.specs.OpenLaws.{opened-empty, opened-shaped, opened-sound}
 use Rattle.demands.specs.ConditionLaws.{opening-told, add-told, line-told, list-told}
-use Rattle.demands.specs.CountLaws.{call-kept, chain-kept, counted}
-use Rattle.demands.specs.ValueLaws.{sound-narrow, unsound-stays, opened-served}
+use Rattle.demands.specs.SetLaws.{set-told}
+use Rattle.demands.specs.CallLaws.{call-tries, call-line, call-kept, unsound-call, ownCall, line-chain}
+use Rattle.demands.specs.CountLaws.{chain-kept, counted}
+use Rattle.demands.specs.ValueLaws.{sound-narrow, opened-served}
 use Rattle.demands.specs.FreeLaws.{values-by-free-nets}
 use Rattle.listing.specs.Trusted.Listing.{listOf}
 use Rattle.list_reading.specs.Trusted.ReadList.{readResult}
 use Rattle.list_reading.specs.ListingLaws.{list-says-all, same-lines}
 use Rattle.list_reading.specs.ReadLaws.{list-exactly}
 use Rattle.list_reading.specs.ToldLaws.{reading-told}
-use Rattle.demands.specs.DeterminedLaws.{alike-refl, answers-determined}
+use Rattle.demands.specs.DeterminedLaws.{alike-refl, seen, answers-determined}
 use Rattle.demands.specs.PossibleLaws.{chain-possible}
 
 -- ---- the demands
 
 pub demand-1 : Demand1
-demand-1 = record { opening = opening-told; adding = add-told; line = line-told; list = list-told; reading = reading-told }
+demand-1 = record { opening = opening-told; adding = add-told; sets = set-told; line = line-told; list = list-told; reading = reading-told }
 
-pub demand-2 : (k capacity : ℕ) → (opened k capacity) .answer ≡ accepted → (cs : List Call) (rs : List Result) →
+pub demand-2 : (k capacity : ℕ) → (opened k capacity) .answer ≡ accepted → (cs : List Call) (rs : List CallResult) →
     Chain ((opened k capacity) .part) cs rs → Demand2 k capacity cs rs
 demand-2 k capacity a cs rs h =
     let last = lastPart k capacity rs in
@@ -51,42 +59,53 @@ demand-2 k capacity a cs rs h =
       lines = λ q f i. same-lines last q (g .shaped) f s i;
     }
 
-pub demand-3 : (p : Part) → Shaped p → (cs : List Call) (rs : List Result) → Chain p cs rs → Demand3 p cs rs
+pub demand-3 : (p : Part) → Shaped p → (cs : List Call) (rs : List CallResult) → Chain p cs rs → Demand3 p cs rs
 demand-3 = counted
 
 -- ---- more of lists of calls
 
 -- an add of the code is the first call of a list that goes on with the part that it handed back
-pub called : (p : Part) (text : List ℕ) (r : Added) → Add p text (r .part) (addingAnswer (r .answer)) → {cs : List Call} {rs : List Result} →
-    Chain (r .part) cs rs → Chain p (add text ∷ cs) (addedResult r ∷ rs)
-called p text r h t = call h t
+pub called : (p : Part) (text : List ℕ) (r : Added) → Add least p text (r .part) (addingAnswer (r .answer)) → {cs : List Call} {rs : List CallResult} →
+    Chain (r .part) cs rs → Chain p (add least text ∷ cs) (oneSheet least text p (r .part) (addingAnswer (r .answer)) ∷ rs)
+called p text r h t = call {c = add least text} (h, refl) t
+
+-- and so is a set
+pub set-called : (p : Part) (lengths text : List ℕ) (r : SetAdded) (ts : List Try) → AddSet p lengths text (setResult r ts) → {cs : List Call} {rs : List CallResult} →
+    Chain (r .part) cs rs → Chain p (addSet lengths text ∷ cs) (setResult r ts ∷ rs)
+set-called p lengths text r ts h t = call h t
 
 -- from an opening, the used count is the sum of the least numbers of the accepted sheets
-pub opened-used : (k capacity : ℕ) → (opened k capacity) .answer ≡ accepted → (cs : List Call) (rs : List Result) →
-    Chain ((opened k capacity) .part) cs rs → Total k (acceptedIn cs rs) ((lastPart k capacity rs) .used)
+pub opened-used : (k capacity : ℕ) → (opened k capacity) .answer ≡ accepted → (cs : List Call) (rs : List CallResult) →
+    Chain ((opened k capacity) .part) cs rs → Total (acceptedIn rs) ((lastPart k capacity rs) .used)
 opened-used k capacity a cs rs h =
-    let e = opened-empty k capacity a in
     let u = (demand-3 ((opened k capacity) .part) (opened-shaped k capacity) cs rs h) .used in
-    let i : u .0 ≡ (lastPart k capacity rs) .used = omega (arith, u .2, ap (λ p. p .used) e) in
-    subst (Total k (acceptedIn cs rs)) i (subst (λ p. Total (p .k) (acceptedIn cs rs) (u .0)) e (u .1))
+    let i : u .0 ≡ (lastPart k capacity rs) .used = omega (arith, u .2, ap (λ p. p .used) (opened-empty k capacity a)) in
+    subst (Total (acceptedIn rs)) i (u .1)
 
 -- from a sound part on, every part is sound
-pub chain-sound : {p : Part} {cs : List Call} {rs : List Result} → Chain p cs rs → Shaped p → Sound p → Every (λ r. Sound (r .part)) rs
+pub chain-sound : {p : Part} {cs : List Call} {rs : List CallResult} → Chain p cs rs → Shaped p → Sound p → Every (λ r. Sound (r .part)) rs
 chain-sound done f h = every-none _
 chain-sound {p} (call {c = c} {r = r} g t) f h =
-    let k = call-kept p f c (r .part) (r .answer) g in
+    let k = call-kept p f c r g in
     every-cons (k .sound h) (chain-sound t (k .shaped) (k .sound h))
 
 -- a part that is not sound stays as it is, and every answer is 20
-pub unsound-start : (p : Part) (cs : List Call) (rs : List Result) → Chain p cs rs → ¬ (Sound p) →
-    Every (λ r. r ≡ record { part = p; answer = refused 20 0 }) rs
-unsound-start p cs rs h = unsound-stays h
+pub unsound-start : {p : Part} {cs : List Call} {rs : List CallResult} → Chain p cs rs → ¬ (Sound p) → Every (λ r. (r .part ≡ p) × (r .answer ≡ refused 20 0)) rs
+unsound-start done n = every-none _
+unsound-start {p} (call {c = c} {r = r} {rs = rs} h t) n =
+    let e = unsound-call p c r h n in
+    every-cons e (subst (λ q. Every (λ x. (x .part ≡ q) × (x .answer ≡ refused 20 0)) rs) (e .0) (unsound-start t (subst (λ q. ¬ (Sound q)) (sym (e .0)) n)))
 
--- all answers of a list are settled, whatever least covers were taken
-pub same-answers : (p : Part) → Shaped p → (cs : List Call) (rs ts : List Result) → Chain p cs rs → Chain p cs ts →
-    map (λ r. r .answer) rs ≡ map (λ r. r .answer) ts
+-- all answers of a list are settled, with the positions of refused sheets, whatever covers were taken
+pub same-answers : (p : Part) → Shaped p → (cs : List Call) (rs ts : List CallResult) → Chain p cs rs → Chain p cs ts →
+    map seen rs ≡ map seen ts
 same-answers p f cs rs ts h g = answers-determined h g f f (alike-refl p) .0
 
 -- and no promise is contradictory
-pub promises-possible : (p : Part) (cs : List Call) → (rs : List Result) × Chain p cs rs
+pub promises-possible : (p : Part) (cs : List Call) → (rs : List CallResult) × Chain p cs rs
 promises-possible = chain-possible
+
+-- a further call goes on with a list: the adds of a set's sheets, one by one, are a list of calls with the same answers (02, #106: "as if
+-- those before it had been added")
+pub set-adds : (p : Part) (lengths text : List ℕ) (r : CallResult) → AddSet p lengths text r → Chain p (map (λ t. add (t .way) (t .text)) (r .tries)) (map ownCall (r .tries))
+set-adds p lengths text r h = line-chain (call-line p (addSet lengths text) r h) (call-tries p (addSet lengths text) r h)

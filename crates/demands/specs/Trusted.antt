@@ -1,3 +1,2 @@
-pub mod Nets
 pub mod Calls
 pub mod Demands

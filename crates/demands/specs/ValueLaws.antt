@@ -1,39 +1,37 @@
 -- Demand 2: in a sound part each table has at most K inputs; and over every list of calls from an opening, in the last part the output
--- net of each accepted sheet has the value that its gates give. And of a part that is not sound: every call answers 20 and leaves it as it is.
+-- net of each accepted sheet has the value that its gates give.
 use Prim.Native.Nat.{ℕ, _≤_}
 use native.Mathlib.Omega.{arith}
-use mathlib.Core.Path.{_≡_, refl, sym, ap, ap₂, _∙_, subst}
-use mathlib.Core.Bool.{Bool}
+use mathlib.Core.Path.{_≡_, refl, sym, ap, _∙_, subst}
 use mathlib.Core.List.{List, [], _∷_, _++_, append-assoc, append-nil, Memᴰ·append-left, Memᴰ·append-right}
 use lib.ListN.{length, length-take}
 use Rattle.lists.specs.Trusted.Lists.{_∈_, first, later, Every}
-use Rattle.lists.specs.ListLaws.{every-none, every-cons, every-append, every-map}
+use Rattle.lists.specs.ListLaws.{every-none, every-cons, every-head, every-tail, every-append, every-map}
+use Rattle.lists.specs.Trusted.Checked.{passed}
 use Rattle.tree.specs.Trusted.Limits.{codeBase}
 use Rattle.tree.specs.Trusted.Tree.{turned}
-use Rattle.lists.specs.Trusted.Checked.{passed}
 use Rattle.cover.specs.Trusted.Tables.{LookupTable}
 use Rattle.cover.specs.Trusted.CoverTables.{Circuit}
 use Rattle.cover.specs.History.{History, start, Met}
 use Rattle.cover.specs.HistoryLaws.{history-met}
 use Rattle.sheet.specs.Trusted.Sheet.{DrawnSheet}
-use Rattle.sheet.specs.Trusted.Read.{readSheet}
 use Rattle.sheet.specs.Trusted.Trees.{treeOf}
 use Rattle.sheet.specs.ValueLaws.{sheet-value}
-use Rattle.joined.specs.Trusted.Covered.{covered}
 use Rattle.joined.specs.JoinedLaws.{joined-value}
 use Rattle.table.specs.Trusted.Records.{tableOf}
 use Rattle.part.specs.Trusted.Parts.{inUse, tablesOf, Shaped}
 use Rattle.part.specs.Trusted.Sound.{Sound}
-use Rattle.part.specs.Trusted.Reading.{readOf}
-use Rattle.part.specs.Trusted.Answers.{Answer, accepted, refused, Result}
-use Rattle.part.specs.Trusted.Add.{opened, Refused}
-use Rattle.demands.specs.ReadingLaws.{covered-back, reads-right}
-use Rattle.part.specs.ExtendedLaws.{extended-tables}
+use Rattle.part.specs.Trusted.Ways.{reading}
+use Rattle.part.specs.WayLaws.{reading-right, reading-drawn, chosen-added}
+use Rattle.part.specs.Trusted.Answers.{accepted, refused}
+use Rattle.part.specs.Trusted.Tries.{Try, CallResult}
+use Rattle.part.specs.Trusted.Add.{opened}
+use Rattle.part.specs.AddLaws.{not-refused}
 use Rattle.part.specs.OpenLaws.{opened-shaped, opened-empty}
-use Rattle.demands.specs.AddLaws.{AddCase, unsound, misread, driven, read, full, taken, add-case}
-use Rattle.demands.specs.Trusted.Calls.{Call, add, final, sheetsRead, ifAccepted, Promise, sheetsOf, Chain, done, call, acceptedIn, Link, here, next}
-use Rattle.demands.specs.Trusted.Demands.{Taken, valuesIn, lastPart, Served, CallServed}
-use Rattle.demands.specs.CountLaws.{call-kept, counted}
+use Rattle.demands.specs.Trusted.Calls.{Call, Promise, Chain, done, call, final, SheetEntry, entered, sheetEntries, ifAccepted, acceptedBy, acceptedIn, Link, here, next}
+use Rattle.demands.specs.Trusted.Demands.{OnEachOther, no-try, next-try, TriedSheets, before-any, every, up-to, valuesIn, lastPart, Served, CallServed}
+use Rattle.demands.specs.TryLaws.{Trying, entriesOf, try-kept, try-taken}
+use Rattle.demands.specs.CallLaws.{call-tries, call-tried, call-kept}
 use Rattle.part.specs.declared.Part.{Part}
 
 -- ---- inputs
@@ -41,152 +39,186 @@ use Rattle.part.specs.declared.Part.{Part}
 pub sound-narrow : (p : Part) → Sound p → Every (λ t. length (t .inputs) ≤ p .k) (tablesOf p)
 sound-narrow p h = every-map (λ t. length (t .inputs) ≤ p .k) tableOf (inUse p) (λ r m. rw length-take (omega (arith, h .rules .sized r m .1)))
 
--- ---- an unsound start
-
-unsound-call : (p : Part) → ¬ (Sound p) → (c : Call) (r : Result) → Promise p c (r .part) (r .answer) →
-    r ≡ record { part = p; answer = refused 20 0 }
-unsound-call p n (add text) r h = go (add-case p text (r .part) (r .answer) h)
-  where
-    go : AddCase p text (r .part) (r .answer) → r ≡ record { part = p; answer = refused 20 0 }
-    go (unsound m x) = ap₂ (λ q a. record { part = q; answer = a }) (x .0) (x .1)
-    go (misread number place h e x) = absurd (n h)
-    go (driven s h e d x) = absurd (n h)
-    go (read s h e d i x) = absurd (n h)
-    go (full s m h e f l i x) = absurd (n h)
-    go (taken s h e f t room) = absurd (n h)
-
--- A PART THAT IS NOT SOUND stays as it is, and every answer is 20
-pub unsound-stays : {p : Part} {cs : List Call} {rs : List Result} → Chain p cs rs → ¬ (Sound p) →
-    Every (λ r. r ≡ record { part = p; answer = refused 20 0 }) rs
-unsound-stays done n = every-none _
-unsound-stays {p} (call {c = c} {r = r} {rs = rs} h t) n =
-    let e = unsound-call p n c r h in
-    let f : r .part ≡ p = ap (λ r. r .part) e in
-    every-cons e (subst (λ q. Every (λ x. x ≡ record { part = q; answer = refused 20 0 }) rs) f (unsound-stays t (subst (λ q. ¬ (Sound q)) (sym f) n)))
-
--- ---- values
+-- ---- what stays, and what is known of the whole part
 
 -- the old tables stay, and those of a later part stand after them
-abbrev Grows : Part → Part → Type 0
-Grows p q = (more : List LookupTable) × (tablesOf q ≡ tablesOf p ++ more)
+record Grows (p q : Part) : Type 0 where
+  more : List LookupTable
+  tables : tablesOf q ≡ tablesOf p ++ more
 
 same-grows : (p q : Part) → q ≡ p → Grows p q
-same-grows p q e = ([], ap tablesOf e ∙ sym (append-nil (tablesOf p)))
+same-grows p q e = record { more = []; tables = ap tablesOf e ∙ sym (append-nil (tablesOf p)) }
 
--- a history of the part goes on by the sheets that the call accepted
-abbrev Goes : ℕ → Part → List Circuit → List Circuit → Type 0
-Goes k q ss more = (all : List Circuit) × History codeBase k (tablesOf q) all × Every (λ s. s ∈ all) ss × Every (λ s. s ∈ all) more
+grows-trans : {p q r : Part} → Grows p q → Grows q r → Grows p r
+grows-trans {p} g h = record {
+  more = g .more ++ h .more;
+  tables = h .tables ∙ ap (λ ts. ts ++ h .more) (g .tables) ∙ append-assoc (tablesOf p) (g .more) (h .more);
+}
 
-module _ (p : Part) (shape : Shaped p) (text : List ℕ) where
-  outcome-grows : {q : Part} {a : Answer} → AddCase p text q a → Grows p q
-  outcome-grows (unsound n r) = same-grows p _ (r .0)
-  outcome-grows (misread number place h e r) = same-grows p _ (r .0)
-  outcome-grows (driven s h e d r) = same-grows p _ (r .0)
-  outcome-grows (read s h e d i r) = same-grows p _ (r .0)
-  outcome-grows (full s n h e f l m r) = same-grows p _ (r .0)
-  outcome-grows (taken s h e f t room) = (t .new, ap tablesOf (t .part) ∙ extended-tables p shape h (t .new))
+-- the part is made by adding sheets, those of `ss` and of `es` among them
+record Made (k : ℕ) (q : Part) (ss : List Circuit) (es : List SheetEntry) : Type 0 where
+  sheets : List Circuit
+  history : History codeBase k (tablesOf q) sheets
+  old : Every (λ s. s ∈ sheets) ss
+  new : Every (λ e. e .sheet ∈ sheets) es
 
-  module _ (ss : List Circuit) (history : History codeBase (p .k) (tablesOf p) ss) where
-    same-goes : (number place : ℕ) (q : Part) (a : Answer) → Refused p number place q a → Goes (p .k) q ss (ifAccepted a (sheetsRead (readOf text)))
-    same-goes number place q a r = (
-      ss,
-      subst (λ q. History codeBase (p .k) (tablesOf q) ss) (sym (r .0)) history,
-      λ s m. m,
-      subst (λ a. Every (λ s. s ∈ ss) (ifAccepted a (sheetsRead (readOf text)))) (sym (r .1)) (every-none _),
-    )
+-- the sheet of a try has its tables, which stand unchanged in the part q; it is one of `es`
+record Stands (t : Try) (q : Part) (es : List SheetEntry) : Type 0 where
+  sheet : Circuit
+  new : List LookupTable
+  read : reading (t .way) (t .text) ≡ passed sheet
+  tables : tablesOf (t .after) ≡ tablesOf (t .before) ++ new
+  stay : Grows (t .after) q
+  mine : record { way = t .way; part = t .before; sheet = sheet } ∈ es
 
-    outcome-goes : {q : Part} {a : Answer} → AddCase p text q a → Goes (p .k) q ss (ifAccepted a (sheetsRead (readOf text)))
-    outcome-goes (unsound n r) = same-goes _ _ _ _ r
-    outcome-goes (misread number place h e r) = same-goes _ _ _ _ r
-    outcome-goes (driven s h e d r) = same-goes _ _ _ _ r
-    outcome-goes (read s h e d i r) = same-goes _ _ _ _ r
-    outcome-goes (full s n h e f l m r) = same-goes _ _ _ _ r
-    outcome-goes (taken s h e f t room) = (
-      s ∷ ss,
-      subst (λ ts. History codeBase (p .k) ts (s ∷ ss)) (sym (ap tablesOf (t .part) ∙ extended-tables p shape h (t .new)))
-          (History.add history (reads-right text s e .legal) (t .least .added) f),
-      λ u m. later m,
-      subst (λ us. Every (λ u. u ∈ s ∷ ss) us) (sym (ap₂ (λ a v. ifAccepted a (sheetsRead v)) (t .answer) e)) (every-cons (first refl) (every-none _)),
-    )
+stands-on : (t : Try) (q r : Part) (es fs : List SheetEntry) → Grows q r → Every (λ e. e ∈ fs) es → Stands t q es → Stands t r fs
+stands-on t q r es fs g i s = record {
+  sheet = s .sheet;
+  new = s .new;
+  read = s .read;
+  tables = s .tables;
+  stay = grows-trans (s .stay) g;
+  mine = i _ (s .mine);
+}
 
-call-grows : (p : Part) → Shaped p → (c : Call) (q : Part) (a : Answer) → Promise p c q a → Grows p q
-call-grows p shape (add text) q a h = outcome-grows p shape text (add-case p text q a h)
+-- what the sheets of accepted tries bring, from the part p to the part q
+record Serves (k : ℕ) (p q : Part) (ts : List Try) (es : List SheetEntry) : Type 0 where
+  grows : Grows p q
+  made : (ss : List Circuit) → History codeBase k (tablesOf p) ss → Made k q ss es
+  each : Every (λ t. Stands t q es) ts
 
-call-goes : (p : Part) → Shaped p → (ss : List Circuit) → History codeBase (p .k) (tablesOf p) ss → (c : Call) (q : Part) (a : Answer) →
-    Promise p c q a → Goes (p .k) q ss (ifAccepted a (sheetsOf c))
-call-goes p shape ss g (add text) q a h = outcome-goes p shape text ss g (add-case p text q a h)
+serves-none : (k : ℕ) (p q : Part) → q ≡ p → Serves k p q [] []
+serves-none k p q e = record {
+  grows = same-grows p q e;
+  made = λ ss h. record { sheets = ss; history = subst (λ q. History codeBase k (tablesOf q) ss) (sym e) h; old = λ s m. m; new = every-none _ };
+  each = every-none _;
+}
 
-chain-grows : {p : Part} {cs : List Call} {rs : List Result} → Chain p cs rs → Shaped p → Grows p (final p rs)
+-- ---- one sheet, and then others
+
+module _ (t : Try) (shape : Shaped (t .before)) (h : Trying t) (a : t .answer ≡ accepted) where
+  serves-cons : (q : Part) (ts : List Try) → Serves (t .before .k) (t .after) q ts (sheetEntries ts) → Serves (t .before .k) (t .before) q (t ∷ ts) (sheetEntries (t ∷ ts))
+  serves-cons q ts v =
+      let (s, new, p, k) = try-taken t shape h a in
+      let e : entriesOf t ≡ record { way = t .way; part = t .before; sheet = s } ∷ [] = ap (entered (t .way) (t .before)) (k .read) in
+      record {
+        grows = grows-trans (record { more = new; tables = k .tables }) (v .grows);
+        made = λ ss g.
+            let added = History.add g (reading-right (t .way) (t .text) s (k .read) .legal) (chosen-added (t .way) (t .before) s new (k .cover)) (p .fresh) in
+            let n = v .made (s ∷ ss) (subst (λ ts. History codeBase (t .before .k) ts (s ∷ ss)) (sym (k .tables)) added) in
+            record {
+              sheets = n .sheets;
+              history = n .history;
+              old = λ u i. n .old u (later i);
+              new = every-append (entriesOf t) (sheetEntries ts) (subst (Every (λ x. x .sheet ∈ n .sheets)) (sym e) (every-cons (n .old s (first refl)) (every-none _))) (n .new);
+            };
+        each = every-cons
+            (record {
+              sheet = s;
+              new = new;
+              read = k .read;
+              tables = k .tables;
+              stay = v .grows;
+              mine = Memᴰ·append-left (sheetEntries ts) (subst (λ es. record { way = t .way; part = t .before; sheet = s } ∈ es) (sym e) (first refl));
+            })
+            (λ u m. stands-on u q q (sheetEntries ts) (sheetEntries (t ∷ ts)) (same-grows q q refl) (λ x i. Memᴰ·append-right (entriesOf t) i) (v .each u m));
+      }
+
+line-serves : {p q : Part} {ts : List Try} → OnEachOther p ts q → Every Trying ts → Shaped p → Serves (p .k) p q ts (sheetEntries ts)
+line-serves {p} no-try h shape = serves-none (p .k) p p refl
+line-serves {q = q} (next-try {t = t} {ts = ts} a l) h shape =
+    let k = try-kept t shape (every-head h) in
+    serves-cons t shape (every-head h) a q ts (subst (λ n. Serves n (t .after) q ts (sheetEntries ts)) (k .same-k) (line-serves l (every-tail h) (k .shaped)))
+
+-- ---- a call: what it brings to the part, and of each of its sheets where it turns nothing down
+
+record CallServes (k : ℕ) (p : Part) (r : CallResult) : Type 0 where
+  grows : Grows p (r .part)
+  made : (ss : List Circuit) → History codeBase k (tablesOf p) ss → Made k (r .part) ss (acceptedBy r)
+  each : r .answer ≡ accepted → Every (λ t. Stands t (r .part) (acceptedBy r)) (r .tries)
+
+call-serves : (o : Part) → Shaped o → (c : Call) (r : CallResult) → Promise o c r → CallServes (o .k) o r
+call-serves o shape c r h = of (call-tried o c r h)
+  where
+    none-served : (number place : ℕ) → r .answer ≡ refused number place → r .part ≡ o → CallServes (o .k) o r
+    none-served number place e f =
+        let z = serves-none (o .k) o (r .part) f in
+        let n : [] ≡ acceptedBy r = ap (λ a. ifAccepted a (sheetEntries (r .tries))) (sym e) in
+        record {
+          grows = z .grows;
+          made = subst (λ es. (ss : List Circuit) → History codeBase (o .k) (tablesOf o) ss → Made (o .k) (r .part) ss es) n (z .made);
+          each = λ a. absurd (not-refused e a);
+        }
+
+    of : TriedSheets o c r → CallServes (o .k) o r
+    of (before-any n f e) = none-served n 0 (ap (λ r. r .answer) e) (ap (λ r. r .part) e)
+    of (every e l a) =
+        let s = line-serves l (call-tries o c r h) shape in
+        let n : sheetEntries (r .tries) ≡ acceptedBy r = ap (λ a. ifAccepted a (sheetEntries (r .tries))) (sym a) in
+        record {
+          grows = s .grows;
+          made = subst (λ es. (ss : List Circuit) → History codeBase (o .k) (tablesOf o) ss → Made (o .k) (r .part) ss es) n (s .made);
+          each = λ i. subst (λ es. Every (λ t. Stands t (r .part) es) (r .tries)) n (s .each);
+        }
+    of (up-to ahead t rest m n e s l i j f) = none-served m n (j ∙ i) f
+
+-- ---- a chain of calls
+
+chain-grows : {p : Part} {cs : List Call} {rs : List CallResult} → Chain p cs rs → Shaped p → Grows p (final p rs)
 chain-grows {p} done shape = same-grows p p refl
-chain-grows {p} (call {c = c} {r = r} h t) shape =
-    let g = call-grows p shape c (r .part) (r .answer) h in
-    let i = chain-grows t ((call-kept p shape c (r .part) (r .answer) h) .shaped) in
-    (g .0 ++ i .0, i .1 ∙ ap (λ ts. ts ++ i .0) (g .1) ∙ append-assoc (tablesOf p) (g .0) (i .0))
+chain-grows {p} (call {c = c} {r = r} h t) shape = grows-trans (call-serves p shape c r h .grows) (chain-grows t (call-kept p shape c r h .shaped))
 
-chain-goes : {p : Part} {cs : List Call} {rs : List Result} → Chain p cs rs → Shaped p → (ss : List Circuit) →
-    History codeBase (p .k) (tablesOf p) ss → Goes (p .k) (final p rs) ss (acceptedIn cs rs)
-chain-goes {p} done shape ss g = (ss, g, λ s m. m, every-none _)
-chain-goes {p} (call {c = c} {cs = cs} {r = r} {rs = rs} h t) shape ss g =
-    let k = call-kept p shape c (r .part) (r .answer) h in
-    let x = call-goes p shape ss g c (r .part) (r .answer) h in
-    let y = chain-goes t (k .shaped) (x .0) (subst (λ n. History codeBase n (tablesOf (r .part)) (x .0)) (sym (k .same-k)) (x .1)) in (
-      y .0,
-      subst (λ n. History codeBase n (tablesOf (final (r .part) rs)) (y .0)) (k .same-k) (y .1),
-      λ s m. y .2 s (x .2 s m),
-      every-append (ifAccepted (r .answer) (sheetsOf c)) (acceptedIn cs rs) (λ s m. y .2 s (x .3 s m)) (y .3),
-    )
-
--- ---- one call of the chain
-
-link-grows : {p o : Part} {cs : List Call} {rs : List Result} {ss : List Circuit} {d : Call} {t : Result} → Link p cs rs ss o d t →
-    Chain p cs rs → Shaped p → Grows (t .part) (final p rs)
-link-grows {p} {d = d} {t = t} here (call h rest) shape = chain-grows rest ((call-kept p shape d (t .part) (t .answer) h) .shaped)
-link-grows {p} (next {c = c} {r = r} l) (call h rest) shape = link-grows l rest ((call-kept p shape c (r .part) (r .answer) h) .shaped)
-
-link-accepted : {p o : Part} {cs : List Call} {rs : List Result} {ss : List Circuit} {d : Call} {t : Result} → Link p cs rs ss o d t →
-    Every (λ s. s ∈ acceptedIn cs rs) (ifAccepted (t .answer) (sheetsOf d))
-link-accepted (here {cs = cs} {rs = rs}) s m = Memᴰ·append-left (acceptedIn cs rs) m
-link-accepted (next {c = c} {r = r} l) s m = Memᴰ·append-right (ifAccepted (r .answer) (sheetsOf c)) (link-accepted l s m)
-
-module _ (p : Part) (shape : Shaped p) (history : History codeBase (p .k) (tablesOf p) []) (cs : List Call) (rs : List Result)
-    (chain : Chain p cs rs) where
-  add-served : (ss : List Circuit) (o : Part) (text : List ℕ) (r : Result) → Link p cs rs ss o (add text) r → r .answer ≡ accepted →
-      (d : DrawnSheet) × (new : List LookupTable) × Served (final p rs) o text r d new
-  add-served ss o text r l e = (
-    d .0,
-    t .1,
+chain-made : {p : Part} {cs : List Call} {rs : List CallResult} → Chain p cs rs → Shaped p → (ss : List Circuit) → History codeBase (p .k) (tablesOf p) ss →
+    Made (p .k) (final p rs) ss (acceptedIn rs)
+chain-made done shape ss g = record { sheets = ss; history = g; old = λ s m. m; new = every-none _ }
+chain-made {p} (call {c = c} {r = r} {rs = rs} h t) shape ss g =
+    let k = call-kept p shape c r h in
+    let m = call-serves p shape c r h .made ss g in
+    let n = chain-made t (k .shaped) (m .sheets) (subst (λ n. History codeBase n (tablesOf (r .part)) (m .sheets)) (sym (k .same-k)) (m .history)) in
     record {
-      read = d .1;
-      tables = t .2 .tables;
-      stay = link-grows l chain shape;
-      value = λ σ.
-          let v = valuesIn (final p rs) σ in
-          subst (Met v) (sym (d .2)) (met σ) ∙ ap (turned (d .0 .inverted)) (joined-value v (treeOf (d .0))) ∙ sym (sheet-value v (d .0));
-    },
-  )
-    where
-      t : (s : Circuit) × (new : List LookupTable) × Taken (p .k) o text (r .part) s new
-      t = (counted p shape cs rs chain) .each ss o (add text) r l .2 .taken e
+      sheets = n .sheets;
+      history = subst (λ i. History codeBase i (tablesOf (final (r .part) rs)) (n .sheets)) (k .same-k) (n .history);
+      old = λ s i. n .old s (m .old s i);
+      new = every-append (acceptedBy r) (acceptedIn rs) (λ e i. n .old (e .sheet) (m .new e i)) (n .new);
+    }
 
-      d : (d : DrawnSheet) × (readSheet text ≡ passed d) × (covered d ≡ t .0)
-      d = covered-back text (t .0) (t .2 .read)
+link-stands : {p o : Part} {cs : List Call} {rs : List CallResult} {es : List SheetEntry} {d : Call} {r : CallResult} → Link p cs rs es o d r → Chain p cs rs →
+    Shaped p → r .answer ≡ accepted → Every (λ t. Stands t (final p rs) (acceptedIn rs)) (r .tries)
+link-stands {p} (here {d = d} {t = r} {rs = rs}) (call h g) shape a t m =
+    stands-on t (r .part) (final (r .part) rs) (acceptedBy r) (acceptedBy r ++ acceptedIn rs) (chain-grows g (call-kept p shape d r h .shaped))
+    (λ e i. Memᴰ·append-left (acceptedIn rs) i) (call-serves p shape d r h .each a t m)
+link-stands {p} (next {c = c} {r = r} {rs = rs} l) (call h g) shape a t m =
+    let last = final (r .part) rs in
+    stands-on t last last (acceptedIn rs) (acceptedBy r ++ acceptedIn rs) (same-grows last last refl) (λ e i. Memᴰ·append-right (acceptedBy r) i)
+    (link-stands l g (call-kept p shape c r h .shaped) a t m)
 
-      g : Goes (p .k) (final p rs) [] (acceptedIn cs rs)
-      g = chain-goes chain shape [] history
+module _ (p : Part) (shape : Shaped p) (history : History codeBase (p .k) (tablesOf p) []) (cs : List Call) (rs : List CallResult) (chain : Chain p cs rs) where
+  made : Made (p .k) (final p rs) [] (acceptedIn rs)
+  made = chain-made chain shape [] history
 
-      mine : t .0 ∈ ifAccepted (r .answer) (sheetsRead (readOf text))
-      mine = subst (λ us. t .0 ∈ us) (sym (ap₂ (λ a v. ifAccepted a (sheetsRead v)) e (t .2 .read))) (first refl)
+  stands-served : (t : Try) → Stands t (final p rs) (acceptedIn rs) → (d : DrawnSheet) × (new : List LookupTable) × Served (final p rs) t d new
+  stands-served t z =
+      let (d, read, is) = reading-drawn (t .way) (t .text) (z .sheet) (z .read) in (
+        d,
+        z .new,
+        record {
+          read = read;
+          tables = z .tables;
+          stay = (z .stay .more, z .stay .tables);
+          value = λ σ.
+              let v = valuesIn (final p rs) σ in
+              let met = history-met codeBase (p .k) (made .history) σ (z .sheet) (made .new _ (z .mine)) in
+              subst (Met v) (sym is) met ∙ ap (turned (d .inverted)) (joined-value v (treeOf d)) ∙ sym (sheet-value v d);
+        },
+      )
 
-      met : (σ : ℕ → Bool) → Met (valuesIn (final p rs) σ) (t .0)
-      met σ = history-met codeBase (p .k) (g .1) σ (t .0) (g .3 (t .0) (link-accepted l (t .0) mine))
-
-  served : (ss : List Circuit) (o : Part) (c : Call) (r : Result) → Link p cs rs ss o c r → CallServed (final p rs) o c r
-  served ss o (add text) r l = add-served ss o text r l
+  served : (es : List SheetEntry) (o : Part) (c : Call) (r : CallResult) → Link p cs rs es o c r → CallServed (final p rs) r
+  served es o c r l a t m = stands-served t (link-stands l chain shape a t m)
 
 -- DEMAND 2: every list of calls from an opening
-pub opened-served : (k capacity : ℕ) → (opened k capacity) .answer ≡ accepted → (cs : List Call) (rs : List Result) →
-    Chain ((opened k capacity) .part) cs rs → (ss : List Circuit) (o : Part) (c : Call) (r : Result) →
-    Link ((opened k capacity) .part) cs rs ss o c r → CallServed (lastPart k capacity rs) o c r
-opened-served k capacity a cs rs chain ss o c r l =
+pub opened-served : (k capacity : ℕ) → (opened k capacity) .answer ≡ accepted → (cs : List Call) (rs : List CallResult) →
+    Chain ((opened k capacity) .part) cs rs → (es : List SheetEntry) (o : Part) (c : Call) (r : CallResult) →
+    Link ((opened k capacity) .part) cs rs es o c r → CallServed (lastPart k capacity rs) r
+opened-served k capacity a cs rs chain es o c r l =
     let e = opened-empty k capacity a in
-    served ((opened k capacity) .part) (opened-shaped k capacity) (subst (λ q. History codeBase (q .k) (tablesOf q) []) (sym e) start) cs rs chain ss o c r l
+    served ((opened k capacity) .part) (opened-shaped k capacity) (subst (λ q. History codeBase (q .k) (tablesOf q) []) (sym e) start) cs rs chain es o c r l

@@ -9,8 +9,8 @@ use mathlib.Core.List.{List, [], _∷_, _++_, map, Memᴰ·cast}
 use lib.Dec.{eqb}
 use lib.ListN.{length, length-map, getD}
 use Rattle.lists.specs.Cases.{by-eqb, if-leb}
-use Rattle.lists.specs.Trusted.Lists.{_∈_, first, later, Every, Rising, Distinct, Inserted, here, there, Permuted, empty, more, insert, sorted, from}
-use Rattle.lists.specs.Sequences.{Sorted, Mix, neither, left, right, upto, sum}
+use Rattle.lists.specs.Trusted.Lists.{_∈_, first, later, Every, Rising, Distinct, Inserted, here, there, Permuted, empty, more, insert, sorted, from, sum}
+use Rattle.lists.specs.Sequences.{Sorted, Mix, neither, left, right, upto}
 use Rattle.lists.specs.ListLaws.{every-none, every-cons, every-head, every-tail, inserted-to, inserted-from}
 
 -- ---- sums

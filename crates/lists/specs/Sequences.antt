@@ -1,5 +1,5 @@
--- Lists in order, mixed and paired, the numbers below n, and sums. Internal definitions: the laws are in ListLaws, MixLaws and NumberLaws.
-use Prim.Native.Nat.{ℕ, zero, suc, _+_, _≤_}
+-- Lists in order, mixed and paired, and the numbers below n. Internal definitions: the laws are in ListLaws, MixLaws and NumberLaws.
+use Prim.Native.Nat.{ℕ, zero, suc, _≤_}
 use mathlib.Core.List.{List, [], _∷_, map}
 use Rattle.lists.specs.Trusted.Lists.{Pairwise}
 
@@ -22,8 +22,3 @@ pub data Paired {A B : Type 0} (R : A → B → Type 0) : List A → List B → 
 abbrev pub upto : ℕ → List ℕ
 upto zero = []
 upto (suc n) = 0 ∷ map suc (upto n)
-
--- the sum of the elements' weights
-abbrev pub sum : {A : Type 0} → (A → ℕ) → List A → ℕ
-sum f [] = 0
-sum f (y ∷ ys) = f y + sum f ys

@@ -5,8 +5,8 @@ use mathlib.Core.Path.{_≡_, refl, sym, ap, ap₂, _∙_, subst}
 use mathlib.Core.List.{List, [], _∷_, _++_, append-assoc}
 use lib.ListN.{length, getD, length-append}
 use lib.Seq.{getD-append-add}
-use Rattle.lists.specs.Trusted.Lists.{_∈_, Every, Distinct, gather, from}
-use Rattle.lists.specs.Sequences.{Paired, no-pair, pair, sum}
+use Rattle.lists.specs.Trusted.Lists.{_∈_, Every, Distinct, gather, from, sum}
+use Rattle.lists.specs.Sequences.{Paired, no-pair, pair}
 use Rattle.lists.specs.ListLaws.{every-none, every-cons, every-head, every-tail, not-first, inserted-to, inserted-from, permuted-length}
 use Rattle.lists.specs.NumberLaws.{sum-inserted, sum-le}
 use Rattle.cover.specs.Nets.{tables-most*}

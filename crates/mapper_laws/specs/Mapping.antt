@@ -5,8 +5,8 @@ use mathlib.Core.Path.{_≡_}
 use mathlib.Core.Bool.{Bool, false}
 use mathlib.Core.List.{List, [], _∷_, _++_, map}
 use lib.ListN.{length, getD}
-use Rattle.lists.specs.Trusted.Lists.{Every, Distinct, Permuted, gather}
-use Rattle.lists.specs.Sequences.{Paired, sum}
+use Rattle.lists.specs.Trusted.Lists.{Every, Distinct, Permuted, gather, sum}
+use Rattle.lists.specs.Sequences.{Paired}
 use Rattle.tree.specs.declared.Kind.{Kind}
 use Rattle.tree.specs.declared.Kind.the-variants.{And as and}
 use Rattle.tree.specs.Trusted.Tree.{Node, gate, Edges}

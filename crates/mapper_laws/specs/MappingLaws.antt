@@ -6,8 +6,8 @@ use mathlib.Core.Bool.{Bool, false}
 use mathlib.Core.List.{List, [], _∷_, _++_, append-assoc, append-nil}
 use lib.ListN.{length, getD, length-append, length-map, List·getD-append}
 use lib.Seq.{getD-append-add}
-use Rattle.lists.specs.Trusted.Lists.{Every, Distinct, Permuted, gather, from}
-use Rattle.lists.specs.Sequences.{Paired, no-pair, pair, upto, sum}
+use Rattle.lists.specs.Trusted.Lists.{Every, Distinct, Permuted, gather, from, sum}
+use Rattle.lists.specs.Sequences.{Paired, no-pair, pair, upto}
 use Rattle.lists.specs.ListLaws.{every-none, every-cons, every-head, every-at, every-append, every-left, every-right, permuted-refl, permuted-sym, permuted-trans, permuted-append, permuted-swap, permuted-length, gather-append, gather-permuted, gather-same, interchange}
 use Rattle.lists.specs.MixLaws.{paired-append}
 use Rattle.lists.specs.NumberLaws.{sum-append, sum-same, sum-none}

@@ -23,7 +23,7 @@ use Rattle.cover.specs.Value.{held-same, held-same*}
 use Rattle.plan.specs.declared.Key.{Key}
 use Rattle.plan.specs.declared.Token.{Token}
 use Rattle.plan.specs.declared.Token.the-variants.{Join as join}
-use Rattle.plan.specs.Key.{KeyTaken, held as kept, cut, Way}
+use Rattle.plan.specs.Key.{KeyTaken, held as kept, cut, KeyJoined}
 use Rattle.plan.specs.Plans.{Denotes, fanin, binary, Planned, Fragment, drawn, made, marked, placeFragment, PlanSays, Runs, stop, pushed, joined, Ready, ready-none, ready-edge, Body}
 use Rattle.plan.specs.Fragments.{FragmentOf, as-drawn, as-made, ready-names, fragment-join}
 use Rattle.plan.specs.PlanLaws.{runs-append, plan-body}
@@ -222,7 +222,7 @@ module _ (base : ℕ) (k : Kind) where
         pub low : Low base (n + length (ts ++ new)) (top .table)
         pub earlier : Early base (numbered (n + length ts) new)
 
-      module _ {p q : List Token} {ms ns : List ℕ} {a b c : Key} {st : List Operand} (ts : List LookupTable) {sf : List Fragment} (l d : Bool) (w : Way K l d a b c)
+      module _ {p q : List Token} {ms ns : List ℕ} {a b c : Key} {st : List Operand} (ts : List LookupTable) {sf : List Fragment} (l d : Bool) (w : KeyJoined K l d a b c)
           (x : Followed p ms a st ts sf) (y : Followed q ns b (x .top ∷ st) (ts ++ x .new) (x .fragment ∷ sf)) where
         -- the tables before the join, after its left operand, and after both; and those that it places
         abbrev before : List LookupTable

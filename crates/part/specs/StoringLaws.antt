@@ -47,6 +47,7 @@ use Rattle.part.specs.Trusted.SoundTest.{sound}
 use Rattle.part.specs.SoundLaws.{sound-reflects, used-count}
 use Rattle.part.specs.Trusted.Reading.{readOf}
 use Rattle.part.specs.Trusted.Answers.{Answer, accepted, refused}
+use Rattle.part.specs.Trusted.Ways.{least}
 use Rattle.part.specs.Trusted.Add.{extended, isDriven, isRead, Offer, Add}
 use Rattle.part.specs.Trusted.AddAnswers.{addingAnswer}
 use Rattle.part.specs.ExtendedLaws.{extended-tables}
@@ -95,10 +96,10 @@ module _ {p : Part} {n i : ℕ} {u : Uses} (h : Looked p n i u) (room : p .used 
 -- ---- 21 and 22
 
 module _ (p : Part) (s : Circuit) where
-  pub offer-driven : isDriven (s .out) (tablesOf p) ≡ true → Offer p s p (refused 21 0)
+  pub offer-driven : isDriven (s .out) (tablesOf p) ≡ true → Offer least p s p (refused 21 0)
   offer-driven d = rw d (refl, refl)
 
-  pub offer-read : isDriven (s .out) (tablesOf p) ≡ false → isRead (s .out) (tablesOf p) ≡ true → Offer p s p (refused 22 0)
+  pub offer-read : isDriven (s .out) (tablesOf p) ≡ false → isRead (s .out) (tablesOf p) ≡ true → Offer least p s p (refused 22 0)
   offer-read d r = rw d (rw r (refl, refl))
 
 -- ---- 23, and the mapping's records stored
@@ -186,41 +187,41 @@ module _ (p : Part) (shape : Shaped p) (h : Sound p) (s : CodeSheet) (m : Mappin
       (subst (λ ts. LevelsStand levels (tablesOf p ++ ts)) (ap (λ n. take n new) (sym new-count) ∙ take-length new) st)
 
   module _ (d : isDriven (s .out) (tablesOf p) ≡ false) (r : isRead (s .out) (tablesOf p) ≡ false) where
-    pub offer-full : p .capacity - p .used < m .count → Offer p (circuitOf s) p (refused 23 0)
+    pub offer-full : p .capacity - p .used < m .count → Offer least p (circuitOf s) p (refused 23 0)
     offer-full l =
         rw d (rw r (length new, new-least .fewest, rw (lt-leb (length new) (p .capacity - p .used) (omega (arith, l, new-count))) (refl, refl)))
 
-    pub offer-stored : m .count ≤ p .capacity - p .used → Offer p (circuitOf s) (stored p m) accepted
+    pub offer-stored : m .count ≤ p .capacity - p .used → Offer least p (circuitOf s) (stored p m) accepted
     offer-stored l =
         rw d (rw r (
           length new,
           new-least .fewest,
           rw (le-leb (length new) (p .capacity - p .used) (omega (arith, l, new-count)))
-              (record { new = new; least = new-least; part = stored-extended; answer = refl }),
+              (record { new = new; chosen = new-least; part = stored-extended; answer = refl }),
         ))
 
 -- ---- a result as the part and the answer that it holds
 
 module _ (r : Added) (q : Part) (a : Adding) (e : r ≡ record { part = q; answer = a }) where
-  pub offer-same : (p : Part) (s : Circuit) → Offer p s q (addingAnswer a) → Offer p s (r .part) (addingAnswer (r .answer))
-  offer-same p s = subst (λ x. Offer p s (x .part) (addingAnswer (x .answer))) (sym e)
+  pub offer-same : (p : Part) (s : Circuit) → Offer least p s q (addingAnswer a) → Offer least p s (r .part) (addingAnswer (r .answer))
+  offer-same p s = subst (λ x. Offer least p s (x .part) (addingAnswer (x .answer))) (sym e)
 
-  pub add-same : (p : Part) (text : List ℕ) → Add p text q (addingAnswer a) → Add p text (r .part) (addingAnswer (r .answer))
-  add-same p text = subst (λ x. Add p text (x .part) (addingAnswer (x .answer))) (sym e)
+  pub add-same : (p : Part) (text : List ℕ) → Add least p text q (addingAnswer a) → Add least p text (r .part) (addingAnswer (r .answer))
+  add-same p text = subst (λ x. Add least p text (x .part) (addingAnswer (x .answer))) (sym e)
 
 -- ---- 20, the sheet's refusals, and a sheet that was read
 
 module _ (p : Part) (text : List ℕ) where
-  pub add-unsound : sound p ≡ false → Add p text p (refused 20 0)
+  pub add-unsound : sound p ≡ false → Add least p text p (refused 20 0)
   unfolding Add
   add-unsound e = rw e (refl, refl)
 
   module _ (h : Sound p) where
-    pub add-misread : (number line : ℕ) → readSheet text ≡ unread number line → Add p text p (refused number line)
+    pub add-misread : (number line : ℕ) → readSheet text ≡ unread number line → Add least p text p (refused number line)
     unfolding Add readOf _>>=_
     add-misread number line e = rw (reflects-true (sound-reflects p) h) (rw e (refl, refl))
 
-    pub add-offered : (s : DrawnSheet) → readSheet text ≡ passed s → (q : Part) (a : Answer) → Offer p (covered s) q a → Add p text q a
+    pub add-offered : (s : DrawnSheet) → readSheet text ≡ passed s → (q : Part) (a : Answer) → Offer least p (covered s) q a → Add least p text q a
     unfolding Add readOf _>>=_
     add-offered s e q a o = rw (reflects-true (sound-reflects p) h) (rw e o)
 

@@ -1,8 +1,13 @@
 pub mod Parts
 pub mod Sound
 pub mod Reading
+pub mod Ways
 pub mod Answers
 pub mod OpenAnswers
+pub mod Nets
 pub mod Add
 pub mod AddAnswers
+pub mod Tries
+pub mod Sets
+pub mod SetAnswers
 pub mod SoundTest

@@ -5,6 +5,7 @@ ghost use Rattle.sheet.specs.Trusted.Formed.{WellFormed};
 ghost use Rattle.table.specs.LevelTest.{LevelsStand};
 ghost use Rattle.part.specs.Trusted.Parts.{tablesOf};
 ghost use Rattle.part.specs.Trusted.Sound.{Sound};
+ghost use Rattle.part.specs.Trusted.Ways.{least};
 ghost use Rattle.part.specs.Trusted.Add.{Offer, Add};
 ghost use Rattle.mapper_laws.specs.CodeMap.{Sheetable};
 ghost use Rattle.part.specs.Storing.{circuitOf, JoinedMapped};
@@ -49,7 +50,7 @@ impl Part {
     // part's codes, before and after.
     pub fn offer(mut self, sheet: Sheet, levels: &mut [u16]) -> Added
         requires { ⌜ Sound self × WellFormed (drawnSheet sheet) × LevelsStand (now levels) (tablesOf self) ⌝ }
-        ensures { λ r. ⌜ Offer self (circuitOf sheet) (r .part) (addingAnswer (r .answer)) × LevelsStand (now (levels .exit)) (tablesOf (r .part)) ⌝ }
+        ensures { λ r. ⌜ Offer least self (circuitOf sheet) (r .part) (addingAnswer (r .answer)) × LevelsStand (now (levels .exit)) (tablesOf (r .part)) ⌝ }
     {
         let used = self.used;
         let first = used as usize;
@@ -99,21 +100,29 @@ impl Part {
         }
     }
 
-    // Adds the sheet that the text is. The conditions that refuse it are tested in 01's order: 20, the sheet's own, then an offer's.
-    pub fn add(self, text: &[u8]) -> Added
-        ensures { λ r. ⌜ Add self (now (text .entry)) (r .part) (addingAnswer (r .answer)) ⌝ }
+    // Adds the sheet that the text is to a part that is sound. The array has the levels of the part's codes, before and after.
+    pub(crate) fn take(self, text: &[u8], levels: &mut [u16]) -> Added
+        requires { ⌜ Sound self × LevelsStand (now levels) (tablesOf self) ⌝ }
+        ensures { λ r. ⌜ Add least self (now (text .entry)) (r .part) (addingAnswer (r .answer)) × LevelsStand (now (levels .exit)) (tablesOf (r .part)) ⌝ }
     {
-        let tables = self.tables;
-        let mut levels = [0u16; CODE_ROOM];
-        if !part_records::sound(self.k, self.capacity, self.used, tables, &mut levels) {
-            return self.refused(Adding::Unsound);
-        }
         let reading = sheet_reader::read(text);
         let answer = reading.answer;
         if let ReadAnswer::Refused(why, line) = answer {
             return self.refused(Adding::Misread(why, line));
         }
         let sheet = reading.sheet;
-        self.offer(sheet, &mut levels)
+        self.offer(sheet, levels)
+    }
+
+    // Adds the sheet that the text is. The conditions that refuse it are tested in 01's order: 20, the sheet's own, then an offer's.
+    pub fn add(self, text: &[u8]) -> Added
+        ensures { λ r. ⌜ Add least self (now (text .entry)) (r .part) (addingAnswer (r .answer)) ⌝ }
+    {
+        let tables = self.tables;
+        let mut levels = [0u16; CODE_ROOM];
+        if !part_records::sound(self.k, self.capacity, self.used, tables, &mut levels) {
+            return self.refused(Adding::Unsound);
+        }
+        self.take(text, &mut levels)
     }
 }

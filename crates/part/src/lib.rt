@@ -1,5 +1,6 @@
 // Parts of the row module: a device that holds lookup tables.
 mod add;
+mod set;
 
 ghost use mathlib.Core.Path.{_≡_};
 ghost use Rattle.part.specs.Trusted.Answers.{empty as emptyPart};
@@ -49,6 +50,21 @@ pub enum Adding {
 pub struct Added {
     pub part: Part,
     pub answer: Adding,
+}
+
+// What adding a set of sheets answers: of a sheet that is refused why, and its position in the set, from 1. SetAnswers in specs/Trusted
+// gives the refusals' numbers, places and positions.
+pub enum SetAdding {
+    Accepted,
+    Unsound,
+    LengthsUnfit,
+    SheetRefused(Adding, u8),
+}
+
+// The part that adding a set hands back, the one it got where it is refused, and the answer.
+pub struct SetAdded {
+    pub part: Part,
+    pub answer: SetAdding,
 }
 
 // A part with this K and this capacity that holds no table.

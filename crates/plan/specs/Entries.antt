@@ -4,8 +4,7 @@ use Prim.Native.Nat.{ℕ, _+_, _-_, _^_, _≤_, _<_}
 use mathlib.Core.Path.{_≡_}
 use mathlib.Core.List.{List}
 use lib.ListN.{length, getD, take}
-use Rattle.lists.specs.Trusted.Lists.{Every}
-use Rattle.lists.specs.Sequences.{sum}
+use Rattle.lists.specs.Trusted.Lists.{Every, sum}
 use Rattle.plan.specs.declared.Key.{Key}
 use Rattle.plan.specs.Key.{key, leaf-key, _≼_, join}
 use Rattle.tree.specs.Trusted.Limits.{fewestFanins, mostFanins}

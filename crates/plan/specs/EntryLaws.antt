@@ -9,7 +9,7 @@ use mathlib.Core.List.{List}
 use lib.ListN.{length, getD, set}
 use lib.Seq.{getD-set-same, getD-set-other}
 use lib.Pow.{pow-pos}
-use Rattle.lists.specs.Sequences.{sum}
+use Rattle.lists.specs.Trusted.Lists.{sum}
 use Rattle.lists.specs.NumberLaws.{sum-inserted, sum-mix}
 use Rattle.plan.specs.declared.Key.{Key}
 use Rattle.plan.specs.Key.{leaf-key, join}

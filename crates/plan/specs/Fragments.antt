@@ -12,7 +12,7 @@ use Rattle.lists.specs.MixLaws.{paired-append}
 use Rattle.tree.specs.Trusted.Tree.{Node, Edges, none, edge, edgeCount}
 use Rattle.cover.specs.Trusted.Cover.{Cover, net, top, Fanins, end, pick, arity, frontier, tables, tables*, width, widths, Fits*, Fits, SplitOf, same, split, Matched, done, match}
 use Rattle.plan.specs.declared.Key.{Key}
-use Rattle.plan.specs.Key.{leaf-key, KeyTaken, held, cut, Way}
+use Rattle.plan.specs.Key.{leaf-key, KeyTaken, held, cut, KeyJoined}
 use Rattle.plan.specs.Plans.{Fragment, drawn, made, marked, placeFragment, PlanSays, Standing, Ready, ready-none, ready-edge}
 
 -- ---- which fanin a cover stands for
@@ -112,7 +112,7 @@ module _ (K : ℕ) where
         }
 
     pub fragment-join : {f g : Fragment} {ms ns : List ℕ} {a b k : Key} {l r : Bool} (m n : ℕ) → FragmentOf f ms a → FragmentOf g ns b →
-        Way K l r a b k → PlanSays l m → PlanSays r n → FragmentOf (made (placeFragment m f (placeFragment n g end))) (ms ++ ns) k
+        KeyJoined K l r a b k → PlanSays l m → PlanSays r n → FragmentOf (made (placeFragment m f (placeFragment n g end))) (ms ++ ns) k
     fragment-join {f} {g} {ms} {ns} {k = k} m n s t w d e =
         let x = fragment-item m s (w .took-left) d in
         let y = fragment-item n t (w .took-right) e in

@@ -53,7 +53,7 @@ pub data KeyTaken (a : Key) : Bool → Key → Type 0 where
   cut : 2 ≤ a .width → KeyTaken a true (chosen a)
 
 -- `r` is what this way to hold or choose the two operands gives, and it fits
-pub record Way (K : ℕ) (cut-left cut-right : Bool) (a b r : Key) : Type 0 where
+pub record KeyJoined (K : ℕ) (cut-left cut-right : Bool) (a b r : Key) : Type 0 where
   pub left : Key
   pub right : Key
   pub took-left : KeyTaken a cut-left left

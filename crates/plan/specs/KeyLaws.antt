@@ -8,7 +8,7 @@ use native.Mathlib.Omega.{arith}
 use lib.Dec.{leb}
 use Rattle.lists.specs.Cases.{by-leb, if-leb}
 use Rattle.plan.specs.declared.Key.{Key}
-use Rattle.plan.specs.Key.{key, _≼_, better, _⊕_, pack, join, cuts, KeyTaken, held, cut, Way}
+use Rattle.plan.specs.Key.{key, _≼_, better, _⊕_, pack, join, cuts, KeyTaken, held, cut, KeyJoined}
 use Rattle.plan.specs.Volume.{fewestLeaves}
 
 key-path : {a b : Key} → a .below ≡ b .below → a .width ≡ b .width → a ≡ b
@@ -77,7 +77,7 @@ taken-wide held h = h
 taken-wide (cut g) h = omega arith
 
 way : {K : ℕ} {l c : Bool} {a b x y r : Key} → KeyTaken a l x → KeyTaken b c y → x .width + y .width ≤ K →
-    (r .below ≡ x .below + y .below) × (r .width ≡ x .width + y .width) → Way K l c a b r
+    (r .below ≡ x .below + y .below) × (r .width ≡ x .width + y .width) → KeyJoined K l c a b r
 way {x = x} {y = y} t u f e = record { left = x; right = y; took-left = t; took-right = u; fits = f; is = key-path (e .0) (e .1) }
 
 -- two choices by one test
@@ -87,7 +87,7 @@ if-leb₂ P {x} {y} {u} {v} = by-leb (λ t. P (cond t x y) (cond t u v))
 
 module _ (K : ℕ) (two : 2 ≤ K) where
   -- a join is one of the four ways
-  pub join-way : (a b : Key) → Way K (cuts K a b .0) (cuts K a b .1) a b (join K a b)
+  pub join-way : (a b : Key) → KeyJoined K (cuts K a b .0) (cuts K a b .1) a b (join K a b)
   unfolding pack cuts
   join-way a b =
       if-leb₂ By (a .width + b .width) K (λ h. way held held h (refl, refl)) λ h.
@@ -98,7 +98,7 @@ module _ (K : ℕ) (two : 2 ≤ K) where
       (λ k. way (cut (omega arith)) (cut (omega arith)) two (omega arith))
     where
       By : Bool × Bool → Key → Type 0
-      By c = Way K (c .0) (c .1) a b
+      By c = KeyJoined K (c .0) (c .1) a b
 
   -- and a lower bound of every way to hold two keys that are no better than its operands
   pub join-low : {a b x y : Key} → a ≼ x → b ≼ y → 1 ≤ x .width → 1 ≤ y .width → x .width + y .width ≤ K →

@@ -11,7 +11,7 @@ use Rattle.lists.specs.ListLaws.{permuted-append, permuted-trans}
 use Rattle.lists.specs.MixLaws.{mix-append}
 use Rattle.lists.specs.NumberLaws.{upto-length, upto-at}
 use Rattle.plan.specs.declared.Key.{Key}
-use Rattle.plan.specs.Key.{leaf-key, Way}
+use Rattle.plan.specs.Key.{leaf-key, KeyJoined}
 use Rattle.plan.specs.Masks.{select, MaskWithin}
 use Rattle.plan.specs.MaskLaws.{select-top, select-none, select-mix}
 use Rattle.plan.specs.declared.Token.{Token}
@@ -38,7 +38,7 @@ module _ {K : ℕ} {ks : List Key} where
 
   -- a mask of more
   pub mask-plan-join : (u s : ℕ) {p q : List Token} {a b k : Key} {l r : Bool} → MaskWithin u s →
-      MaskPlanned K ks (s - u) p a → MaskPlanned K ks u q b → Way K l r a b k → MaskPlanned K ks s (p ++ (q ++ (join l r ∷ []))) k
+      MaskPlanned K ks (s - u) p a → MaskPlanned K ks u q b → KeyJoined K l r a b k → MaskPlanned K ks s (p ++ (q ++ (join l r ∷ []))) k
   mask-plan-join u s w x y z = record {
     order = x .order ++ y .order;
     denotes = binary (x .denotes) (y .denotes) z;

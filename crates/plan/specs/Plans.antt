@@ -12,7 +12,7 @@ use Rattle.cover.specs.Trusted.Cover.{Cover, net, top, Fanins, end, old, new, a
 use Rattle.plan.specs.declared.Key.{Key}
 use Rattle.plan.specs.declared.Token.{Token}
 use Rattle.plan.specs.declared.Token.the-variants.{Push as push, Join as join}
-use Rattle.plan.specs.Key.{leaf-key, Way}
+use Rattle.plan.specs.Key.{leaf-key, KeyJoined}
 use Rattle.cover.specs.Trusted.Placed.{rootNumber}
 
 -- ---- what a plan gives: its key
@@ -21,7 +21,7 @@ use Rattle.cover.specs.Trusted.Placed.{rootNumber}
 pub data Denotes (K : ℕ) (ks : List Key) : List Token → List ℕ → Key → Type 0 where
   fanin : (i : ℕ) → i < length ks → Denotes K ks (push i ∷ []) (i ∷ []) (getD ks i leaf-key)
   binary : {p q : List Token} {ms ns : List ℕ} {a b k : Key} {l r : Bool} →
-      Denotes K ks p ms a → Denotes K ks q ns b → Way K l r a b k → Denotes K ks (p ++ (q ++ (join l r ∷ []))) (ms ++ ns) k
+      Denotes K ks p ms a → Denotes K ks q ns b → KeyJoined K l r a b k → Denotes K ks (p ++ (q ++ (join l r ∷ []))) (ms ++ ns) k
 
 -- the plan joins the fanins whose numbers are `ns`, each once, in any order
 pub record Planned (K : ℕ) (ks : List Key) (ns : List ℕ) (p : List Token) (k : Key) : Type 0 where

@@ -2,8 +2,7 @@
 use Prim.Native.Nat.{ℕ, zero, suc, _+_, _/_, _%_, _≤_}
 use native.Mathlib.Omega.{arith}
 use mathlib.Core.List.{List, [], _∷_}
-use Rattle.lists.specs.Trusted.Lists.{Every}
-use Rattle.lists.specs.Sequences.{sum}
+use Rattle.lists.specs.Trusted.Lists.{Every, sum}
 use Rattle.lists.specs.ListLaws.{every-head}
 use Rattle.lists.specs.MixLaws.{mix-every}
 use Rattle.lists.specs.NumberLaws.{sum-mix}

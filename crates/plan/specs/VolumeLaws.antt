@@ -8,8 +8,7 @@ use native.Mathlib.Decide.{decLt}
 use mathlib.Core.Path.{ap}
 use mathlib.Core.Logic.{by-cases}
 use mathlib.Core.List.{List}
-use Rattle.lists.specs.Trusted.Lists.{Every}
-use Rattle.lists.specs.Sequences.{sum}
+use Rattle.lists.specs.Trusted.Lists.{Every, sum}
 use Rattle.lists.specs.MixLaws.{mix-every}
 use Rattle.lists.specs.NumberLaws.{sum-mix}
 use Rattle.plan.specs.declared.Key.{Key}

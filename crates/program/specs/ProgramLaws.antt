@@ -9,7 +9,7 @@ use Rattle.part.specs.Trusted.Parts.{Shaped}
 use Rattle.part.specs.Trusted.Sound.{Sound}
 use Rattle.part.specs.Trusted.Answers.{Answer, accepted, refused, Result}
 use Rattle.part.specs.OpenLaws.{opened-shaped, opened-sound, opened-empty}
-use Rattle.demands.specs.AddLaws.{not-refused}
+use Rattle.part.specs.AddLaws.{not-refused}
 use Rattle.opening.specs.Trusted.Opening.{openingNumbers, count, openedBy}
 use Rattle.opening.specs.Contracts.{told, startResult}
 use Rattle.opening.specs.declared.Start.{Start}

@@ -10,7 +10,8 @@ use Rattle.lists.specs.Trusted.Checked.{passed, refused as unwritten}
 use Rattle.part.specs.Trusted.Parts.{Shaped}
 use Rattle.part.specs.Trusted.Sound.{Sound}
 use Rattle.part.specs.Trusted.Answers.{Answer, accepted, refused}
-use Rattle.demands.specs.AddLaws.{kept, add-case}
+use Rattle.part.specs.Trusted.Ways.{least}
+use Rattle.part.specs.AddLaws.{kept, add-case}
 use Rattle.part.specs.declared.Part.{Part}
 use Rattle.list_line.specs.Trusted.Writes.{WriteOutcome, pasted}
 use Rattle.listing.specs.Lines.{longest}
@@ -34,7 +35,7 @@ mapped-short : {p : Part} {n : ℕ} {text out : List ℕ} → Shaped p → Sound
 mapped-short {p} f h ended = list-short p h
 mapped-short f h (stopped q number place l a) = refusal-short
 mapped-short {p} f h (added q l a m) =
-    let k = kept p f (add-case p _ q accepted a) in
+    let k = kept p f (add-case least p _ q accepted a) in
     mapped-short (k .shaped) (k .sound h) m
 
 after-short : (p : Part) (a : Answer) → (a ≡ accepted → Shaped p × Sound p) → (text out : List ℕ) → After (record { part = p; answer = a }) text out → length out ≤ longest

@@ -6,10 +6,13 @@ use mathlib.Core.Option.{some}
 use mathlib.Core.List.{List, [], _∷_}
 use lib.ListN.{length, drop}
 use Rattle.decimal.specs.Trusted.Number.{Number}
-use Rattle.part.specs.Trusted.Answers.{accepted, refused, Result}
+use Rattle.sheet.specs.Trusted.Cut.{sheetText}
+use Rattle.part.specs.Trusted.Ways.{least}
+use Rattle.part.specs.Trusted.Answers.{accepted, refused}
+use Rattle.part.specs.Trusted.Tries.{CallResult}
 use Rattle.part.specs.Trusted.Add.{opened}
 use Rattle.part.specs.OpenLaws.{opened-shaped}
-use Rattle.demands.specs.Trusted.Calls.{Call, Chain, done, call}
+use Rattle.demands.specs.Trusted.Calls.{Call, add, oneSheet, Chain, done, call}
 use Rattle.demands.specs.Theorems.{demand-2, demand-3}
 use Rattle.part.specs.declared.Part.{Part}
 use Rattle.opening.specs.Trusted.Opening.{openingNumbers, count, openedBy}
@@ -19,19 +22,22 @@ use Rattle.program.specs.Trusted.Program.{After, Prints}
 use Rattle.program_laws.specs.Trusted.Runs.{Texts, end, stop, next, printedBy, Run}
 
 -- a text that is not empty has a call
-pub texts-some : {text : List ℕ} {cs : List Call} {rs : List Result} → Texts text cs rs → 0 < length text → 0 < length cs
+pub texts-some : {text : List ℕ} {cs : List Call} {rs : List CallResult} → Texts text cs rs → 0 < length text → 0 < length cs
 texts-some end h = absurd (omega arith)
 texts-some (stop number place l e) h = omega arith
 texts-some (next l e t) h = omega arith
 
 -- the calls, their results, and what these print
 mapped-calls : {p : Part} {n : ℕ} {text out : List ℕ} → SheetsPrint p n text out →
-    (cs : List Call) × (rs : List Result) × Chain p cs rs × Texts text cs rs × (out ≡ printedBy p n rs)
+    (cs : List Call) × (rs : List CallResult) × Chain p cs rs × Texts text cs rs × (out ≡ printedBy p n rs)
 mapped-calls ended = ([], [], done, end, refl)
-mapped-calls (stopped q number place l a) = (_, record { part = q; answer = refused number place } ∷ [], call a done, stop number place l refl, refl)
-mapped-calls (added q l a m) =
+mapped-calls {p} {text = text} (stopped q number place l a) =
+    let s = sheetText text .0 in
+    (_, oneSheet least s p q (refused number place) ∷ [], call {c = add least s} (a, refl) done, stop number place l refl, refl)
+mapped-calls {p} {text = text} (added q l a m) =
+    let s = sheetText text .0 in
     let r = mapped-calls m in
-    (_, record { part = q; answer = accepted } ∷ r .1, call a (r .2), next l refl (r .3), r .4)
+    (_, oneSheet least s p q accepted ∷ r .1, call {c = add least s} (a, refl) (r .2), next l refl (r .3), r .4)
 
 pub mapped-run : (k capacity : ℕ) (text out : List ℕ) → (opened k capacity) .answer ≡ accepted → SheetsPrint ((opened k capacity) .part) 0 text out →
     Run k capacity text out

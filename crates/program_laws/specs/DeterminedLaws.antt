@@ -13,15 +13,17 @@ use Rattle.decimal.specs.FieldLaws.{field-read, signed-read}
 use Rattle.sheet.specs.Trusted.Cut.{sheetText}
 use Rattle.part.specs.Trusted.Parts.{Shaped}
 use Rattle.part.specs.Trusted.Sound.{Sound}
-use Rattle.part.specs.Trusted.Answers.{Answer, accepted, refused, Result}
-use Rattle.part.specs.Trusted.Add.{opened, Add}
+use Rattle.part.specs.Trusted.Ways.{least}
+use Rattle.part.specs.Trusted.Answers.{Answer, accepted, refused}
+use Rattle.part.specs.Trusted.Tries.{CallResult}
+use Rattle.part.specs.Trusted.Add.{opened}
 use Rattle.part.specs.OpenLaws.{opened-shaped, opened-sound}
-use Rattle.demands.specs.AddLaws.{kept, add-case, not-refused}
-use Rattle.demands.specs.Trusted.Calls.{Call, add, final, Chain, done, call}
-use Rattle.demands.specs.CountLaws.{call-kept}
+use Rattle.part.specs.AddLaws.{not-refused}
+use Rattle.demands.specs.Trusted.Calls.{Call, add, Promise, Chain, done, call, final}
+use Rattle.demands.specs.CallLaws.{call-kept}
 use Rattle.listing.specs.Trusted.Listing.{listOf}
 use Rattle.demands.specs.Determined.{Alike}
-use Rattle.demands.specs.DeterminedLaws.{alike-refl, answers-determined}
+use Rattle.demands.specs.DeterminedLaws.{alike-refl, add-alike}
 use Rattle.part.specs.declared.Part.{Part}
 use Rattle.list_line.specs.Line.{topLine}
 use Rattle.listing.specs.Lines.{tableLines}
@@ -34,24 +36,18 @@ use Rattle.program_laws.specs.ChainLaws.{mapped-run}
 
 -- ---- two runs of a text, from parts that differ in nothing that an answer depends on
 
-add-alike : (p q : Part) → Shaped p → Shaped q → Alike p q → (text : List ℕ) (r t : Result) → Add p text (r .part) (r .answer) →
-    Add q text (t .part) (t .answer) → (r .answer ≡ t .answer) × Alike (r .part) (t .part)
-add-alike p q f g l text r t h i =
-    let x = answers-determined {cs = add text ∷ []} {rs = r ∷ []} {rs′ = t ∷ []} (call h done) (call i done) f g l in
-    let e : r .answer ∷ [] ≡ t .answer ∷ [] = x .0 in
-    (cc, x .1)
-
-add-shaped : (p : Part) → Shaped p → (text : List ℕ) (r : Result) → Add p text (r .part) (r .answer) → Shaped (r .part)
-add-shaped p f text r h = kept p f (add-case p text (r .part) (r .answer) h) .shaped
+texts-alike : (p q : Part) → Shaped p → Shaped q → Alike p q → (text : List ℕ) (r t : CallResult) → Promise p (add least text) r → Promise q (add least text) t →
+    (r .answer ≡ t .answer) × Alike (r .part) (t .part)
+texts-alike p q f g l text r t h i = add-alike least p q f g l text (r .part) (t .part) (r .answer) (t .answer) (h .0) (i .0)
 
 -- the calls, the answers and the used counts are the same
-record Agree (p q : Part) (cs ds : List Call) (rs ts : List Result) : Type 0 where
+record Agree (p q : Part) (cs ds : List Call) (rs ts : List CallResult) : Type 0 where
   calls : cs ≡ ds
   same : answers rs ≡ answers ts
   used : usedCounts rs ≡ usedCounts ts
   last : Alike (final p rs) (final q ts)
 
-texts-agree : {p q : Part} {text : List ℕ} {cs ds : List Call} {rs ts : List Result} → Texts text cs rs → Texts text ds ts →
+texts-agree : {p q : Part} {text : List ℕ} {cs ds : List Call} {rs ts : List CallResult} → Texts text cs rs → Texts text ds ts →
     Chain p cs rs → Chain q ds ts → Shaped p → Shaped q → Alike p q → Agree p q cs ds rs ts
 texts-agree end end done done f g l = record { calls = refl; same = refl; used = refl; last = l }
 texts-agree end (stop m n h e) c d f g l = absurd (omega arith)
@@ -59,16 +55,16 @@ texts-agree end (next h e t) c d f g l = absurd (omega arith)
 texts-agree (stop m n h e) end c d f g l = absurd (omega arith)
 texts-agree (next h e t) end c d f g l = absurd (omega arith)
 texts-agree {p} {q} (stop {text = text} {r = r} m n h e) (stop {r = s} i j k o) (call a done) (call b done) f g l =
-    let x = add-alike p q f g l (sheetText text .0) r s a b in
+    let x = texts-alike p q f g l (sheetText text .0) r s a b in
     record { calls = refl; same = ap (λ c. c ∷ []) (x .0); used = ap (λ c. c ∷ []) (x .1 .used); last = x .1 }
 texts-agree {p} {q} (stop {text = text} {r = r} m n h e) (next {r = s} k o u) (call a done) (call b d) f g l =
-    absurd (not-refused e (add-alike p q f g l (sheetText text .0) r s a b .0 ∙ o))
+    absurd (not-refused e (texts-alike p q f g l (sheetText text .0) r s a b .0 ∙ o))
 texts-agree {p} {q} (next {text = text} {r = r} h e t) (stop {r = s} i j k o) (call a c) (call b done) f g l =
-    absurd (not-refused o (sym (add-alike p q f g l (sheetText text .0) r s a b .0) ∙ e))
+    absurd (not-refused o (sym (texts-alike p q f g l (sheetText text .0) r s a b .0) ∙ e))
 texts-agree {p} {q} (next {text = text} {r = r} h e t) (next {r = s} k o u) (call a c) (call b d) f g l =
-    let x = add-alike p q f g l (sheetText text .0) r s a b in
-    let y = texts-agree t u c d (add-shaped p f (sheetText text .0) r a) (add-shaped q g (sheetText text .0) s b) (x .1) in
-    record { calls = ap (_∷_ (add (sheetText text .0))) (y .calls); same = ap₂ _∷_ (x .0) (y .same); used = ap₂ _∷_ (x .1 .used) (y .used); last = y .last }
+    let x = texts-alike p q f g l (sheetText text .0) r s a b in
+    let y = texts-agree t u c d (call-kept p f (add least (sheetText text .0)) r a .shaped) (call-kept q g (add least (sheetText text .0)) s b .shaped) (x .1) in
+    record { calls = ap (_∷_ (add least (sheetText text .0))) (y .calls); same = ap₂ _∷_ (x .0) (y .same); used = ap₂ _∷_ (x .1 .used) (y .used); last = y .last }
 
 -- ---- what the two runs print
 
@@ -76,7 +72,7 @@ top-line : (p : Part) (out : List ℕ) → out ≡ listOf p → take 19 out ≡ 
 top-line p out e = ap (take 19) (e ∙ list-is p) ∙ take-at (topLine (p .k) (p .capacity) (p .used)) (tableLines p (p .used)) 19 refl
 
 -- by the first refusal among the answers
-printed-for : (p : Part) {out : List ℕ} (rs : List Result) {o : Option (ℕ × ℕ × ℕ)} → out ≡ printedBy p 0 rs → firstRefusal 0 (answers rs) ≡ o →
+printed-for : (p : Part) {out : List ℕ} (rs : List CallResult) {o : Option (ℕ × ℕ × ℕ)} → out ≡ printedBy p 0 rs → firstRefusal 0 (answers rs) ≡ o →
     out ≡ elim o [ none ↦ listOf (final p rs) | some z ↦ refusalLine (z .0) (z .1) (z .2) ]
 printed-for p rs e i = e ∙ ap (λ (o : Option (ℕ × ℕ × ℕ)). elim o [ none ↦ listOf (final p rs) | some z ↦ refusalLine (z .0) (z .1) (z .2) ]) i
 
@@ -126,9 +122,9 @@ prints-determined input a b = of (openingNumbers input) refl
 
 -- ---- a list is no refusal: its first field has no minus sign
 
-chain-last : {p : Part} {cs : List Call} {rs : List Result} → Chain p cs rs → Shaped p → Sound p → Sound (final p rs)
+chain-last : {p : Part} {cs : List Call} {rs : List CallResult} → Chain p cs rs → Shaped p → Sound p → Sound (final p rs)
 chain-last done f h = h
-chain-last {p} (call {c = c} {r = r} a t) f h = let k = call-kept p f c (r .part) (r .answer) a in chain-last t (k .shaped) (k .sound h)
+chain-last {p} (call {c = c} {r = r} a t) f h = let k = call-kept p f c r a in chain-last t (k .shaped) (k .sound h)
 
 not-minus : (m n : ℕ) → _≡_ {A = Option Number} (some (record { negative = true; magnitude = m })) (some (record { negative = false; magnitude = n })) → ⊥
 not-minus m n e =

@@ -9,7 +9,8 @@ use Rattle.lists.specs.Trusted.Checked.{_>>=_, require, given}
 use Rattle.sheet.specs.Checks.{bytes}
 use Rattle.sheet.specs.Trusted.Cut.{sheetText}
 use Rattle.part.specs.Trusted.Answers.{accepted, refused}
-use Rattle.demands.specs.Trusted.Calls.{add}
+use Rattle.part.specs.Trusted.Ways.{least}
+use Rattle.demands.specs.Trusted.Calls.{add, oneSheet}
 use Rattle.part.specs.declared.Part.{Part}
 use Rattle.opening.specs.Trusted.Opening.{openingNumbers, openedBy}
 use Rattle.printing.specs.Trusted.RefusalLine.{refusalLine}
@@ -50,11 +51,11 @@ refusals-first :
 refusals-first = refl
 
 -- the calls of a text of two sheets: both, or the first alone where that is refused
-two-calls : (p q : Part) → Texts (first-text ++ second-text) (add first-text ∷ add second-text ∷ [])
-    (record { part = p; answer = accepted } ∷ record { part = q; answer = accepted } ∷ [])
+two-calls : (o p q : Part) → Texts (first-text ++ second-text) (add least first-text ∷ add least second-text ∷ [])
+    (oneSheet least first-text o p accepted ∷ oneSheet least second-text p q accepted ∷ [])
 unfolding _>>=_ require given
-two-calls p q = next {text = first-text ++ second-text} (omega arith) refl (next {text = second-text} (omega arith) refl end)
+two-calls o p q = next {text = first-text ++ second-text} (omega arith) refl (next {text = second-text} (omega arith) refl end)
 
-one-call : (p : Part) → Texts (first-text ++ second-text) (add first-text ∷ []) (record { part = p; answer = refused 23 0 } ∷ [])
+one-call : (o p : Part) → Texts (first-text ++ second-text) (add least first-text ∷ []) (oneSheet least first-text o p (refused 23 0) ∷ [])
 unfolding _>>=_ require given
-one-call p = stop {text = first-text ++ second-text} 23 0 (omega arith) refl
+one-call o p = stop {text = first-text ++ second-text} 23 0 (omega arith) refl

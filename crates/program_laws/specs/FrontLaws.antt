@@ -4,7 +4,7 @@ use Prim.Native.Nat.{ℕ, suc, _+_, _-_, _*_, _≤_}
 use native.Mathlib.Omega.{arith}
 use native.Mathlib.Nat.{mul-le-mul-right}
 use mathlib.Core.Path.{_≡_, refl, sym, ap, subst}
-use mathlib.Core.List.{List, [], _∷_, _++_}
+use mathlib.Core.List.{List, [], _++_}
 use lib.ListN.{length, take, drop, length-append, length-drop, take-append-drop, List·getD-append}
 use lib.Seq.{take-all, take-append-le, drop-append-le, length-take-le}
 use Rattle.lists.specs.Cases.{by-leb}
@@ -24,13 +24,14 @@ use Rattle.joined.specs.JoinedLaws.{joined-leaves}
 use Rattle.table.specs.Trusted.Limits.{tableRoom}
 use Rattle.part.specs.Trusted.Parts.{Shaped}
 use Rattle.part.specs.Trusted.Sound.{Sound}
-use Rattle.part.specs.Trusted.Answers.{Answer, accepted, refused, Result}
+use Rattle.part.specs.Trusted.Ways.{least}
+use Rattle.part.specs.Trusted.Answers.{Answer, accepted, refused}
+use Rattle.part.specs.Trusted.Tries.{Try}
 use Rattle.part.specs.Trusted.Add.{Add}
 use Rattle.part.specs.Trusted.Reading.{readOf}
-use Rattle.demands.specs.AddLaws.{kept, add-case}
-use Rattle.demands.specs.Trusted.Calls.{add, call, done, here}
-use Rattle.demands.specs.Theorems.{demand-3}
-use Rattle.demands.specs.ReadingLaws.{covered-back}
+use Rattle.part.specs.AddLaws.{kept, add-case}
+use Rattle.part.specs.ReadingLaws.{covered-back}
+use Rattle.demands.specs.TryLaws.{try-accounted}
 use Rattle.part.specs.declared.Part.{Part}
 use Rattle.opening.specs.Trusted.Opening.{openingNumbers, openedBy}
 use Rattle.sheets.specs.Trusted.Sheets.{SheetsPrint, ended, stopped, added}
@@ -55,12 +56,12 @@ record Took (p : Part) (text : List ℕ) (q : Part) : Type 0 where
   read : readSheet text ≡ passed sheet
   short : tableBytes * p .used + length text ≤ tableBytes * q .used
 
-took : (p : Part) → Shaped p → Sound p → (text : List ℕ) (q : Part) → Add p text q accepted → Took p text q
+took : (p : Part) → Shaped p → Sound p → (text : List ℕ) (q : Part) → Add least p text q accepted → Took p text q
 took p shape sound text q a =
-    let r : Result = record { part = q; answer = accepted } in
-    let (s, new, t) = demand-3 p shape (add text ∷ []) (r ∷ []) (call a done) .each [] p (add text) r here .2 .taken refl in
+    let u : Try = record { way = least; text = text; before = p; after = q; answer = accepted } in
+    let (s, new, t) = try-accounted u shape a .taken refl in
     let (d, e, i) = covered-back text s (t .read) in
-    let b = least-bounds (p .k) (t .least) .1 in
+    let b = least-bounds (p .k) (t .number) .1 in
     let k : (p .k - 1) * length new ≤ 5 * length new = mul-le-mul-right (length new) (omega (arith, sound .k-range)) in
     record {
       sheet = d;
@@ -71,7 +72,7 @@ took p shape sound text q a =
 -- ---- sheets one after the other
 
 -- an add goes by what is read of the text
-add-read : (p : Part) (text text₁ : List ℕ) (q : Part) (a : Answer) → readSheet text₁ ≡ readSheet text → Add p text q a → Add p text₁ q a
+add-read : (p : Part) (text text₁ : List ℕ) (q : Part) (a : Answer) → readSheet text₁ ≡ readSheet text → Add least p text q a → Add least p text₁ q a
 unfolding Add readOf
 add-read p text text₁ q a e h = rw e h
 
@@ -84,10 +85,10 @@ module _ (more : List ℕ) where
       stopped {text = text ++ more} q number place (omega (arith, length-append text more)) (add-read p (sheetText text .0) (sheetText (text ++ more) .0) q _ (front-read text more long) a)
   mapped-front {p} {n} {text} {out} shape sound l (added q h a m) =
       let t = took p shape sound (sheetText text .0) q a in
-      let g = kept p shape (add-case p (sheetText text .0) q accepted a) in
+      let g = kept p shape (add-case least p (sheetText text .0) q accepted a) in
       let e = front-rest text more (t .sheet) (t .read) in
       added {text = text ++ more} q (omega (arith, length-append text more))
-      (subst (λ (r : List ℕ × List ℕ). Add p (r .0) q accepted) (sym e) a)
+      (subst (λ (r : List ℕ × List ℕ). Add least p (r .0) q accepted) (sym e) a)
       (subst (λ (r : List ℕ × List ℕ). SheetsPrint q (suc n) (r .1) out) (sym e)
       (mapped-front (g .shaped) (g .sound sound) (omega (arith, t .short, length-append (sheetText text .0) (sheetText text .1), ap length (text-whole text))) m))
 

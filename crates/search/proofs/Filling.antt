@@ -10,7 +10,7 @@ use lib.ListN.{length, getD, take, set, length-take, length-set}
 use lib.Seq.{getD-take}
 use lib.Bits.{and-self}
 use lib.Pow.{pow-pos, pow-lt, pow-mono}
-use Rattle.lists.specs.Sequences.{sum}
+use Rattle.lists.specs.Trusted.Lists.{sum}
 use Rattle.lists.specs.ListLaws.{every-at}
 use Rattle.lists.specs.NumberLaws.{sum-mix}
 use Rattle.plan.specs.declared.Key.{Key}

@@ -21,7 +21,7 @@ use Rattle.plan.specs.declared.Token.the-variants.{Push as push, Join as join}
 use Rattle.plan.specs.declared.Plan.{Plan}
 use Rattle.tree.specs.Trusted.Limits.{mostFanins}
 use Rattle.plan.specs.Limits.{mostSteps}
-use Rattle.plan.specs.Key.{leaf-key, cuts, Way}
+use Rattle.plan.specs.Key.{leaf-key, cuts, KeyJoined}
 use Rattle.plan.specs.KeyLaws.{join-way}
 use Rattle.plan.specs.Masks.{select, MaskWithin}
 use Rattle.plan.specs.MaskLaws.{select-mix, select-some}
@@ -55,7 +55,7 @@ stepped-tokens p t l = rw (add-one, take-suc-set) (map-append _ (take (p .len) (
 
 -- the steps of two parts, and a join
 written-join : {K : ℕ} {ks : List Key} {bs ws : List ℕ} {s : ℕ} {p q r : Plan} {a b : Bool} (u : ℕ) → MaskWithin u s →
-    Way K a b (entry bs ws (s - u)) (entry bs ws u) (entry bs ws s) → r .len < mostSteps →
+    KeyJoined K a b (entry bs ws (s - u)) (entry bs ws u) (entry bs ws s) → r .len < mostSteps →
     StepsWritten K ks bs ws (s - u) p q → StepsWritten K ks bs ws u q r → StepsWritten K ks bs ws s p (stepped r (join a b))
 written-join {s = s} {p = p} {r = r} {a = a} {b = b} u i way l x y =
     let t = join a b in record {
@@ -206,5 +206,5 @@ module _ {K : ℕ} {bs ws us : List ℕ} {s : ℕ} {p : Plan} (w : Writable K bs
         join-writes ks es =
             let a = own es .apart some in
             let way = join-way K (w .good .table .0) (entry bs ws (s - u)) (entry bs ws u) in
-            written-join u (a .0) (subst (Way K (flags .0) (flags .1) (entry bs ws (s - u)) (entry bs ws u)) (sym (a .2)) way) join-room
+            written-join u (a .0) (subst (KeyJoined K (flags .0) (flags .1) (entry bs ws (s - u)) (entry bs ws u)) (sym (a .2)) way) join-room
             (f ks (rest-entries es)) (g ks (part-entries es))

@@ -6,9 +6,8 @@ use mathlib.Core.Bool.{false}
 use mathlib.Core.List.{List, [], _∷_}
 use lib.Dec.{T}
 use lib.ListN.{length, take, set, replicate}
-use Rattle.lists.specs.Trusted.Lists.{Every}
+use Rattle.lists.specs.Trusted.Lists.{Every, sum}
 use Rattle.lists.specs.TestLaws.{by-either}
-use Rattle.lists.specs.Sequences.{sum}
 use Rattle.lists.specs.ListLaws.{every-none, every-cons, every-head, every-tail}
 use Rattle.plan.specs.declared.Key.{Key}
 use Rattle.plan.specs.declared.Plan.{Plan}

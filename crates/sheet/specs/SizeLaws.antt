@@ -5,8 +5,7 @@ use mathlib.Core.Path.{_≡_, refl, ap}
 use mathlib.Core.Option.{Option, none, some}
 use mathlib.Core.List.{List, [], _∷_}
 use lib.ListN.{length, take, drop, length-append, length-drop}
-use Rattle.lists.specs.Trusted.Lists.{Every, from}
-use Rattle.lists.specs.Sequences.{sum}
+use Rattle.lists.specs.Trusted.Lists.{Every, from, sum}
 use Rattle.lists.specs.ListLaws.{every-head, every-tail, permuted-length}
 use Rattle.lists.specs.NumberLaws.{from-length}
 use Rattle.tree.specs.Measures.{leaves}

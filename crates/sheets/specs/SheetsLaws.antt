@@ -8,7 +8,6 @@ use mathlib.Core.List.{List, [], _∷_}
 use borrow.Author.Tests.{eq-eqb, ne-eqb}
 use lib.ListN.{length, drop, length-drop}
 use Rattle.lists.specs.Trusted.Checked.{Checked, passed, refused as unread, _>>=_}
-use Rattle.cover.specs.Trusted.Cover.{Cover, Rooted, rooted, tables, Least}
 use Rattle.sheet.specs.declared.Refusal.{Refusal}
 use Rattle.sheet.specs.declared.Refusal.the-variants.{Layout, OutputNet, GateCount, GateKind, FaninCount, NoSource, GateTwice, NetTwice, OutputLeaf, LeafCount, GateUnread}
 use Rattle.sheet.specs.Trusted.Sheet.{DrawnSheet}
@@ -25,8 +24,10 @@ use Rattle.sheet.specs.declared.Next.{Next}
 use Rattle.part.specs.Trusted.Parts.{Shaped}
 use Rattle.part.specs.Trusted.Sound.{Sound}
 use Rattle.part.specs.Trusted.Answers.{Answer, accepted, refused}
+use Rattle.part.specs.Trusted.Ways.{least}
+use Rattle.part.specs.WayLaws.{some-tables, chosen-number}
 use Rattle.part.specs.Trusted.Add.{Offer, Add}
-use Rattle.demands.specs.AddLaws.{AddCase, unsound, misread, driven, read, full, taken, add-case, kept, not-refused}
+use Rattle.part.specs.AddLaws.{AddCase, unsound, misread, driven, read, full, taken, add-case, kept, not-refused}
 use Rattle.part.specs.Storing.{circuitOf}
 use Rattle.part.specs.StoringLaws.{add-misread, add-offered}
 use Rattle.listing.specs.Trusted.Listing.{listOf}
@@ -65,22 +66,17 @@ told-misread n line why e =
 
 -- ---- an accepted sheet takes a table or more
 
-rooted-some : {c : Cover} → Rooted c → 0 < tables c
-rooted-some rooted = omega arith
-
-least-some : {k n : ℕ} {t : _} → Least k t n → 0 < n
-least-some l = let c = l .some in omega (arith, rooted-some (c .1 .root), c .2)
-
-pub grown : (p : Part) (text : List ℕ) (q : Part) (a : Answer) → Add p text q a → a ≡ accepted → p .used < q .used
-grown p text q a h e = of (add-case p text q a h)
+pub grown : (p : Part) (text : List ℕ) (q : Part) (a : Answer) → Add least p text q a → a ≡ accepted → p .used < q .used
+grown p text q a h e = of (add-case least p text q a h)
   where
-    of : AddCase p text q a → p .used < q .used
+    of : AddCase least p text q a → p .used < q .used
     of (unsound n r) = absurd (not-refused (r .1) e)
     of (misread number place s i r) = absurd (not-refused (r .1) e)
     of (driven s h i d r) = absurd (not-refused (r .1) e)
     of (read s h i d l r) = absurd (not-refused (r .1) e)
     of (full s n h i f l m r) = absurd (not-refused (r .1) e)
-    of (taken s h i f t room) = omega (arith, least-some (t .least .fewest), ap (λ (o : Part). o .used) (t .part))
+    of (taken s h i f t room) =
+        omega (arith, some-tables least p s (length (t .new)) (chosen-number least p s (t .new) (t .chosen)), ap (λ (o : Part). o .used) (t .part))
 
 -- ---- the sheet at a place
 
@@ -115,7 +111,7 @@ front input at end s h w e =
 
 -- one sheet of an input: the part and the answer after it, and the place after it where it is accepted
 pub record Stepped (input : List ℕ) (p : Part) (at : ℕ) (q : Part) (t : Told) (end : ℕ) : Type 0 where
-  pub add : Add p (sheetText (drop at input) .0) q (told t)
+  pub add : Add least p (sheetText (drop at input) .0) q (told t)
   pub rest : told t ≡ accepted → sheetText (drop at input) .1 ≡ drop end input
   pub shaped : Shaped q
   pub sound : Sound q
@@ -141,7 +137,7 @@ module _ (input : List ℕ) (p : Part) (at : ℕ) (sound : Sound p) (shape : Sha
       let text = sheetText (drop at input) .0 in
       let m : readSheet text ≡ unread (numberOf why) line = leaving-refused _ (numberOf why) line _ (sym (next-is (drop at input)) ∙ next-is-step i) in
       record {
-        add = subst (Add p text p) (sym t) (add-misread p text sound (numberOf why) line m);
+        add = subst (Add least p text p) (sym t) (add-misread p text sound (numberOf why) line m);
         rest = λ z. absurd (not-refused t z);
         shaped = shape;
         sound = sound;
@@ -149,12 +145,12 @@ module _ (input : List ℕ) (p : Part) (at : ℕ) (sound : Sound p) (shape : Sha
         within = λ z. absurd (not-refused t z);
       }
 
-  pub stepped-offered : r .answer ≡ Read → (q : Part) (a : Answer) (t : Told) → Offer p (circuitOf (r .sheet)) q a → told t ≡ a → Stepped input p at q t (r .end)
+  pub stepped-offered : r .answer ≡ Read → (q : Part) (a : Answer) (t : Told) → Offer least p (circuitOf (r .sheet)) q a → told t ≡ a → Stepped input p at q t (r .end)
   stepped-offered i q a t o e =
       let f = read-front i in
       let text = sheetText (drop at input) .0 in
-      let g : Add p text q (told t) = subst (Add p text q) (sym e) (add-offered p text sound (drawnSheet (r .sheet)) (f .read) q a o) in
-      let k = kept p shape (add-case p text q (told t) g) in
+      let g : Add least p text q (told t) = subst (Add least p text q) (sym e) (add-offered p text sound (drawnSheet (r .sheet)) (f .read) q a o) in
+      let k = kept p shape (add-case least p text q (told t) g) in
       record {
         add = g;
         rest = λ z. f .rest;
@@ -199,14 +195,14 @@ module _ {input : List ℕ} {opened part : Part} {start at sheet : ℕ} (h : She
           sound = s .sound;
           few = omega (arith, h .few, s .grown e);
           whole = λ out m. h .whole out
-              (added q left (subst (Add part (sheetText (drop at input) .0) q) e (s .add))
+              (added q left (subst (Add least part (sheetText (drop at input) .0) q) e (s .add))
               (subst (λ x. SheetsPrint q (suc sheet) x out) (sym (s .rest e)) (subst (λ n. SheetsPrint q n (drop end input) out) (add-one sheet) m)));
         }
 
     so-far-stop : (t .number ≡ 0 → ⊥) → SheetsPrint opened 0 (drop start input) (refusalLine (t .number) (sheet + 1) (t .line))
     so-far-stop d =
         subst (λ n. SheetsPrint opened 0 (drop start input) (refusalLine (t .number) n (t .line))) (sym (add-one sheet))
-        (h .whole _ (stopped q (t .number) (t .line) left (subst (Add part (sheetText (drop at input) .0) q) (told-refused t d) (s .add))))
+        (h .whole _ (stopped q (t .number) (t .line) left (subst (Add least part (sheetText (drop at input) .0) q) (told-refused t d) (s .add))))
 
     -- the loop's ends
     pub ended-stop : (t .number ≡ 0 → ⊥) → Ended opened (drop start input) (record { part = q; told = t; sheet = sheet + 1 })

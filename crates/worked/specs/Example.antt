@@ -14,7 +14,7 @@ use Rattle.tree.specs.Trusted.Limits.{codeBase}
 use Rattle.tree.specs.Trusted.Tree.{leaf, gate, Edges, none, edge, turned}
 use Rattle.tree.specs.Measures.{value}
 use Rattle.cover.specs.Trusted.Cover.{Cover, net, top, Fanins, end, old, new, same, split, done, match, rooted}
-use Rattle.plan.specs.Key.{key, Way, leaf-key, held, cut, pack, better}
+use Rattle.plan.specs.Key.{key, KeyJoined, leaf-key, held, cut, pack, better}
 use Rattle.plan.specs.Subsets.{least-of}
 use Rattle.plan.specs.Least.{least-is}
 use Rattle.plan.specs.declared.Token.{Token}
@@ -38,10 +38,10 @@ sheet = record { tree = gate and edges; out = 5; inverted = true }
 abbrev plan : List Token
 plan = push 2 ∷ push 0 ∷ push 1 ∷ join false false ∷ join true true ∷ []
 
-low : Way 2 false false leaf-key leaf-key (key 0 2)
+low : KeyJoined 2 false false leaf-key leaf-key (key 0 2)
 low = record { left = leaf-key; right = leaf-key; took-left = held; took-right = held; fits = omega arith; is = refl }
 
-high : Way 2 true true (key 0 2) (key 0 2) (key 2 2)
+high : KeyJoined 2 true true (key 0 2) (key 0 2) (key 2 2)
 high = record { left = key 1 1; right = key 1 1; took-left = cut (omega arith); took-right = cut (omega arith); fits = omega arith; is = refl }
 
 planned : Planned 2 (leaf-key ∷ leaf-key ∷ key 0 2 ∷ []) (upto 3) plan (key 2 2)

@@ -1,54 +1,80 @@
 -- Calls one after the other, each given the part that the one before handed back, and what is counted over them:
 -- 01, "Counting over a list of adds". Definitions only.
 use Prim.Native.Nat.{ℕ}
+use mathlib.Core.Path.{_≡_}
 use mathlib.Core.List.{List, [], _∷_, _++_}
+use Rattle.lists.specs.Trusted.Lists.{gather}
 use Rattle.lists.specs.Trusted.Checked.{Checked, passed, refused as unread}
 use Rattle.cover.specs.Trusted.CoverTables.{Circuit}
-use Rattle.part.specs.Trusted.Reading.{readOf}
-use Rattle.part.specs.Trusted.Answers.{Answer, accepted, refused, Result}
+use Rattle.set_lengths.specs.Trusted.Lengths.{cut}
+use Rattle.part.specs.Trusted.Ways.{Way, reading}
+use Rattle.part.specs.Trusted.Answers.{Answer, accepted, refused}
 use Rattle.part.specs.Trusted.Add.{Add}
+use Rattle.part.specs.Trusted.Tries.{Try, CallResult}
+use Rattle.part.specs.Trusted.Sets.{AddSet}
 use Rattle.part.specs.declared.Part.{Part}
 
 -- a call that takes a part and hands one back
 pub data Call : Type 0 where
-  add : List ℕ → Call
+  -- one sheet, its tables chosen in some way
+  add : Way → List ℕ → Call
+  -- a set of sheets (02, #106)
+  addSet : (lengths text : List ℕ) → Call
+
+-- the texts of its sheets
+abbrev pub sheetsOf : Call → List (List ℕ)
+sheetsOf (add w text) = text ∷ []
+sheetsOf (addSet lengths text) = cut lengths text
+
+-- what an add on the part p gives: its one sheet was tried
+abbrev pub oneSheet : Way → List ℕ → Part → Part → Answer → CallResult
+oneSheet w text p q a = record { part = q; answer = a; position = 0; tries = record { way = w; text = text; before = p; after = q; answer = a } ∷ [] }
+
+-- what the call itself promises
+abbrev pub Promise : Part → Call → CallResult → Type 0
+Promise p (add w text) r = Add w p text (r .part) (r .answer) × (r ≡ oneSheet w text p (r .part) (r .answer))
+Promise p (addSet lengths text) r = AddSet p lengths text r
+
+-- the results of the calls, from the part p on
+pub data Chain : Part → List Call → List CallResult → Type 0 where
+  done : {p : Part} → Chain p [] []
+  call : {p : Part} {c : Call} {cs : List Call} {r : CallResult} {rs : List CallResult} → Promise p c r → Chain (r .part) cs rs → Chain p (c ∷ cs) (r ∷ rs)
 
 -- the last part handed back
-abbrev pub final : Part → List Result → Part
+abbrev pub final : Part → List CallResult → Part
 final p [] = p
 final p (r ∷ rs) = final (r .part) rs
 
+-- ---- the accepted sheets
+
+-- a sheet, with its way and the part that it stands on
+pub record SheetEntry : Type 0 where
+  pub way : Way
+  pub part : Part
+  pub sheet : Circuit
+
 -- the sheet that is read, if one is
-abbrev pub sheetsRead : Checked Circuit → List Circuit
-sheetsRead (passed s) = s ∷ []
-sheetsRead (unread number place) = []
+abbrev pub entered : Way → Part → Checked Circuit → List SheetEntry
+entered w p (passed s) = record { way = w; part = p; sheet = s } ∷ []
+entered w p (unread number place) = []
 
--- of a call's sheets, all are accepted or none
-abbrev pub ifAccepted : Answer → List Circuit → List Circuit
-ifAccepted accepted ss = ss
-ifAccepted (refused number place) ss = []
+abbrev pub sheetEntries : List Try → List SheetEntry
+sheetEntries = gather (λ t. entered (t .way) (t .before) (reading (t .way) (t .text)))
 
--- what the call itself promises
-abbrev pub Promise : Part → Call → Part → Answer → Type 0
-Promise p (add text) q a = Add p text q a
+-- "A sheet is accepted where the call that it stands in turns nothing down"
+abbrev pub ifAccepted : Answer → List SheetEntry → List SheetEntry
+ifAccepted accepted es = es
+ifAccepted (refused number place) es = []
 
-abbrev pub sheetsOf : Call → List Circuit
-sheetsOf (add text) = sheetsRead (readOf text)
+abbrev pub acceptedBy : CallResult → List SheetEntry
+acceptedBy r = ifAccepted (r .answer) (sheetEntries (r .tries))
 
--- the results of the calls, from the part p on
-pub data Chain : Part → List Call → List Result → Type 0 where
-  done : {p : Part} → Chain p [] []
-  call : {p : Part} {c : Call} {cs : List Call} {r : Result} {rs : List Result} → Promise p c (r .part) (r .answer) →
-      Chain (r .part) cs rs → Chain p (c ∷ cs) (r ∷ rs)
+-- those of all calls, in order
+abbrev pub acceptedIn : List CallResult → List SheetEntry
+acceptedIn = gather acceptedBy
 
--- the sheets that were accepted, in order
-abbrev pub acceptedIn : List Call → List Result → List Circuit
-acceptedIn [] rs = []
-acceptedIn (c ∷ cs) [] = []
-acceptedIn (c ∷ cs) (r ∷ rs) = ifAccepted (r .answer) (sheetsOf c) ++ acceptedIn cs rs
-
--- in the calls from the part p on, the call d was given the part o and gave t, and the sheets `ss` were accepted before it
-pub data Link : Part → List Call → List Result → List Circuit → Part → Call → Result → Type 0 where
-  here : {p : Part} {d : Call} {cs : List Call} {t : Result} {rs : List Result} → Link p (d ∷ cs) (t ∷ rs) [] p d t
-  next : {p o : Part} {c d : Call} {cs : List Call} {r t : Result} {rs : List Result} {ss : List Circuit} →
-      Link (r .part) cs rs ss o d t → Link p (c ∷ cs) (r ∷ rs) (ifAccepted (r .answer) (sheetsOf c) ++ ss) o d t
+-- in the calls from the part p on, the call d was given the part o and gave t, and the sheets `es` were accepted before it
+pub data Link : Part → List Call → List CallResult → List SheetEntry → Part → Call → CallResult → Type 0 where
+  here : {p : Part} {d : Call} {cs : List Call} {t : CallResult} {rs : List CallResult} → Link p (d ∷ cs) (t ∷ rs) [] p d t
+  next : {p o : Part} {c d : Call} {cs : List Call} {r t : CallResult} {rs : List CallResult} {es : List SheetEntry} →
+      Link (r .part) cs rs es o d t → Link p (c ∷ cs) (r ∷ rs) (acceptedBy r ++ es) o d t

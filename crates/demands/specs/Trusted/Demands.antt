@@ -1,19 +1,18 @@
 -- THE USER'S THREE DEMANDS, in the user's order and words, as statements about what the contracts say of the code: `Part::open` gives
--- `opened`, `Part::add` keeps `Add` (part/specs/Trusted/Add), `write_line` and `write_list` give `lineWritten` and `listWritten`
--- (listing/specs/Lines), `read_list` gives `readList` (list_reading/specs/Trusted/ReadList). Definitions only: that they hold is `demand-1`,
--- `demand-2` and `demand-3` in Theorems.
-use Prim.Native.Nat.{ℕ, _+_, _-_, _≤_, _<_}
+-- `opened`, `Part::add` keeps `Add` (part/specs/Trusted/Add), `Part::add_set` keeps `AddSet` (part/specs/Trusted/Sets), `write_line` and
+-- `write_list` give `lineWritten` and `listWritten` (listing/specs/Lines), `read_list` gives `readList` (list_reading/specs/Trusted/ReadList).
+-- Definitions only: that they hold is `demand-1`, `demand-2` and `demand-3` in Theorems.
+use Prim.Native.Nat.{ℕ, suc, _+_, _-_, _≤_, _<_}
 use mathlib.Core.Path.{_≡_}
-use mathlib.Core.Logic.{_↔_}
+use mathlib.Core.Logic.{_↔_, _≢_}
 use mathlib.Core.Bool.{Bool}
-use mathlib.Core.List.{List, [], _∷_, _++_}
+use mathlib.Core.List.{List, [], _∷_, _++_, map}
 use lib.ListN.{length}
 use Rattle.lists.specs.Trusted.Lists.{Every}
 use Rattle.tree.specs.Trusted.Limits.{codeBase}
 use Rattle.lists.specs.Trusted.Checked.{passed, refused as unread, refused as unwritten}
-use Rattle.cover.specs.Trusted.Cover.{Least}
 use Rattle.cover.specs.Trusted.Tables.{LookupTable, settled}
-use Rattle.cover.specs.Trusted.CoverTables.{Circuit, CoverTables, Fresh}
+use Rattle.cover.specs.Trusted.CoverTables.{Circuit, Fresh}
 use Rattle.sheet.specs.Trusted.Sheet.{DrawnSheet}
 use Rattle.sheet.specs.Trusted.Read.{readSheet}
 use Rattle.sheet.specs.Trusted.Values.{sheetValue}
@@ -22,17 +21,20 @@ use Rattle.table.specs.Trusted.Records.{recordsAfter}
 use Rattle.table.specs.Trusted.Rules.{IsNet}
 use Rattle.part.specs.Trusted.Parts.{inUse, tablesOf, Shaped}
 use Rattle.part.specs.Trusted.Sound.{Sound}
-use Rattle.part.specs.Trusted.Reading.{readOf}
+use Rattle.set_lengths.specs.Trusted.Lengths.{Whole, cut}
+use Rattle.part.specs.Trusted.Nets.{Driven, Read}
+use Rattle.part.specs.Trusted.Ways.{Way, least, reading, NumberBy, Chosen}
 use Rattle.part.specs.Trusted.Answers.{Answer, accepted, refused, Result, empty}
 use Rattle.part.specs.Trusted.Add.{opened, Add}
+use Rattle.part.specs.Trusted.Tries.{Try, CallResult}
+use Rattle.part.specs.Trusted.Sets.{turnedAway, AddSet}
 use Rattle.listing.specs.Trusted.Listing.{lineOf, listOf}
 use Rattle.part.specs.declared.Part.{Part}
 use Rattle.list_line.specs.Trusted.Writes.{WriteOutcome, pasted}
 use Rattle.listing.specs.Lines.{lineWritten, listWritten}
 use Rattle.list_reading.specs.Trusted.ReadList.{readList, readResult}
 use Rattle.list_reading.specs.Trusted.ListConditions.{ListTold}
-use Rattle.demands.specs.Trusted.Nets.{Driven, Read}
-use Rattle.demands.specs.Trusted.Calls.{Call, add, final, acceptedIn, Link}
+use Rattle.demands.specs.Trusted.Calls.{Call, sheetsOf, final, SheetEntry, sheetEntries, acceptedIn, Link}
 
 -- ---- DEMAND 1. "Whatever it is handed (a damaged sheet, a part that breaks its own rules, a buffer too short), it ends with the one
 -- ---- refusal whose stated condition holds, and the part and the buffer are byte for byte as before."
@@ -51,24 +53,47 @@ pub record OpeningTold (k capacity : ℕ) (r : Result) : Type 0 where
   pub zeros : (number place : ℕ) → r .answer ≡ refused number place → r .part ≡ empty 0 0
 
 -- no condition that an add tests before 23 holds, and s is the sheet as it is covered
-pub record Passes (o : Part) (text : List ℕ) (s : Circuit) : Type 0 where
+pub record Passes (w : Way) (o : Part) (text : List ℕ) (s : Circuit) : Type 0 where
   pub sound : Sound o
-  pub read : readOf text ≡ passed s
+  pub read : reading w text ≡ passed s
   pub fresh : Fresh s (tablesOf o)
 
--- adding: 20, then those of the sheet, which `readOf` states in 01's order, then 21, 22 and 23
-pub data AddCondition (p : Part) (text : List ℕ) : (number place : ℕ) → Type 0 where
-  not-sound : ¬ (Sound p) → AddCondition p text 20 0
-  not-read : (number place : ℕ) → Sound p → readOf text ≡ unread number place → AddCondition p text number place
-  out-driven : (s : Circuit) → Sound p → readOf text ≡ passed s → Driven (s .out) (tablesOf p) → AddCondition p text 21 0
-  out-read : (s : Circuit) → Sound p → readOf text ≡ passed s → ¬ (Driven (s .out) (tablesOf p)) → Read (s .out) (tablesOf p) → AddCondition p text 22 0
-  no-room : (s : Circuit) (n : ℕ) → Passes p text s → Least (p .k) (s .tree) n → p .capacity - p .used < n → AddCondition p text 23 0
+-- adding: 20, then those of the sheet, which `reading` states in 01's order, then 21, 22 and 23
+pub data AddCondition (w : Way) (p : Part) (text : List ℕ) : (number place : ℕ) → Type 0 where
+  not-sound : ¬ (Sound p) → AddCondition w p text 20 0
+  not-read : (number place : ℕ) → Sound p → reading w text ≡ unread number place → AddCondition w p text number place
+  out-driven : (s : Circuit) → Sound p → reading w text ≡ passed s → Driven (s .out) (tablesOf p) → AddCondition w p text 21 0
+  out-read : (s : Circuit) → Sound p → reading w text ≡ passed s → ¬ (Driven (s .out) (tablesOf p)) → Read (s .out) (tablesOf p) → AddCondition w p text 22 0
+  no-room : (s : Circuit) (n : ℕ) → Passes w p text s → NumberBy w p s n → p .capacity - p .used < n → AddCondition w p text 23 0
 
--- accepted is what passes, with a least number that is not above the number left
-pub record AddTold (p : Part) (text : List ℕ) (q : Part) (a : Answer) : Type 0 where
-  pub refuses : (number place : ℕ) → (a ≡ refused number place) ↔ AddCondition p text number place
-  pub accepts : (a ≡ accepted) ↔ ((s : Circuit) × (n : ℕ) × Passes p text s × Least (p .k) (s .tree) n × (n ≤ p .capacity - p .used))
+-- accepted is what passes, with a number that is not above the number left
+pub record AddTold (w : Way) (p : Part) (text : List ℕ) (q : Part) (a : Answer) : Type 0 where
+  pub refuses : (number place : ℕ) → (a ≡ refused number place) ↔ AddCondition w p text number place
+  pub accepts : (a ≡ accepted) ↔ ((s : Circuit) × (n : ℕ) × Passes w p text s × NumberBy w p s n × (n ≤ p .capacity - p .used))
   pub stays : (number place : ℕ) → a ≡ refused number place → q ≡ p
+
+-- adding a set (02, #106): 20, then 33, then the sheets in turn
+
+-- the sheets with these texts are added one after the other, from the part p to the part q
+pub data AddedAll : Part → List (List ℕ) → Part → Type 0 where
+  none-added : {p : Part} → AddedAll p [] p
+  one-added : {p q r : Part} {text : List ℕ} {texts : List (List ℕ)} → Add least p text q accepted → AddedAll q texts r → AddedAll p (text ∷ texts) r
+
+-- of a sheet of the set, its own condition "as if those before it had been added"; its position is from 1
+pub data SetCondition (p : Part) (lengths text : List ℕ) : (number place position : ℕ) → Type 0 where
+  part-bad : ¬ (Sound p) → SetCondition p lengths text 20 0 0
+  not-whole : Sound p → ¬ (Whole lengths (length text)) → SetCondition p lengths text 33 0 0
+  of-sheet : Sound p → Whole lengths (length text) → (ahead : List (List ℕ)) (one : List ℕ) (rest : List (List ℕ)) → cut lengths text ≡ ahead ++ one ∷ rest →
+      (q : Part) → AddedAll p ahead q → (number place : ℕ) → AddCondition least q one number place →
+      SetCondition p lengths text number place (suc (length ahead))
+
+-- all of the sheets are added, or the part is unaltered
+pub record SetTold (p : Part) (lengths text : List ℕ) (r : CallResult) : Type 0 where
+  pub refuses : (number place position : ℕ) →
+      ((r .answer ≡ refused number place) × (r .position ≡ position)) ↔ SetCondition p lengths text number place position
+  pub accepts : (r .answer ≡ accepted) ↔ (Sound p × Whole lengths (length text) × ((q : Part) × AddedAll p (cut lengths text) q))
+  pub all : r .answer ≡ accepted → AddedAll p (cut lengths text) (r .part) × (r .position ≡ 0)
+  pub stays : (number place : ℕ) → r .answer ≡ refused number place → r .part ≡ p
 
 -- writing a line, and the list: 20, then 15 where what is to be written is not there, then 14 where the bytes `new` do not fit from the
 -- place `at` on
@@ -86,7 +111,8 @@ pub record WriteTold (p : Part) (There : Type 0) (old : List ℕ) (at : ℕ) (ne
 -- DEMAND 1, of every entry point that can turn something down, whatever it is handed; the list of a part is always there
 pub record Demand1 : Type 0 where
   pub opening : (k capacity : ℕ) → OpeningTold k capacity (opened k capacity)
-  pub adding : (p : Part) (text : List ℕ) (q : Part) (a : Answer) → Add p text q a → AddTold p text q a
+  pub adding : (w : Way) (p : Part) (text : List ℕ) (q : Part) (a : Answer) → Add w p text q a → AddTold w p text q a
+  pub sets : (p : Part) → Shaped p → (lengths text : List ℕ) (r : CallResult) → AddSet p lengths text r → SetTold p lengths text r
   pub line : (p : Part) (old : List ℕ) (at line : ℕ) → WriteTold p (line ≤ p .used) old at (lineOf p line) (lineWritten p line old at)
   pub list : (p : Part) (old : List ℕ) (at : ℕ) → WriteTold p (Unit {0}) old at (listOf p) (listWritten p old at)
   -- reading a list back (02, #101): the conditions are in list_reading/specs/Trusted/ListConditions
@@ -99,33 +125,32 @@ pub record Demand1 : Type 0 where
 abbrev pub valuesIn : Part → (ℕ → Bool) → ℕ → Bool
 valuesIn p = settled codeBase (tablesOf p)
 
--- An add on the part o, with the result r, in calls that end with the part `last`: the text reads as the sheet d, and its tables `new` stand
--- unchanged in the last part; and there its output net has the value that its gates as drawn give, one after the other, at the values of
--- the nets.
-pub record Served (last o : Part) (text : List ℕ) (r : Result) (d : DrawnSheet) (new : List LookupTable) : Type 0 where
-  pub read : readSheet text ≡ passed d
-  pub tables : tablesOf (r .part) ≡ tablesOf o ++ new
-  pub stay : (later : List LookupTable) × (tablesOf last ≡ tablesOf (r .part) ++ later)
+-- A sheet in a call, of calls that end with the part `last`: the text reads as the sheet d, and its tables `new` stand unchanged in the last
+-- part; and there its output net has the value that its gates as drawn give, one after the other, at the values of the nets.
+pub record Served (last : Part) (t : Try) (d : DrawnSheet) (new : List LookupTable) : Type 0 where
+  pub read : readSheet (t .text) ≡ passed d
+  pub tables : tablesOf (t .after) ≡ tablesOf (t .before) ++ new
+  pub stay : (later : List LookupTable) × (tablesOf last ≡ tablesOf (t .after) ++ later)
   pub value : (σ : ℕ → Bool) → valuesIn last σ (d .out) ≡ sheetValue d (valuesIn last σ)
 
--- by the kind of the call
-abbrev pub CallServed : Part → Part → Call → Result → Type 0
-CallServed last o (add text) r = r .answer ≡ accepted → (d : DrawnSheet) × (new : List LookupTable) × Served last o text r d new
+-- each sheet of a call that turned nothing down
+abbrev pub CallServed : Part → CallResult → Type 0
+CallServed last r = r .answer ≡ accepted → Every (λ t. (d : DrawnSheet) × (new : List LookupTable) × Served last t d new) (r .tries)
 
 -- the last part of calls from an opening on
-abbrev pub lastPart : ℕ → ℕ → List Result → Part
+abbrev pub lastPart : ℕ → ℕ → List CallResult → Part
 lastPart k capacity rs = final ((opened k capacity) .part) rs
 
 -- DEMAND 2, of the calls `cs` with the results `rs`, "on a part opened and passed on untouched"
-pub record Demand2 (k capacity : ℕ) (cs : List Call) (rs : List Result) : Type 0 where
+pub record Demand2 (k capacity : ℕ) (cs : List Call) (rs : List CallResult) : Type 0 where
   -- "each table has at most K inputs"
   pub narrow : Every (λ t. length (t .inputs) ≤ k) (tablesOf (lastPart k capacity rs))
   -- "at every setting of the free nets": what a setting says of a net that a table drives makes no difference
   pub free : (σ τ : ℕ → Bool) → ((n : ℕ) → IsNet n → ¬ (Driven n (tablesOf (lastPart k capacity rs))) → σ n ≡ τ n) → (n : ℕ) → IsNet n →
       valuesIn (lastPart k capacity rs) σ n ≡ valuesIn (lastPart k capacity rs) τ n
   -- "each accepted sheet's output net has the value its gates give"
-  pub each : (ss : List Circuit) (o : Part) (c : Call) (r : Result) → Link ((opened k capacity) .part) cs rs ss o c r →
-      CallServed (lastPart k capacity rs) o c r
+  pub each : (es : List SheetEntry) (o : Part) (c : Call) (r : CallResult) → Link ((opened k capacity) .part) cs rs es o c r →
+      CallServed (lastPart k capacity rs) r
   -- "The list's lines say exactly those tables": the part is sound, so that demand 1 has its list written and read back as the same part, and
   -- no other sound part has the same list, or the same lines
   pub sound : Sound (lastPart k capacity rs)
@@ -138,48 +163,69 @@ pub record Demand2 (k capacity : ℕ) (cs : List Call) (rs : List Result) : Type
 -- ---- their number is its least number over all splittings and covers; 23 is given exactly when the least number is above the number
 -- ---- left; the used count is the start's plus the sum of the least numbers."
 
--- a sheet's covers and its least number are those of its joined tree (02, #104), which `readOf` gives it
+-- a sheet's covers and its least number are those of its joined tree (02, #104), which `reading` gives it; a sheet whose tables are chosen
+-- in another way has that way's number in place of the least one
 
--- n is the sum of the sheets' least numbers; a sheet has one at most (`least-unique`), and so has the sum one value (`total-unique`)
-pub data Total (k : ℕ) : List Circuit → ℕ → Type 0 where
-  none : Total k [] 0
-  more : {s : Circuit} {ss : List Circuit} {n m : ℕ} → Least k (s .tree) n → Total k ss m → Total k (s ∷ ss) (n + m)
+-- n is the sum of the sheets' numbers; a sheet has one at most (`number-unique`), and so has the sum one value (`total-unique`)
+pub data Total : List SheetEntry → ℕ → Type 0 where
+  none : Total [] 0
+  more : {e : SheetEntry} {es : List SheetEntry} (n : ℕ) {m : ℕ} → NumberBy (e .way) (e .part) (e .sheet) n → Total es m → Total (e ∷ es) (n + m)
 
--- the number left, from the start p on, after sheets whose least numbers have the sum n
+-- the number left, from the start p on, after sheets whose numbers have the sum n
 abbrev pub left : Part → ℕ → ℕ
 left p n = p .capacity - p .used - n
 
 -- the tables `new` were taken for the sheet s: the records put after the old ones are theirs, with their levels in the whole list (02, #103),
 -- they "are those of one of its covers, and their number is its least number" and the used count handed back less the one handed in
-pub record Taken (k : ℕ) (o : Part) (text : List ℕ) (q : Part) (s : Circuit) (new : List LookupTable) : Type 0 where
-  pub read : readOf text ≡ passed s
-  pub records : inUse q ≡ inUse o ++ recordsAfter (tablesOf o) new
-  pub tables : tablesOf q ≡ tablesOf o ++ new
-  pub cover : CoverTables codeBase k (tablesOf o) new s
-  pub least : Least k (s .tree) (length new)
-  pub used : q .used ≡ o .used + length new
+pub record Taken (t : Try) (s : Circuit) (new : List LookupTable) : Type 0 where
+  pub read : reading (t .way) (t .text) ≡ passed s
+  pub records : inUse (t .after) ≡ inUse (t .before) ++ recordsAfter (tablesOf (t .before)) new
+  pub tables : tablesOf (t .after) ≡ tablesOf (t .before) ++ new
+  pub cover : Chosen (t .way) (t .before) s new
+  pub number : NumberBy (t .way) (t .before) s (length new)
+  pub used : t .after .used ≡ t .before .used + length new
 
--- a sheet that passes every other check has a least number, "23 is given exactly when the least number is above the number left", and it is
+-- a sheet that passes every other check has a number, "23 is given exactly when the least number is above the number left", and it is
 -- accepted exactly when it is not
-pub record RoomTold (k left : ℕ) (s : Circuit) (r : Result) : Type 0 where
-  pub some : (n : ℕ) × Least k (s .tree) n
-  pub refuses : (n : ℕ) → Least k (s .tree) n → (r .answer ≡ refused 23 0) ↔ (left < n)
-  pub accepts : (n : ℕ) → Least k (s .tree) n → (r .answer ≡ accepted) ↔ (n ≤ left)
+pub record RoomTold (left : ℕ) (t : Try) (s : Circuit) : Type 0 where
+  pub some : (n : ℕ) × NumberBy (t .way) (t .before) s n
+  pub refuses : (n : ℕ) → NumberBy (t .way) (t .before) s n → (t .answer ≡ refused 23 0) ↔ (left < n)
+  pub accepts : (n : ℕ) → NumberBy (t .way) (t .before) s n → (t .answer ≡ accepted) ↔ (n ≤ left)
 
--- an add on the part o, with the result r, where `left` tables are left; 23 is given to no sheet but one that passes every other check
-pub record Accounted (k left : ℕ) (o : Part) (text : List ℕ) (r : Result) : Type 0 where
-  pub taken : r .answer ≡ accepted → (s : Circuit) × (new : List LookupTable) × Taken k o text (r .part) s new
-  pub room : (s : Circuit) → Passes o text s → RoomTold k left s r
-  pub only : r .answer ≡ refused 23 0 → (s : Circuit) × Passes o text s
+-- a sheet in a call, where `left` tables are left for it; 23 is given to no sheet but one that passes every other check
+pub record Accounted (left : ℕ) (t : Try) : Type 0 where
+  pub taken : t .answer ≡ accepted → (s : Circuit) × (new : List LookupTable) × Taken t s new
+  pub room : (s : Circuit) → Passes (t .way) (t .before) (t .text) s → RoomTold left t s
+  pub only : t .answer ≡ refused 23 0 → (s : Circuit) × Passes (t .way) (t .before) (t .text) s
 
--- by the kind of the call
-abbrev pub CallAccounted : ℕ → ℕ → Part → Call → Result → Type 0
-CallAccounted k left o (add text) r = Accounted k left o text r
+-- the tries stand one on what the other left, from the part p to the part q, and each is accepted
+pub data OnEachOther : Part → List Try → Part → Type 0 where
+  no-try : {p : Part} → OnEachOther p [] p
+  next-try : {t : Try} {ts : List Try} {q : Part} → t .answer ≡ accepted → OnEachOther (t .after) ts q → OnEachOther (t .before) (t ∷ ts) q
+
+abbrev pub texts : List Try → List (List ℕ)
+texts = map (λ t. t .text)
+
+-- which sheets of a call on the part o are tried: none, where a condition holds that is tested before any sheet; all, and the call is
+-- accepted; or those up to the first that is refused, and its answer is the call's
+pub data TriedSheets (o : Part) (c : Call) (r : CallResult) : Type 0 where
+  before-any : (number : ℕ) → number ≢ 23 → r ≡ turnedAway o number → TriedSheets o c r
+  every : texts (r .tries) ≡ sheetsOf c → OnEachOther o (r .tries) (r .part) → r .answer ≡ accepted → TriedSheets o c r
+  up-to : (ahead : List Try) (t : Try) (rest : List (List ℕ)) (number place : ℕ) → r .tries ≡ ahead ++ t ∷ [] → sheetsOf c ≡ texts (r .tries) ++ rest →
+      OnEachOther o ahead (t .before) → t .answer ≡ refused number place → r .answer ≡ t .answer → r .part ≡ o → TriedSheets o c r
+
+-- a call on the part o, with the result r, after the sheets `es` were accepted from the part p on: "each counts as an add of its own on the
+-- part with those ahead of it added. For its number left, those ahead count as accepted even if the call is turned down."
+pub record CallAccounted (p : Part) (es : List SheetEntry) (o : Part) (c : Call) (r : CallResult) : Type 0 where
+  pub tried : TriedSheets o c r
+  pub each : (ahead : List Try) (t : Try) (rest : List Try) → r .tries ≡ ahead ++ t ∷ rest →
+      (n : ℕ) × Total (es ++ sheetEntries ahead) n × Accounted (left p n) t
 
 -- DEMAND 3, of the calls `cs` from the part p on, with the results `rs`
-pub record Demand3 (p : Part) (cs : List Call) (rs : List Result) : Type 0 where
-  -- each call, with the number left after the sheets `ss` that were accepted before it
-  pub each : (ss : List Circuit) (o : Part) (c : Call) (r : Result) → Link p cs rs ss o c r →
-      (n : ℕ) × Total (p .k) ss n × CallAccounted (p .k) (left p n) o c r
+pub record Demand3 (p : Part) (cs : List Call) (rs : List CallResult) : Type 0 where
+  -- each call, with the number left for each of its sheets
+  pub each : (es : List SheetEntry) (o : Part) (c : Call) (r : CallResult) → Link p cs rs es o c r → CallAccounted p es o c r
   -- "the used count is the start's plus the sum of the least numbers"
-  pub used : (n : ℕ) × Total (p .k) (acceptedIn cs rs) n × ((final p rs) .used ≡ p .used + n)
+  pub used : (n : ℕ) × Total (acceptedIn rs) n × ((final p rs) .used ≡ p .used + n)
+  -- K and the capacity are the start's
+  pub same : Every (λ r. (r .part .k ≡ p .k) × (r .part .capacity ≡ p .capacity)) rs

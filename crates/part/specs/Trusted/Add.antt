@@ -7,16 +7,14 @@ use mathlib.Core.List.{List, _++_}
 use lib.Dec.{leb, eqb}
 use lib.ListN.{length, drop}
 use Rattle.lists.specs.Trusted.Tests.{any, elem, within, either}
-use Rattle.tree.specs.Trusted.Limits.{codeBase}
 use Rattle.lists.specs.Trusted.Checked.{Checked, passed, refused as unread}
-use Rattle.cover.specs.Trusted.Cover.{Least}
 use Rattle.cover.specs.Trusted.Tables.{LookupTable}
-use Rattle.cover.specs.Trusted.CoverTables.{Circuit, LeastCoverTables}
+use Rattle.cover.specs.Trusted.CoverTables.{Circuit}
 use Rattle.table.specs.Trusted.Limits.{inputRoom, tableRoom}
 use Rattle.table.specs.Trusted.Records.{recordsAfter}
 use Rattle.part.specs.Trusted.Parts.{inUse, tablesOf}
 use Rattle.part.specs.Trusted.SoundTest.{sound}
-use Rattle.part.specs.Trusted.Reading.{readOf}
+use Rattle.part.specs.Trusted.Ways.{Way, reading, NumberBy, Chosen}
 use Rattle.part.specs.Trusted.Answers.{Answer, accepted, refused, Result, empty}
 use Rattle.part.specs.declared.Part.{Part}
 
@@ -53,29 +51,30 @@ isRead n = any (λ t. elem n (t .inputs))
 abbrev pub Refused : Part → ℕ → ℕ → Part → Answer → Type 0
 Refused p number place q a = (q ≡ p) × (a ≡ refused number place)
 
--- taken: some least cover of the sheet, in some order of its tables, inputs before readers and the root's last, after the old ones
-pub record Accepted (p : Part) (s : Circuit) (q : Part) (a : Answer) : Type 0 where
+-- taken: the tables of some cover that the way allows, in some order, after the old ones
+pub record Accepted (w : Way) (p : Part) (s : Circuit) (q : Part) (a : Answer) : Type 0 where
   pub new : List LookupTable
-  pub least : LeastCoverTables codeBase (p .k) (tablesOf p) new s
+  pub chosen : Chosen w p s new
   pub part : q ≡ extended p new
   pub answer : a ≡ accepted
 
--- 23, of a sheet whose least number is n
-abbrev pub Fill : Part → Circuit → ℕ → Part → Answer → Type 0
-Fill p s n q a = either (leb n (p .capacity - p .used)) (Accepted p s q a) (Refused p 23 0 q a)
+-- 23, of a sheet whose number is n
+abbrev pub Fill : Way → Part → Circuit → ℕ → Part → Answer → Type 0
+Fill w p s n q a = either (leb n (p .capacity - p .used)) (Accepted w p s q a) (Refused p 23 0 q a)
 
 -- 21 and 22
-abbrev pub Offer : Part → Circuit → Part → Answer → Type 0
-Offer p s q a =
+abbrev pub Offer : Way → Part → Circuit → Part → Answer → Type 0
+Offer w p s q a =
     either (isDriven (s .out) (tablesOf p)) (Refused p 21 0 q a)
     (either (isRead (s .out) (tablesOf p)) (Refused p 22 0 q a)
-    ((n : ℕ) × Least (p .k) (s .tree) n × Fill p s n q a))
+    ((n : ℕ) × NumberBy w p s n × Fill w p s n q a))
 
 -- the sheet's own refusals
-abbrev pub Take : Part → Checked Circuit → Part → Answer → Type 0
-Take p (passed s) q a = Offer p s q a
-Take p (unread number place) q a = Refused p number place q a
+abbrev pub Take : Way → Part → Checked Circuit → Part → Answer → Type 0
+Take w p (passed s) q a = Offer w p s q a
+Take w p (unread number place) q a = Refused p number place q a
 
--- THE PROMISE OF AN ADD to the part p, of the sheet that is read from the text: q is handed back, with the answer a
-unfoldable pub Add : Part → List ℕ → Part → Answer → Type 0
-Add p text q a = either (sound p) (Take p (readOf text) q a) (Refused p 20 0 q a)
+-- THE PROMISE OF AN ADD to the part p, of the sheet that is read from the text, its tables chosen in the way w: q is handed back, with
+-- the answer a
+unfoldable pub Add : Way → Part → List ℕ → Part → Answer → Type 0
+Add w p text q a = either (sound p) (Take w p (reading w text) q a) (Refused p 20 0 q a)

@@ -1,7 +1,6 @@
 -- What the answer of an add says: 01's number and place for each case. Definitions only.
 use Rattle.sheet.specs.Trusted.Answers.{numberOf}
-use Rattle.part.specs.Trusted.Answers.{Answer, accepted, refused, Result}
-use Rattle.part.specs.declared.Added.{Added}
+use Rattle.part.specs.Trusted.Answers.{Answer, accepted, refused}
 use Rattle.part.specs.declared.Adding.{Adding}
 use Rattle.part.specs.declared.Adding.the-variants.{Accepted, Unsound, Misread, OutputDriven, OutputRead, Full}
 
@@ -13,7 +12,3 @@ addingAnswer (Misread why line) = refused (numberOf why) line
 addingAnswer OutputDriven = refused 21 0
 addingAnswer OutputRead = refused 22 0
 addingAnswer Full = refused 23 0
-
--- the part and the answer that an add hands back
-abbrev pub addedResult : Added → Result
-addedResult r = record { part = r .part; answer = addingAnswer (r .answer) }

@@ -7,7 +7,9 @@ use mathlib.Core.List.{List, [], _∷_, map}
 use lib.ListN.{length, take, drop}
 use Rattle.decimal.specs.Trusted.Number.{Number}
 use Rattle.sheet.specs.Trusted.Cut.{sheetText}
-use Rattle.part.specs.Trusted.Answers.{Answer, accepted, refused, Result}
+use Rattle.part.specs.Trusted.Ways.{least}
+use Rattle.part.specs.Trusted.Answers.{Answer, accepted, refused}
+use Rattle.part.specs.Trusted.Tries.{CallResult}
 use Rattle.part.specs.Trusted.Add.{opened}
 use Rattle.demands.specs.Trusted.Calls.{Call, add, final, Chain}
 use Rattle.demands.specs.Trusted.Demands.{Demand2, Demand3}
@@ -17,14 +19,14 @@ use Rattle.opening.specs.Trusted.Opening.{openingNumbers, count}
 use Rattle.printing.specs.Trusted.RefusalLine.{refusalLine}
 
 -- THE CALLS OF A TEXT, with their results: each adds the next sheet, up to the text's end or to the first that is refused
-pub data Texts : List ℕ → List Call → List Result → Type 0 where
+pub data Texts : List ℕ → List Call → List CallResult → Type 0 where
   end : Texts [] [] []
-  stop : {text : List ℕ} {r : Result} (number place : ℕ) → 0 < length text → r .answer ≡ refused number place →
-      Texts text (add (sheetText text .0) ∷ []) (r ∷ [])
-  next : {text : List ℕ} {cs : List Call} {r : Result} {rs : List Result} → 0 < length text → r .answer ≡ accepted → Texts (sheetText text .1) cs rs →
-      Texts text (add (sheetText text .0) ∷ cs) (r ∷ rs)
+  stop : {text : List ℕ} {r : CallResult} (number place : ℕ) → 0 < length text → r .answer ≡ refused number place →
+      Texts text (add least (sheetText text .0) ∷ []) (r ∷ [])
+  next : {text : List ℕ} {cs : List Call} {r : CallResult} {rs : List CallResult} → 0 < length text → r .answer ≡ accepted → Texts (sheetText text .1) cs rs →
+      Texts text (add least (sheetText text .0) ∷ cs) (r ∷ rs)
 
-abbrev pub answers : List Result → List Answer
+abbrev pub answers : List CallResult → List Answer
 answers = map (λ r. r .answer)
 
 -- the first refusal among the answers, where `n` sheets were added before: its number, the sheet's number and the place
@@ -34,14 +36,14 @@ firstRefusal n (accepted ∷ later) = firstRefusal (suc n) later
 firstRefusal n (refused number place ∷ later) = some (number, suc n, place)
 
 -- what is printed after the part p and these results: the first refusal, else the list of the last part
-abbrev pub printedBy : Part → ℕ → List Result → List ℕ
+abbrev pub printedBy : Part → ℕ → List CallResult → List ℕ
 printedBy p n rs = elim (firstRefusal n (answers rs)) [ none ↦ listOf (final p rs) | some x ↦ refusalLine (x .0) (x .1) (x .2) ]
 
 -- THE PROGRAM AND THE DEMANDS, after a good opening line: the calls are all the text's, demands 2 and 3 hold of them, and what is printed
 -- is told by their results
 pub record Run (k capacity : ℕ) (text out : List ℕ) : Type 0 where
   pub calls : List Call
-  pub results : List Result
+  pub results : List CallResult
   pub chain : Chain ((opened k capacity) .part) calls results
   pub texts : Texts text calls results
   pub printed : out ≡ printedBy ((opened k capacity) .part) 0 results
@@ -50,7 +52,7 @@ pub record Run (k capacity : ℕ) (text out : List ℕ) : Type 0 where
 
 -- ---- what of it the rules settle
 
-abbrev pub usedCounts : List Result → List ℕ
+abbrev pub usedCounts : List CallResult → List ℕ
 usedCounts = map (λ r. r .part .used)
 
 -- two lists that were printed for a text: the opening is accepted and so are the calls, which are the same; as many tables are in use after

@@ -3,7 +3,7 @@ use Prim.Native.Nat.{_≤_}
 use mathlib.Core.Path.{refl}
 use native.Mathlib.Omega.{arith}
 use lib.ListN.{take, replicate}
-use Rattle.lists.specs.Sequences.{sum}
+use Rattle.lists.specs.Trusted.Lists.{sum}
 use Rattle.plan.specs.Volume.{fewestLeaves}
 use borrow.Author.Needs.{needs}
 use Rattle.lists.specs.ListLaws.{every-replicate}

@@ -19,6 +19,7 @@ use Rattle.mapper_laws.specs.declared.Mapping.{Mapping}
 use Rattle.mapper_laws.specs.CodeRun.{noTable}
 use Rattle.part.specs.Trusted.Parts.{tablesOf, Shaped}
 use Rattle.part.specs.Trusted.Answers.{accepted}
+use Rattle.part.specs.Trusted.Ways.{least}
 use Rattle.part.specs.Trusted.Add.{isDriven, isRead, Offer}
 use Rattle.part.specs.Storing.{circuitOf, newTables, newRecords}
 use Rattle.part.specs.StoringLaws.{used-padded, new-room, store-record, store-levels, levels-stored, Looked, looked-none, looked-more, looked-all, offer-driven, offer-read, offer-full, offer-stored, offer-same}
@@ -235,7 +236,7 @@ returns-4 c =
     let r = m .map-joined .result in
     let e : l .n ≡ r .count = omega arith in
     let i = ap (counting (p .used + r .count)) (l .inv .1 ∙ ap (λ n. holding p (pasted p r n)) e) in
-    subst (λ q. Offer p (circuitOf (s .args .sheet)) q accepted × LevelsStand (l .levels) (tablesOf q)) (sym i) (
+    subst (λ q. Offer least p (circuitOf (s .args .sheet)) q accepted × LevelsStand (l .levels) (tablesOf q)) (sym i) (
       offer-stored p h (s .pre .0) (s .args .sheet) r (m .map-joined .ensures) (not-driven (d .before)) (not-read d) (c .before .before .if3 .left),
       levels-stored p h (s .pre .0) (s .args .sheet) r (m .map-joined .ensures) (l .levels) (subst (λ n. LevelsStand (l .levels) (tablesOf p ++ take n (newTables r))) e (l .inv .2)),
     )

@@ -14,8 +14,8 @@ use Rattle.joined.specs.Trusted.Covered.{covered}
 use Rattle.joined.specs.JoinedSheet.{joinedSheet}
 use Rattle.joined.specs.JoinedLaws.{joined-leaves, joined-proper}
 use Rattle.joined.specs.SheetLaws.{sheet-joined, joined-formed}
 use Rattle.part.specs.Trusted.Reading.{readOf}
-use Rattle.demands.specs.Readable.{Readable}
+use Rattle.part.specs.Readable.{Readable}
 
 module _ (text : List ℕ) where
   pub covered-back : (s : Circuit) → readOf text ≡ passed s → (d : DrawnSheet) × (readSheet text ≡ passed d) × (covered d ≡ s)

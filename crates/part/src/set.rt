@@ -1,0 +1,70 @@
+// Adding a set of sheets to a part, all or none.
+ghost use mathlib.Core.List.{List};
+ghost use lib.ListN.{length};
+ghost use Rattle.table.specs.LevelTest.{LevelsStand};
+ghost use Rattle.set_lengths.specs.Trusted.Lengths.{Whole, cut};
+ghost use Rattle.part.specs.Trusted.Parts.{tablesOf};
+ghost use Rattle.part.specs.Trusted.Sound.{Sound};
+ghost use Rattle.part.specs.Trusted.Tries.{Try};
+ghost use Rattle.part.specs.Trusted.Sets.{InTurn, AddSet};
+ghost use Rattle.part.specs.Trusted.SetAnswers.{setResult};
+use crate::Adding;
+use crate::Part;
+use crate::SetAdded;
+use crate::SetAdding;
+use table::CODE_ROOM;
+
+impl Part {
+    // Adds the sheets of a set in turn to a part that is sound, up to the first that is refused. The array has the levels of the part's
+    // codes.
+    fn take_each(self, text: &[u8], lengths: &[u32], levels: &mut [u16]) -> SetAdded
+        requires { ⌜ Sound self × LevelsStand (now levels) (tablesOf self) × Whole (now lengths) (length (now text)) ⌝ }
+        ensures { λ r. ⌜ ((ts : List Try) × InTurn self 1 (cut (now (lengths .entry)) (now (text .entry))) self (setResult r ts)) ⌝ }
+    {
+        let mut part = self;
+        let mut at = 0;
+        let mut i = 0;
+        while i < lengths.len() {
+            let end = at + lengths[i] as usize;
+            let added = part.take(&text[at..end], levels);
+            let answer = added.answer;
+            let Adding::Accepted = answer else {
+                return SetAdded {
+                    part: self,
+                    answer: SetAdding::SheetRefused(answer, i as u8 + 1),
+                };
+            };
+            part = added.part;
+            at = end;
+            i += 1;
+        }
+        SetAdded {
+            part,
+            answer: SetAdding::Accepted,
+        }
+    }
+
+    // Adds the sheets of a set, all or none: their text one after the other, with the length of each. The conditions that refuse it are
+    // tested in 02's order: 20, 33, then each sheet's on the part with those before it.
+    pub fn add_set(self, text: &[u8], lengths: &[u32]) -> SetAdded
+        ensures { λ r. ⌜ ((ts : List Try) × AddSet self (now (lengths .entry)) (now (text .entry)) (setResult r ts)) ⌝ }
+    {
+        let tables = self.tables;
+        let mut levels = [0u16; CODE_ROOM];
+        let sound = part_records::sound(self.k, self.capacity, self.used, tables, &mut levels);
+        let whole = set_lengths::whole(lengths, text.len());
+        if !sound {
+            return SetAdded {
+                part: self,
+                answer: SetAdding::Unsound,
+            };
+        }
+        if !whole {
+            return SetAdded {
+                part: self,
+                answer: SetAdding::LengthsUnfit,
+            };
+        }
+        self.take_each(text, lengths, &mut levels)
+    }
+}

@@ -1,0 +1,2 @@
+pub mod Trusted
+pub mod LengthLaws
