@@ -1,7 +1,7 @@
 /* Pailinstant for programs in C and C++. `rt staticlib pailinstant` writes the archive to link: target/staticlib/libpailinstant.a.
  *
  * A pointer is to as many bytes or numbers as the length beside it says; two of one call must not overlap. No function keeps one.
- * docs/PLACER.md shows how a list is read. */
+ * docs/PLACER.md shows how a list is read, and sheets are added to it. */
 #ifndef PAILINSTANT_H
 #define PAILINSTANT_H
 
@@ -12,15 +12,19 @@
 extern "C" {
 #endif
 
-/* The bytes of the longest list: this much room is always enough for pailinstant_map. */
+/* The bytes of the longest list: this much room is always enough for pailinstant_map and pailinstant_add_set. */
 #define PAILINSTANT_LONGEST 60819
 
 /* The numbers of the longest list: this much room is always enough for pailinstant_read_list. */
 #define PAILINSTANT_NUMBERS 8003
 
 /* Of an answer of pailinstant_check_list or pailinstant_read_list other than 0: the refusal's number, and the line, from 0. */
-#define PAILINSTANT_REFUSAL(answer) ((answer) >> 16)
+#define PAILINSTANT_REFUSAL(answer) (((answer) >> 16) & 65535u)
 #define PAILINSTANT_LINE(answer) ((answer) & 65535u)
+
+/* Of an answer of pailinstant_add_set of 65536 or more: besides the refusal's number its place, and the sheet's position in the set. */
+#define PAILINSTANT_PLACE(answer) ((answer) & 65535u)
+#define PAILINSTANT_POSITION(answer) ((answer) >> 32)
 
 /* Writes what the mapping program prints for the input, the list or one line of a refusal, to the front of `output`, and gives how many
  * bytes that is. Where the room is too small it writes nothing and gives 0. */
@@ -38,6 +42,15 @@ uint32_t pailinstant_check_list(const uint8_t *text, size_t text_len);
  * greatest among the tables and driven nets that it reads. Where the text is a list and the room is too small it gives 65536 x 14. A
  * refused call writes nothing. */
 uint32_t pailinstant_read_list(const uint8_t *text, size_t text_len, uint64_t *numbers, size_t numbers_len);
+
+/* Adds a set of sheets, 1 to 16, to the part whose list is given: all of them or none. The set is one text, and `lengths` has the bytes of
+ * each sheet in it. Where the set is accepted it writes the list of the part with the sheets added to the front of `output`, and gives how
+ * many bytes that is, 19 to 60819. Else it writes nothing, and gives 2^32 x the position + 65536 x the refusal's number + the place, which
+ * is 65536 or more: 2, 3, 31 or 32 of the list, with its line as the place; then 33 for what is no set; then the first refusal of a sheet,
+ * with its position in the set, from 1, and its line, from 1, as the place; last 14 where the room is too small. A position or place that
+ * is not named here is 0. */
+uint64_t pailinstant_add_set(const uint8_t *list, size_t list_len, const uint8_t *text, size_t text_len, const uint32_t *lengths,
+                             size_t lengths_len, uint8_t *output, size_t output_len);
 
 #ifdef __cplusplus
 }

@@ -1,13 +1,14 @@
-//! The checker of lists: whether a list is one that the mapping program may print for an input.
+//! The checker of lists: whether a list is one that the mapping program may print for an input, or that a set of sheets may give.
 //!
 //! 01 leaves free which least cover is taken and the order of its tables, inputs before readers. So the list is read as that of a sound
-//! part, its tables are dealt to the sheets by their least numbers, and each sheet's tables are tested to be those
+//! part, its new tables are dealt to the sheets by their least numbers, and each sheet's tables are tested to be those
 //! of a cover of that sheet's joined tree (`sheet_tables`), which settles them up to what is free. As a second test the values are run
 //! against the sheets as drawn.
 
+use crate::adding::Accepted;
 use crate::list;
 use crate::part::{Part, Table};
-use crate::program::{self, Accepted};
+use crate::program;
 use crate::refusal::Refusal;
 use crate::rng::Rng;
 use crate::sheet::{Edge, Kind, Sheet, Source};
@@ -39,16 +40,20 @@ fn start(printed: &[u8]) -> String {
     String::from_utf8_lossy(&printed[..printed.len().min(80)]).into_owned()
 }
 
-fn check_accepted(accepted: &Accepted, list: &[u8]) -> Result<(), String> {
+/// Tests the list of a part that accepted some sheets: its old tables, then those of each sheet.
+pub fn check_accepted(accepted: &Accepted, list: &[u8]) -> Result<(), String> {
     let part = list::read(list).map_err(|fault| format!("{fault} in {:?}", start(list)))?;
     if (part.k, part.capacity) != (accepted.k, accepted.capacity) {
         return Err(format!("K {} and capacity {} in line 0", part.k, part.capacity));
     }
-    let wanted: usize = accepted.least.iter().sum();
-    if part.tables.len() != wanted {
-        return Err(format!("{} tables where the least numbers add up to {wanted}", part.tables.len()));
+    let mut used = accepted.old.len();
+    if !part.tables.starts_with(&accepted.old) {
+        return Err("the old tables do not stand in front as they were".into());
     }
-    let mut used = 0;
+    let wanted: usize = accepted.least.iter().sum();
+    if part.tables.len() != used + wanted {
+        return Err(format!("{} new tables where the least numbers add up to {wanted}", part.tables.len() - used));
+    }
     for (index, &least) in accepted.least.iter().enumerate() {
         let tables = &part.tables[used..used + least];
         sheet_tables(&accepted.joined[index].sheet, used, tables).map_err(|fault| format!("sheet {}: {fault}", index + 1))?;
@@ -241,12 +246,13 @@ fn all_settings(sheet: &Sheet, used: usize, tables: &[Table]) -> Result<(), Stri
 fn random_settings(accepted: &Accepted, part: &Part) -> Result<(), String> {
     let mut rng = Rng::new(part.tables.len() as u64);
     for _ in 0..4 {
-        let mut drawn = vec![0; NETS as usize + 1];
-        for net in accepted.sheets.iter().flat_map(Sheet::leaves) {
+        let mut drawn = vec![0; CODES as usize + part.tables.len() + 1];
+        let old = accepted.old.iter().flat_map(|table| &table.inputs).copied().filter(|&input| i64::from(input) <= NETS);
+        for net in old.chain(accepted.sheets.iter().flat_map(Sheet::leaves)) {
             drawn[usize::from(net)] = biased(&mut rng);
         }
         let mut listed = drawn.clone();
-        listed.resize(CODES as usize + part.tables.len() + 1, 0);
+        work_out(&accepted.old, 0, &mut drawn);
         for sheet in &accepted.sheets {
             drawn[usize::from(sheet.net)] = sheet.value(|net| drawn[usize::from(net)]);
         }

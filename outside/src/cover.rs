@@ -107,8 +107,9 @@ impl Gate<'_> {
     }
 }
 
-/// Adds the tables of a least cover of the sheet's tree, as it is, to those of the part.
-pub fn add(sheet: &Sheet, k: usize, tables: &mut Vec<Table>) {
+/// Adds the tables of a least cover of the sheet's tree, as it is, to those of the part, and gives how many they are.
+pub fn add(sheet: &Sheet, k: usize, tables: &mut Vec<Table>) -> usize {
+    let used = tables.len();
     let mut search = Search::new(k);
     let mut gate_keys = Vec::with_capacity(sheet.gates.len());
     let mut pending: Vec<Pending> = Vec::with_capacity(sheet.gates.len());
@@ -129,4 +130,5 @@ pub fn add(sheet: &Sheet, k: usize, tables: &mut Vec<Table>) {
     }
     let root = pending[pending.len() - 1].inverted(sheet.inverted);
     tables.push(root.table(sheet.net));
+    tables.len() - used
 }

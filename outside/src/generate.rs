@@ -34,8 +34,11 @@ struct Input {
 }
 
 fn text(input: &Input) -> String {
-    let lines = std::iter::once(&input.opening).chain(input.sheets.iter().flatten());
-    lines.map(|fields| fields.iter().map(|field| format!("{field:>6}")).collect::<String>() + "\n").collect()
+    lines_text(std::iter::once(&input.opening).chain(input.sheets.iter().flatten()))
+}
+
+fn lines_text<'a>(lines: impl IntoIterator<Item = &'a Vec<i64>>) -> String {
+    lines.into_iter().map(|fields| fields.iter().map(|field| format!("{field:>6}")).collect::<String>() + "\n").collect()
 }
 
 /// A drawn tree without names.
@@ -247,14 +250,22 @@ fn capacity(rng: &mut Rng, wanted: usize) -> usize {
 }
 
 /// The least number of tables of a sheet.
-fn tables(sheet: &Sheet, k: usize) -> usize {
+pub fn tables(sheet: &Sheet, k: usize) -> usize {
     least(&join(sheet).sheet, k)
 }
 
-/// A good input of up to a dozen sheets, most of them small: many have as many leaves as a joined gate may have fanins, or nearly.
+/// A good input of up to a dozen sheets.
 fn good(rng: &mut Rng) -> Input {
     let k = rng.between(2, 6);
     let count = if rng.once_in(10) { rng.between(0, 12) } else { rng.between(1, 3) };
+    let sheets = sheets(rng, count);
+    let wanted = sheets.iter().map(|sheet| tables(sheet, k)).sum();
+    input(k, capacity(rng, wanted), &sheets)
+}
+
+/// So many good sheets, most of them small: many have as many leaves as a joined gate may have fanins, or nearly. A part with room enough
+/// accepts one after another.
+pub fn sheets(rng: &mut Rng, count: usize) -> Vec<Sheet> {
     let mut nets = Nets::new(rng, LEAVES + 40);
     let mut sheets = Vec::new();
     for _ in 0..count {
@@ -268,8 +279,7 @@ fn good(rng: &mut Rng) -> Input {
         let tree = tree(rng, leaves, style);
         sheets.extend(nets.sheet(rng, &tree));
     }
-    let wanted = sheets.iter().map(|sheet| tables(sheet, k)).sum();
-    input(k, capacity(rng, wanted), &sheets)
+    sheets
 }
 
 /// Inputs at the limits and beyond.
@@ -362,16 +372,30 @@ pub fn full(rng: &mut Rng, k: usize, leaves: usize) -> Vec<Sheet> {
 
 /// A good input with one fault put in, or two.
 fn damaged(rng: &mut Rng) -> Case {
+    let mut input = text(&damaged_input(rng)).into_bytes();
+    if rng.once_in(4) {
+        damage_layout(rng, &mut input);
+    }
+    Case { name: "damaged", input }
+}
+
+fn damaged_input(rng: &mut Rng) -> Input {
     let mut input = good(rng);
     let faults = if rng.once_in(4) { 2 } else { 1 };
     for _ in 0..faults {
         damage(rng, &mut input);
     }
-    let mut input = text(&input).into_bytes();
-    if rng.once_in(4) {
-        damage_layout(rng, &mut input);
+    input
+}
+
+/// The text of each sheet of such an input; now and then the layout of one is damaged.
+pub fn damaged_sheets(rng: &mut Rng) -> Vec<Vec<u8>> {
+    let mut texts: Vec<Vec<u8>> = damaged_input(rng).sheets.iter().map(|lines| lines_text(lines).into_bytes()).collect();
+    if !texts.is_empty() && rng.once_in(4) {
+        let at = rng.below(texts.len());
+        damage_layout(rng, &mut texts[at]);
     }
-    Case { name: "damaged", input }
+    texts
 }
 
 fn damage(rng: &mut Rng, input: &mut Input) {
@@ -542,21 +566,26 @@ fn damage_layout(rng: &mut Rng, input: &mut Vec<u8>) {
 
 /// A good input with some bytes changed, left out or put in.
 fn changed_bytes(rng: &mut Rng) -> Case {
-    const BYTES: &[u8] = b"    --00123456789\n\n\t\r+x\0\xff";
     let mut input = text(&good(rng)).into_bytes();
+    change_bytes(rng, &mut input);
+    Case { name: "changed bytes", input }
+}
+
+/// Some bytes of a text, which has one, changed, left out or put in.
+pub fn change_bytes(rng: &mut Rng, text: &mut Vec<u8>) {
+    const BYTES: &[u8] = b"    --00123456789\n\n\t\r+x\0\xff";
     for _ in 0..rng.between(1, 3) {
-        let at = rng.below(input.len());
+        let at = rng.below(text.len());
         match rng.below(6) {
-            0 => drop(input.remove(at)),
-            1 => input.insert(at, *rng.pick(BYTES)),
-            2 | 3 if input[at].is_ascii_digit() => input[at] = b'0' + rng.below(10) as u8,
-            _ => input[at] = *rng.pick(BYTES),
+            0 => drop(text.remove(at)),
+            1 => text.insert(at, *rng.pick(BYTES)),
+            2 | 3 if text[at].is_ascii_digit() => text[at] = b'0' + rng.below(10) as u8,
+            _ => text[at] = *rng.pick(BYTES),
         }
-        if input.is_empty() {
+        if text.is_empty() {
             break;
         }
     }
-    Case { name: "changed bytes", input }
 }
 
 /// A good input cut off, or with something after its end.

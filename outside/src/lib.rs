@@ -4,6 +4,7 @@
 //! `program::map` answers a whole input as the mapping program has to. 01 leaves free which least cover is taken and in which order
 //! its tables stand, so another mapper's list is not compared with ours: `check::check_list` tests it against the input.
 
+pub mod adding;
 pub mod blif;
 pub mod check;
 pub mod cover;
@@ -27,6 +28,9 @@ pub mod program;
 pub mod refusal;
 pub mod rng;
 pub mod samples;
+pub mod set;
+pub mod set_cases;
+pub mod set_check;
 pub mod sheet;
 pub mod text;
 pub mod tool;

@@ -17,6 +17,22 @@ extern "C" {
     /// The same, and writes the list's numbers to `numbers`, which has room for `numbers_len` of them: 3, and 10 for each table. It gives
     /// 65536 × 14 where the text is a list and the room is too small, which `NUMBERS` never are. A refused call writes nothing.
     fn pailinstant_read_list(text: *const u8, text_len: usize, numbers: *mut u64, numbers_len: usize) -> u32;
+
+    /// Adds a set of sheets to the part whose list the `list_len` bytes at `list` are: the `text_len` bytes at `text`, of which each sheet
+    /// has as many as the next of the `lengths_len` numbers at `lengths` says. Where the set is accepted it writes the list of the part with
+    /// the sheets added to `output`, which has room for `output_len` bytes, and gives how many bytes that is. Else it writes nothing, and
+    /// gives 2^32 × the sheet's position in the set + 65536 × the refusal's number + the place: 14 where the room is too small, which
+    /// `LONGEST` bytes never are.
+    fn pailinstant_add_set(
+        list: *const u8,
+        list_len: usize,
+        text: *const u8,
+        text_len: usize,
+        lengths: *const u32,
+        lengths_len: usize,
+        output: *mut u8,
+        output_len: usize,
+    ) -> u64;
 }
 
 /// The bytes of the longest list: line 0 of three fields, and 800 lines of nine fields, 21 columns and a line feed. No input has more
@@ -69,4 +85,35 @@ pub fn read_list<'a>(text: &[u8], numbers: &'a mut [u64]) -> Result<&'a [u64], R
     // SAFETY: both pointers are to memory that is ours for the whole call, as much as the lengths say, and the two do not overlap.
     accepted(unsafe { pailinstant_read_list(text.as_ptr(), text.len(), numbers.as_mut_ptr(), numbers.len()) })?;
     Ok(&numbers[..3 + 10 * numbers[2] as usize])
+}
+
+/// A set of sheets that is turned away: a refusal of a sheet with its place and the sheet's position in the set, from 1; 2, 3, 31 or 32 of
+/// the list, with its line as the place, 33 or 14, all with position 0.
+#[derive(Clone, Copy, Debug, PartialEq, Eq)]
+pub struct SetRefused {
+    pub number: u32,
+    pub place: u32,
+    pub position: u32,
+}
+
+/// The list of the part whose list `list` is with a set of sheets added, written to the front of `output`: all of them or none. `lengths` has
+/// the bytes of each sheet in `text`. Where the set is refused, or `output` has too little room, it is left as it is.
+pub fn add_set<'a>(list: &[u8], text: &[u8], lengths: &[u32], output: &'a mut [u8]) -> Result<&'a [u8], SetRefused> {
+    // SAFETY: all pointers are to memory that is ours for the whole call, as much as the lengths say, and `output` overlaps no other.
+    let answer = unsafe {
+        pailinstant_add_set(
+            list.as_ptr(),
+            list.len(),
+            text.as_ptr(),
+            text.len(),
+            lengths.as_ptr(),
+            lengths.len(),
+            output.as_mut_ptr(),
+            output.len(),
+        )
+    };
+    if answer < 65536 {
+        return Ok(&output[..answer as usize]);
+    }
+    Err(SetRefused { number: (answer >> 16) as u32 & 0xffff, place: answer as u32 & 0xffff, position: (answer >> 32) as u32 })
 }

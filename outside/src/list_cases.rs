@@ -64,8 +64,27 @@ fn odd_texts() -> Vec<Case> {
     texts.into_iter().map(|text| Case { name: "odd text", text, wanted: Err((31, 0)) }).collect()
 }
 
+/// A text that is no list: a list with one change or two.
+pub fn damaged(rng: &mut Rng) -> Case {
+    loop {
+        let draft = Draft::of(&part(rng));
+        let text = draft.text();
+        let at = rng.below(text.len());
+        let case = match rng.below(6) {
+            0 => cut(&text, at),
+            1 => removed(&text, at),
+            2 => inserted(&text, at + 1, *rng.pick(&BYTES)),
+            3 => replaced(&draft, &text, at, *rng.pick(&BYTES)),
+            _ => changed(rng, draft),
+        };
+        if case.wanted.is_err() {
+            return case;
+        }
+    }
+}
+
 /// A sound part: 01's, one that the mapper makes, or one of any tables.
-fn part(rng: &mut Rng) -> Part {
+pub fn part(rng: &mut Rng) -> Part {
     match rng.below(40) {
         0 => example(),
         1..=14 => mapped(rng),

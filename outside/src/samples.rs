@@ -21,8 +21,12 @@ pub fn input(k: usize, capacity: usize, sheets: &[Sheet]) -> String {
     format!("{k:>6}{capacity:>6}\n") + &sheets.iter().map(Sheet::text).collect::<String>()
 }
 
-/// An input that fills a part of K 6 and 800 tables: 100 chains of 40 gates, eight tables each, no two over the same nets.
+/// Sheets that fill a part of K 6 and 800 tables: 100 chains of 40 gates, eight tables each, no two over the same nets.
+pub fn full_sheets() -> Vec<Sheet> {
+    (0..100).map(|index| chain(9999 - index, 1 + 8 * index, 40, 2)).collect()
+}
+
+/// Their input.
 pub fn full_part() -> String {
-    let sheets: Vec<Sheet> = (0..100).map(|index| chain(9999 - index, 1 + 8 * index, 40, 2)).collect();
-    input(6, 800, &sheets)
+    input(6, 800, &full_sheets())
 }

@@ -3,20 +3,17 @@
 
 mod common;
 
-use common::{input, text};
+use common::sets::{check_by_hand, check_longest, check_short_outputs};
+use common::{input, one_gate, text, AND, LIST};
 use outside::check::check_output;
 use outside::explain::reason;
 use outside::generate::case;
-use outside::linked::{check_list, map, read_list, refusal, Refused, LONGEST, NUMBERS};
+use outside::linked::{add_set, check_list, map, read_list, refusal, Refused, SetRefused, LONGEST, NUMBERS};
 use outside::one_more::{grown, has_join, Place};
 use outside::program::read;
+use outside::set_cases;
+use outside::set_check::{self, check_add};
 use outside::sheet::Sheet;
-
-/// The list of 01's example, which has one table for each sheet, so that nothing is left free.
-const LIST: &str = "     4     8     2
-     1    20     4     1     2     3     4                61152
-     2    21     2     5    20                   11
-";
 
 #[test]
 fn the_example() {
@@ -44,6 +41,35 @@ fn lists_read_back() {
         let list = map(&input, &mut output);
         let part = outside::list::read(list).expect("a list");
         assert_eq!(read_list(list, &mut numbers), Ok(&outside::list_check::numbers(&part)[..]));
+    }
+}
+
+#[test]
+fn sets_by_hand() {
+    check_by_hand(&set_check::linked);
+    check_short_outputs(&set_check::linked);
+    check_longest(&set_check::linked);
+}
+
+/// What the wrapper gives, by the answer's three parts.
+#[test]
+fn a_set() {
+    let sheets = one_gate(20, AND, &[1, 2]) + &one_gate(20, AND, &[3, 4]);
+    let mut output = [0; 19 + 52];
+    let new = "     4     8     1\n     1    20     2     1     2                    8\n";
+    assert_eq!(add_set(b"     4     8     0\n", &sheets.as_bytes()[..38], &[38], &mut output), Ok(new.as_bytes()));
+    let refused = add_set(b"     4     8     0\n", sheets.as_bytes(), &[38, 38], &mut output);
+    assert_eq!(refused, Err(SetRefused { number: 21, place: 0, position: 2 }));
+    let refused = add_set(&LIST.as_bytes()[..100], sheets.as_bytes(), &[38, 38], &mut output);
+    assert_eq!(refused, Err(SetRefused { number: 31, place: 2, position: 0 }));
+}
+
+#[test]
+fn generated_sets() {
+    let mut output = vec![0; LONGEST];
+    for index in 0..3000 {
+        let case = set_cases::case(2, index);
+        assert_eq!(check_add(&set_check::linked, &case, &set_check::answer(&case), &mut output), Ok(()), "{} {index}", case.kind);
     }
 }
 
@@ -90,7 +116,7 @@ fn the_refusals() {
         let mut output = [b'.'; 200];
         let sentence = String::from_utf8(refusal(number, &mut output).to_vec()).expect("plain words");
         assert_eq!(sentence, reason(number).unwrap_or(""));
-        assert_eq!(sentence.is_empty(), !matches!(number, 1..=15 | 20..=23 | 31 | 32), "{number}");
+        assert_eq!(sentence.is_empty(), !matches!(number, 1..=15 | 20..=23 | 31..=33), "{number}");
         assert!(sentence.len() <= 128 && output[sentence.len()..].iter().all(|&byte| byte == b'.'));
     }
 }

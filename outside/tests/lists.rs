@@ -3,24 +3,12 @@
 
 mod common;
 
-use common::line;
+use common::{line, table, LIST};
 use outside::level::levels;
 use outside::list::{self, Answer, Fault, Kind};
 use outside::list_cases::cases;
 use outside::list_check::{check_own, check_reader, numbers, Check, Read, Reader, NUMBERS};
 use outside::part::Table;
-
-/// 01's list.
-const EXAMPLE: &str = "     4     8     2
-     1    20     4     1     2     3     4                61152
-     2    21     2     5    20                   11
-";
-
-/// A table line.
-fn table(t: i64, net: i64, inputs: &[i64], truth: &str) -> String {
-    let fields = line(&[&[t, net, inputs.len() as i64], inputs].concat());
-    format!("{}{truth:>21}\n", fields.trim_end_matches('\n'))
-}
 
 fn taken(text: &str) -> bool {
     list::read(text.as_bytes()).is_ok_and(|part| part.list() == text)
@@ -38,7 +26,7 @@ fn refuses_line(table: &str, number: u32) {
 
 #[test]
 fn good_lists() {
-    assert!(taken(EXAMPLE));
+    assert!(taken(LIST));
     assert!(taken("     2     1     0\n") && taken("     6   800     0\n"));
     assert!(taken(&(line(&[2, 1, 1]) + &table(1, 9999, &[1, 9998], "15"))));
     assert!(taken(&(line(&[6, 1, 1]) + &table(1, 0, &[1, 2, 3, 4, 5, 6], "18446744073709551615"))));
@@ -49,15 +37,15 @@ fn good_lists() {
 
 #[test]
 fn the_part_of_the_example() {
-    let part = list::read(EXAMPLE.as_bytes()).expect("a list");
+    let part = list::read(LIST.as_bytes()).expect("a list");
     assert_eq!(numbers(&part), [4, 8, 2, 20, 4, 1, 2, 3, 4, 0, 0, 61152, 1, 21, 2, 5, 20, 0, 0, 0, 0, 11, 2]);
 }
 
 #[test]
 fn half_a_list_is_none() {
-    for at in 0..EXAMPLE.len() {
-        let line = EXAMPLE[..at].matches('\n').count();
-        refuses(&EXAMPLE[..at], 31, line);
+    for at in 0..LIST.len() {
+        let line = LIST[..at].matches('\n').count();
+        refuses(&LIST[..at], 31, line);
     }
 }
 

@@ -1,21 +1,23 @@
 """The expected output of the program part_test: the user's scope paper (01), sections "Part", "List" and the tables of refusals, with the
-nets and codes of request 102, the levels of request 103 and the joins of request 104, written down once more from the papers alone, with
-nothing shared with crates/. CASES.md has the answers worked out by hand.
+nets and codes of request 102, the levels of request 103, the joins of request 104 and the sets of request 106, written down once more from
+the papers alone, with nothing shared with crates/. CASES.md has the answers worked out by hand.
 
 An add reads its sheet by tests/sheet/model.py, joins its gates by tests/cover/join.py, and has its least number of tables from
 tests/cover/exhaustive.py and their groups, where 01 settles them, from tests/cover/settled.py.
 
 Run: python3 tests/part/model.py < crates/part_test/stdin > crates/part_test/stdout
      python3 tests/part/model.py --answers < crates/part_test/stdin    (line and answer of each step that CASES.md has)
-     python3 tests/part/model.py --lists < crates/part_test/stdin      (the list after each accepted add, of a long one some lines)
+     python3 tests/part/model.py --lists < crates/part_test/stdin      (the list after each accepted add or set, of a long one some lines)
 """
 
+import copy
 import importlib.util
 import itertools
 import pathlib
 import sys
 
 COLUMNS, FIELDS, RECORDS, BUFFER = 6, 12, 800, 4096
+SHEETS, LENGTHS = 16, 20  # the most sheets of a set, and the most lengths that the script can collect for one
 AND = 1
 TESTS = pathlib.Path(__file__).parents[1]
 CRATE = TESTS.parent / "crates/part_test"
@@ -277,6 +279,22 @@ def add(part, text):
     return 0, 0
 
 
+def add_set(part, text, lengths):
+    """Request 106: 20, then 33, then each sheet "as if those before it had been added". The answer, the place and the sheet's position,
+    and the part handed back: "all of them in a part or none"."""
+    if not sound(part):
+        return (-20, 0, 0), part
+    if not 1 <= len(lengths) <= SHEETS or sum(lengths) != len(text):
+        return (-33, 0, 0), part
+    added, start = copy.deepcopy(part), 0
+    for position, length in enumerate(lengths, 1):
+        number, place = add(added, text[start : start + length])
+        if number != 0:
+            return (number, place, position), part
+        start += length
+    return (0, 0, 0), added
+
+
 def whole_list(part):
     return b"".join(line(part, t) for t in range(part.used + 1))
 
@@ -293,9 +311,19 @@ def levels_in_use(part):
     return [record.level for record in part.records[: part.used]]
 
 
+def row_of(numbers):
+    """A line of the output, in fields of six."""
+    return b"".join(b"%6d" % number for number in numbers) + b"\n"
+
+
 def line_of_levels(part):
     """The line that step 11 prints, and list_reader_test after a list."""
-    return b"".join(b"%6d" % level for level in levels_in_use(part)) + b"\n"
+    return row_of(levels_in_use(part))
+
+
+def data_file(argument):
+    """The bytes of the file that an argument names."""
+    return (CRATE / "data" / (CRATE / "args").read_text().split("\n")[argument - 1]).read_bytes()
 
 
 def run_length(numbers, step):
@@ -321,13 +349,12 @@ def told(numbers):
 
 def run(script):
     """The steps that the head of crates/part_test/src/main.rt lists. Gives the output, the answers with the script's lines, but for
-    accepted openings, and the list after each accepted add."""
-    part, output, answers, lists = Part(), b"", [], b""
-    sheets = (CRATE / "args").read_text().split("\n")
+    accepted openings, and the list after each accepted add or set."""
+    part, lengths, output, answers, lists = Part(), [], b"", [], b""
     for at, row in enumerate(script.splitlines(), 1):
         assert len(row) == COLUMNS * FIELDS, f"line {at} is not twelve fields"
         step, *given = (int(row[i : i + COLUMNS]) for i in range(0, len(row), COLUMNS))
-        answer, buffer = None, None
+        answer, buffer, added = None, None, None
         if step == 0:
             answer, part = opened(given[0], given[1])
         elif step == 1:
@@ -351,16 +378,22 @@ def run(script):
         elif step == 9:
             answer, buffer = write_list(part, b"." * min(given[0], BUFFER), given[1])
         elif step == 10:
-            number, place = add(part, (CRATE / "data" / sheets[given[0] - 1]).read_bytes())
-            after = whole_list(part) if sound(part) else b""
-            output += b"%6d%6d\n" % (number, place) + after
-            answers.append((at, number, place))
-            lists += shown_list(part) if number == 0 else b""
+            added = add(part, data_file(given[0]))
         elif step == 11:
             output += line_of_levels(part)
             answers.append((at, told(levels_in_use(part))))
         elif step == 12:
             part.records[given[0] - 1].level = given[1]
+        elif step == 13:
+            times, low, high = given[:3]
+            lengths = (lengths + [low + 65536 * high] * times)[:LENGTHS]
+        elif step == 14:
+            added, part = add_set(part, data_file(given[0]), lengths)
+            lengths = []
+        if added is not None:
+            output += row_of(added) + (whole_list(part) if sound(part) else b"")
+            answers.append((at, *added))
+            lists += shown_list(part) if added[0] == 0 else b""
         if answer is not None:
             output += b"%6d\n" % answer
             if (step, answer) != (0, 0):

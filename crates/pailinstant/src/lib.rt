@@ -3,10 +3,12 @@ ghost use mathlib.Core.Path.{_≡_};
 ghost use Rattle.refusals.specs.Trusted.Sentences.{refusalText, frontWrite};
 ghost use Rattle.list_reading.specs.Trusted.ReadList.{readList};
 ghost use Rattle.list_numbers.specs.Trusted.Numbers.{listCode, numbersRead};
+ghost use Rattle.list_sets.specs.Trusted.ListSets.{AddedToList};
 ghost use Rattle.pailinstant.specs.Calls.{PrintedInto};
 use list_numbers::answer_code;
 use list_numbers::hand_over;
 use list_reader::read_list;
+use list_sets::add_to_list;
 use printing::Printed;
 use program::run;
 
@@ -49,4 +51,19 @@ pub extern "C" fn pailinstant_read_list(text: &[u8], numbers: &mut [u64]) -> u32
     ensures { λ r. ⌜ record { code = r; numbers = now (numbers .exit) } ≡ numbersRead (readList (now (text .entry))) (now (numbers .entry)) ⌝ }
 {
     hand_over(read_list(text), numbers)
+}
+
+// Adds a set of sheets to the part of a list, all or none: their text one after the other, with the length of each. Gives the new list at
+// the front of the buffer, and its count of bytes, 19 to 60,819. Else gives the refusal's code and leaves the buffer as it is: 2^32 times the
+// sheet's position in the set, from 1, or 0, then 65536 times its number, and the place. 14 is for a buffer that is too short.
+#[no_mangle]
+pub extern "C" fn pailinstant_add_set(
+    list: &[u8],
+    text: &[u8],
+    lengths: &[u32],
+    output: &mut [u8],
+) -> u64
+    ensures { λ r. ⌜ AddedToList (now (list .entry)) (now (lengths .entry)) (now (text .entry)) (now (output .entry)) r (now (output .exit)) ⌝ }
+{
+    add_to_list(list, text, lengths, output)
 }

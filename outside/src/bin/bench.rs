@@ -4,8 +4,8 @@
 //!     bench once INPUT none | own | proved
 //!     bench print INPUT own | proved
 //!
-//! Each figure is the least time of the rounds for one whole input that is mapped, or one list that is read back, in microseconds; the
-//! ratio is the proved code's time over the independent one's. The two are measured by turns, so that both meet the same load. `once`
+//! Each figure is the least time of the rounds for one whole input that is mapped, one list that is read back, or one set of sheets that is
+//! added to a list, in microseconds; the ratio is the proved code's time over the independent one's. The two are measured by turns, so that both meet the same load. `once`
 //! takes one input (a row, from 1) one time, for a count of instructions, and with `none` does all but that. `print` prints what a mapper
 //! prints for one input, so that two builds can be compared.
 
@@ -13,7 +13,8 @@ use std::hint::black_box;
 use std::process::ExitCode;
 use std::time::Instant;
 
-use outside::samples::{chain, full_part, input};
+use outside::samples::{chain, full_part, full_sheets, input};
+use outside::set::add_set;
 use outside::sheet::Kind;
 use outside::tool::finish;
 use outside::{list, program};
@@ -23,17 +24,26 @@ use outside::{list, program};
 enum Task {
     Map,
     Read,
+    AddSet,
 }
 
-/// A named text.
+/// A named text, and for a list the sheets that are added to it, with the bytes of each.
 struct Sample {
     name: String,
     text: String,
+    sheets: String,
+    lengths: Vec<u32>,
     task: Task,
 }
 
+impl Sample {
+    fn new(name: String, text: String, task: Task) -> Sample {
+        Sample { name, text, sheets: String::new(), lengths: Vec::new(), task }
+    }
+}
+
 fn one(name: &str, k: usize, gates: usize, fanins: usize) -> Sample {
-    Sample { name: format!("{name}, K {k}"), text: input(k, 800, &[chain(9999, 1, gates, fanins)]), task: Task::Map }
+    Sample::new(format!("{name}, K {k}"), input(k, 800, &[chain(9999, 1, gates, fanins)]), Task::Map)
 }
 
 /// A chain of ANDs, which are joined.
@@ -42,25 +52,35 @@ fn ands(k: usize, gates: usize) -> Sample {
     for gate in &mut sheet.gates {
         gate.kind = Kind::And;
     }
-    Sample { name: format!("chain of {gates} ANDs, joined, K {k}"), text: input(k, 800, &[sheet]), task: Task::Map }
+    Sample::new(format!("chain of {gates} ANDs, joined, K {k}"), input(k, 800, &[sheet]), Task::Map)
 }
 
 /// The list of a full part, cut to its first tables.
 fn listed(tables: usize) -> Sample {
     let mut part = list::read(program::print(full_part().as_bytes()).as_bytes()).expect("the list of a full part");
     part.tables.truncate(tables);
-    Sample { name: format!("list of {tables} tables, read"), text: part.list(), task: Task::Read }
+    Sample::new(format!("list of {tables} tables, read"), part.list(), Task::Read)
+}
+
+/// The sheets of a full part after the first ones, as many as a set has, added to the list of those.
+fn added(first: usize) -> Sample {
+    let sheets = full_sheets();
+    let text = program::print(input(6, 800, &sheets[..first]).as_bytes());
+    let texts: Vec<String> = sheets[first..first + 16].iter().map(|sheet| sheet.text()).collect();
+    let lengths = texts.iter().map(|text| text.len() as u32).collect();
+    Sample { name: format!("16 sheets to {} tables, K 6", 8 * first), text, sheets: texts.concat(), lengths, task: Task::AddSet }
 }
 
 fn samples() -> Vec<Sample> {
     let mut samples = vec![one("chain of 255 gates", 2, 255, 2), one("chain of 255 gates", 6, 255, 2)];
     samples.push(one("28 gates of ten fanins", 6, 28, 10));
-    samples.push(Sample { name: "full part of 800 tables, K 6".into(), text: full_part(), task: Task::Map });
+    samples.push(Sample::new("full part of 800 tables, K 6".into(), full_part(), Task::Map));
     samples.extend([32, 64, 128].map(|gates| one(&format!("chain of {gates} gates"), 6, gates, 2)));
     samples.extend([7, 14].map(|gates| one(&format!("{gates} gates of ten fanins"), 6, gates, 10)));
     samples.extend((2..=10).map(|fanins| one(&format!("one gate of {fanins} fanins"), 4, 1, fanins)));
     samples.extend([800, 400, 200, 1].map(listed));
     samples.push(ands(6, 255));
+    samples.extend([0, 84].map(added));
     samples
 }
 
@@ -78,6 +98,9 @@ fn own(sample: &Sample) {
     match sample.task {
         Task::Map => drop(black_box(program::print(text))),
         Task::Read => drop(black_box(list::read(text))),
+        Task::AddSet => {
+            drop(black_box(add_set(&list::read(text).expect("a list"), sample.sheets.as_bytes(), &sample.lengths).map(|part| part.list())))
+        }
     }
 }
 
@@ -92,7 +115,7 @@ struct Proved {
 impl Proved {
     fn of(task: Task) -> Proved {
         let (bytes, numbers) = match task {
-            Task::Map => (outside::linked::LONGEST, 0),
+            Task::Map | Task::AddSet => (outside::linked::LONGEST, 0),
             Task::Read => (0, outside::linked::NUMBERS),
         };
         Proved { output: vec![0; bytes], numbers: vec![0; numbers] }
@@ -103,6 +126,7 @@ impl Proved {
         match sample.task {
             Task::Map => drop(black_box(outside::linked::map(text, &mut self.output))),
             Task::Read => drop(black_box(outside::linked::read_list(text, &mut self.numbers))),
+            Task::AddSet => drop(black_box(outside::linked::add_set(text, sample.sheets.as_bytes(), &sample.lengths, &mut self.output))),
         }
     }
 }

@@ -12,10 +12,11 @@ use std::fs::File;
 use std::io::{BufWriter, Read, Write};
 use std::process::{Command, ExitCode, Stdio};
 
+use outside::adding::Accepted;
 use outside::check::check_answer;
 use outside::generate::case;
 use outside::join::{Chained, Joined};
-use outside::program::{self, Accepted};
+use outside::program;
 use outside::tool::{finish_run, Failures, Options};
 use outside::FANINS;
 

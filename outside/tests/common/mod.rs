@@ -2,13 +2,26 @@
 #![allow(dead_code)]
 
 pub mod nested;
+pub mod sets;
 
 use outside::refusal::Refusal;
 use outside::sheet::{read_only, Sheet};
 
+/// 01's list, which has one table for each sheet, so that nothing is left free.
+pub const LIST: &str = "     4     8     2
+     1    20     4     1     2     3     4                61152
+     2    21     2     5    20                   11
+";
+
 /// One line of fields.
 pub fn line(fields: &[i64]) -> String {
     fields.iter().map(|field| format!("{field:>6}")).collect::<String>() + "\n"
+}
+
+/// A table line of a list.
+pub fn table(t: i64, net: i64, inputs: &[i64], truth: &str) -> String {
+    let fields = line(&[&[t, net, inputs.len() as i64], inputs].concat());
+    format!("{}{truth:>21}\n", fields.trim_end_matches('\n'))
 }
 
 /// A text of lines of fields.

@@ -1,0 +1,4 @@
+pub mod Trusted
+pub mod Told
+pub mod ListSetLaws
+pub mod Examples
