@@ -7,13 +7,13 @@ use mathlib.Core.Path.{_≡_, refl, ap, _∙_, subst}
 use mathlib.Core.Bool.{true, false}
 use mathlib.Core.List.{List, [], _∷_}
 use lib.ListN.{length, getD, take, drop}
-use lib.Seq.{drop-cons, drop-drop}
+use lib.Seq.{drop-drop}
 use Rattle.lists.specs.ListLaws.{drop-past}
 use Rattle.lists.specs.Trusted.Lists.{sum}
 use Rattle.lists.specs.TestLaws.{by-either}
 use Rattle.sheet.specs.Trusted.Answers.{numberOf}
 use Rattle.set_lengths.specs.Trusted.Lengths.{Whole, isWhole, cut}
-use Rattle.set_lengths.specs.LengthLaws.{whole-reflects}
+use Rattle.set_lengths.specs.LengthLaws.{whole-reflects, lengths-next, sum-next}
 use Rattle.part.specs.Trusted.Parts.{Shaped}
 use Rattle.part.specs.Trusted.Sound.{Sound}
 use Rattle.part.specs.Trusted.SoundTest.{sound}
@@ -32,20 +32,13 @@ use Rattle.part.specs.declared.Adding.the-variants.{Accepted as Added, U
 use Rattle.part.specs.declared.SetAdded.{SetAdded}
 use Rattle.part.specs.declared.SetAdding.the-variants.{Accepted, SheetRefused}
 
--- ---- the lengths from one on
+-- ---- the texts from one on
 
-module _ (lengths : List ℕ) (i : ℕ) (l : i < length lengths) where
-  lengths-next : drop i lengths ≡ getD lengths i 0 ∷ drop (i + 1) lengths
-  lengths-next = drop-cons lengths i 0 l ∙ rw add-one
-
-  sum-next : sum (λ n. n) (drop i lengths) ≡ getD lengths i 0 + sum (λ n. n) (drop (i + 1) lengths)
-  sum-next = ap (sum (λ n. n)) lengths-next
-
-  cut-next : (text : List ℕ) (at : ℕ) → cut (drop i lengths) (drop at text)
-      ≡ take (getD lengths i 0) (drop at text) ∷ cut (drop (i + 1) lengths) (drop (at + getD lengths i 0) text)
-  cut-next text at =
-      ap (λ ns. cut ns (drop at text)) lengths-next
-      ∙ ap (λ t. take (getD lengths i 0) (drop at text) ∷ cut (drop (i + 1) lengths) t) (drop-drop (getD lengths i 0) at text)
+cut-next : (lengths : List ℕ) (i : ℕ) → i < length lengths → (text : List ℕ) (at : ℕ) → cut (drop i lengths) (drop at text)
+    ≡ take (getD lengths i 0) (drop at text) ∷ cut (drop (i + 1) lengths) (drop (at + getD lengths i 0) text)
+cut-next lengths i l text at =
+    ap (λ ns. cut ns (drop at text)) (lengths-next lengths i l)
+    ∙ ap (λ t. take (getD lengths i 0) (drop at text) ∷ cut (drop (i + 1) lengths) t) (drop-drop (getD lengths i 0) at text)
 
 -- ---- the sheets in turn
 
@@ -59,7 +52,7 @@ refusal OutputRead d = (22, 0, refl)
 refusal Full d = (23, 0, refl)
 
 -- what the code hands back is what comes of the sheets from position i on, the first on the part p, for some sheets that were tried
-abbrev Turns : (o : Part) (i : ℕ) (texts : List (List ℕ)) (p : Part) → SetAdded → Type 0
+abbrev pub Turns : (o : Part) (i : ℕ) (texts : List (List ℕ)) (p : Part) → SetAdded → Type 0
 Turns o i texts p r = (ts : List Try) × InTurn o i texts p (setResult r ts)
 
 -- the first i sheets were added, up to the place of the text: what comes of the rest is what comes of all

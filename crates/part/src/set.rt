@@ -1,4 +1,5 @@
 // Adding a set of sheets to a part, all or none.
+ghost use mathlib.Core.Path.{_≡_};
 ghost use mathlib.Core.List.{List};
 ghost use lib.ListN.{length};
 ghost use Rattle.table.specs.LevelTest.{LevelsStand};
@@ -8,6 +9,7 @@ ghost use Rattle.part.specs.Trusted.Sound.{Sound};
 ghost use Rattle.part.specs.Trusted.Tries.{Try};
 ghost use Rattle.part.specs.Trusted.Sets.{InTurn, AddSet};
 ghost use Rattle.part.specs.Trusted.SetAnswers.{setResult};
+use crate::Added;
 use crate::Adding;
 use crate::Part;
 use crate::SetAdded;
@@ -15,33 +17,37 @@ use crate::SetAdding;
 use table::CODE_ROOM;
 
 impl Part {
+    // The part as it is, with the answer.
+    fn with_answer(self, answer: SetAdding) -> SetAdded
+        ensures { λ r. ⌜ r ≡ record { part = self; answer = answer } ⌝ }
+    {
+        SetAdded { part: self, answer }
+    }
+
     // Adds the sheets of a set in turn to a part that is sound, up to the first that is refused. The array has the levels of the part's
     // codes.
     fn take_each(self, text: &[u8], lengths: &[u32], levels: &mut [u16]) -> SetAdded
         requires { ⌜ Sound self × LevelsStand (now levels) (tablesOf self) × Whole (now lengths) (length (now text)) ⌝ }
         ensures { λ r. ⌜ ((ts : List Try) × InTurn self 1 (cut (now (lengths .entry)) (now (text .entry))) self (setResult r ts)) ⌝ }
     {
-        let mut part = self;
+        let mut added = Added {
+            part: self,
+            answer: Adding::Accepted,
+        };
         let mut at = 0;
         let mut i = 0;
         while i < lengths.len() {
             let end = at + lengths[i] as usize;
-            let added = part.take(&text[at..end], levels);
+            added = added.part.take(&text[at..end], levels);
             let answer = added.answer;
             let Adding::Accepted = answer else {
-                return SetAdded {
-                    part: self,
-                    answer: SetAdding::SheetRefused(answer, i as u8 + 1),
-                };
+                let position = i as u8 + 1;
+                return self.with_answer(SetAdding::SheetRefused(answer, position));
             };
-            part = added.part;
             at = end;
             i += 1;
         }
-        SetAdded {
-            part,
-            answer: SetAdding::Accepted,
-        }
+        added.part.with_answer(SetAdding::Accepted)
     }
 
     // Adds the sheets of a set, all or none: their text one after the other, with the length of each. The conditions that refuse it are
@@ -54,16 +60,10 @@ impl Part {
         let sound = part_records::sound(self.k, self.capacity, self.used, tables, &mut levels);
         let whole = set_lengths::whole(lengths, text.len());
         if !sound {
-            return SetAdded {
-                part: self,
-                answer: SetAdding::Unsound,
-            };
+            return self.with_answer(SetAdding::Unsound);
         }
         if !whole {
-            return SetAdded {
-                part: self,
-                answer: SetAdding::LengthsUnfit,
-            };
+            return self.with_answer(SetAdding::LengthsUnfit);
         }
         self.take_each(text, lengths, &mut levels)
     }

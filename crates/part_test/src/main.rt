@@ -12,6 +12,10 @@
 //                                              that argument n names               the list, where the part is sound
 //   11                                         prints the levels of the records in use, in one line
 //   12 t level                                 set the level of record t
+//   13 times low high                          collect so many lengths for the next set, low + 65536 x high each; there is room for 20
+//   14 n                                       add the set in a file that          prints 0 or minus the number, the place and the
+//                                              argument n names, with the          position; then the list, where the part is sound
+//                                              lengths collected, and drop them
 ghost use Prim.Native.Nat.{_≤_};
 ghost use Rattle.io.specs.Counts.{Counts};
 use decimal::Field;
@@ -20,11 +24,26 @@ use listing::WriteAnswer;
 use part::Adding;
 use part::Opening;
 use part::Part;
+use part::SetAdded;
+use part::SetAdding;
 use table::Table;
 
 const FIELDS: usize = 12;
 
 const LINE: usize = 73;
+
+// The bytes that a script has room in.
+const SCRIPT: usize = 131072;
+
+// The most lengths that are collected for a set.
+const LENGTHS: usize = 20;
+
+// The part, and the lengths collected for the next set.
+struct State {
+    part: Part,
+    lengths: [u32; 20],
+    count: u32,
+}
 
 // The number in a field of a line, 0 where there is none.
 fn field(s: &[u8], i: usize) -> u32 {
@@ -92,6 +111,32 @@ fn adding(a: Adding) -> i32 {
 fn place(a: Adding) -> u16 {
     match a {
         Adding::Misread(_, line) => line,
+        _ => 0,
+    }
+}
+
+// 0, or minus the refusal's number, of a set.
+fn set_number(a: SetAdding) -> i32 {
+    match a {
+        SetAdding::Accepted => 0,
+        SetAdding::Unsound => -20,
+        SetAdding::LengthsUnfit => -33,
+        SetAdding::SheetRefused(why, _) => adding(why),
+    }
+}
+
+// The line of the sheet of a set that is refused, 0 where there is none.
+fn set_place(a: SetAdding) -> u16 {
+    match a {
+        SetAdding::SheetRefused(why, _) => place(why),
+        _ => 0,
+    }
+}
+
+// Its position in the set, 0 where there is none.
+fn set_position(a: SetAdding) -> u8 {
+    match a {
+        SetAdding::SheetRefused(_, position) => position,
         _ => 0,
     }
 }
@@ -299,7 +344,52 @@ fn add(p: Part, s: &[u8]) -> Part {
     part
 }
 
-// One step of the script.
+// The length of step 13.
+fn length(s: &[u8]) -> u32 {
+    low16(field(s, 2)) as u32 + 65536 * low16(field(s, 3)) as u32
+}
+
+// The state with so many lengths more; those past its room are left out.
+fn collected(mut state: State, times: u32, length: u32) -> State {
+    let mut at = room(state.count, LENGTHS);
+    let mut i = 0;
+    while i < times {
+        if at < LENGTHS {
+            state.lengths[at] = length;
+            at += 1;
+        }
+        i += 1;
+    }
+    state.count = at as u32;
+    state
+}
+
+// The set of the text added, with the first so many lengths.
+fn set_added(p: Part, text: &[u8], lengths: [u32; 20], count: u32) -> SetAdded {
+    let many = room(count, LENGTHS);
+    p.add_set(text, &lengths[..many])
+}
+
+fn add_set(state: State, s: &[u8]) -> State {
+    let mut text = io::large_buffer();
+    let n = read_sheet(field(s, 1) as usize, &mut text);
+    let part = state.part;
+    let lengths = state.lengths;
+    let added = set_added(part, &text[..n], lengths, state.count);
+    let answer = added.answer;
+    let part = added.part;
+    put(set_number(answer));
+    put(set_place(answer) as i32);
+    say(set_position(answer) as i32);
+    print_list(part);
+    State {
+        part,
+        lengths,
+        count: 0,
+    }
+}
+
+// A step on the part alone.
 fn step(p: Part, s: &[u8]) -> Part {
     match field(s, 0) {
         0 => open(s),
@@ -327,20 +417,38 @@ fn shown(p: Part, s: &[u8]) -> Part {
     p
 }
 
+// One step of the script.
+fn next(mut state: State, s: &[u8]) -> State {
+    match field(s, 0) {
+        13 => collected(state, field(s, 1), length(s)),
+        14 => add_set(state, s),
+        _ => {
+            let part = state.part;
+            state.part = step(part, s);
+            state
+        }
+    }
+}
+
 // The lines of the script, one after another, from a part of all zeros.
 fn run(script: &[u8]) {
     let o = Part::open(0, 0);
-    let mut p = o.part;
+    let part = o.part;
+    let mut state = State {
+        part,
+        lengths: [0; 20],
+        count: 0,
+    };
     let mut at: usize = 0;
     while LINE <= script.len() - at {
         let end = at + LINE;
-        p = step(p, &script[at..end]);
+        state = next(state, &script[at..end]);
         at = end;
     }
 }
 
 fn main() {
-    let mut script = io::large_buffer();
+    let mut script = [0u8; SCRIPT];
     let n = io::read_full(0, &mut script);
     run(&script[..n]);
 }

@@ -74,8 +74,7 @@ pub fn add_sheets(opened: Part, input: &[u8], start: usize) -> End
             return End { part, told, sheet };
         }
         let drawn = next.sheet;
-        let part = added.part;
-        added = part.offer(drawn, &mut levels);
+        added = added.part.offer(drawn, &mut levels);
         let answer = added.answer;
         let told = tell_adding(answer);
         if told.number != 0 {

@@ -6,10 +6,10 @@ use Rattle.part_test.proofs.run.Statement.{statement}
 use Rattle.part_test.proofs.run.Tie as tie
 
 abbrev Inv-loop : tie.InvT-loop
-Inv-loop script p₀ at₀ p at = at ≤ length script
+Inv-loop script state₀ at₀ state at = at ≤ length script
 
 abbrev μ-loop : tie.MeasureT-loop
-μ-loop script p₀ at₀ p at = length script - at
+μ-loop script state₀ at₀ state at = length script - at
 
 open-requires : tie.Need-open-requires Inv-loop μ-loop
 open-requires c κs = search needs
@@ -23,17 +23,17 @@ sub-loop c = omega arith
 add-end : tie.Need-add-end Inv-loop μ-loop
 add-end c = omega arith
 
-sub-step : tie.Need-sub-step Inv-loop μ-loop
-sub-step c = omega arith
+sub-next : tie.Need-sub-next Inv-loop μ-loop
+sub-next c = omega arith
 
-part-step-start : tie.Need-part-step-start Inv-loop μ-loop
-part-step-start c = omega arith
+part-next-start : tie.Need-part-next-start Inv-loop μ-loop
+part-next-start c = omega arith
 
-part-step-end : tie.Need-part-step-end Inv-loop μ-loop
-part-step-end c = omega arith
+part-next-end : tie.Need-part-next-end Inv-loop μ-loop
+part-next-end c = omega arith
 
-step-requires : tie.Need-step-requires Inv-loop μ-loop
-step-requires c κs = search needs
+next-requires : tie.Need-next-requires Inv-loop μ-loop
+next-requires c κs = search needs
 
 loop-less : tie.Need-loop-less Inv-loop μ-loop
 loop-less c = omega arith
@@ -54,10 +54,10 @@ run-spec =
     loop-holds
     sub-loop
     add-end
-    sub-step
-    part-step-start
-    part-step-end
-    step-requires
+    sub-next
+    part-next-start
+    part-next-end
+    next-requires
     loop-less
     loop-again
     returns)

@@ -1,12 +1,12 @@
-use Prim.Native.Nat.{ℕ, _+_, _-_, _*_, _≤_, _<_}
-use native.Mathlib.Numerals.{add-one}
+use Prim.Native.Nat.{_+_, _-_, _*_, _≤_}
 use native.Mathlib.Omega.{arith}
 use mathlib.Core.Path.{_≡_, ap, _∙_}
-use mathlib.Core.List.{List, []}
+use mathlib.Core.List.{[]}
 use borrow.Author.Needs.{needs}
-use lib.ListN.{length, getD, drop}
-use lib.Seq.{drop-length, drop-cons}
+use lib.ListN.{length, drop}
+use lib.Seq.{drop-length}
 use Rattle.lists.specs.Trusted.Lists.{sum}
+use Rattle.set_lengths.specs.LengthLaws.{sum-next}
 use Rattle.set_lengths.proofs.total.Statement.{statement}
 use Rattle.set_lengths.proofs.total.Tie as tie
 
@@ -16,10 +16,6 @@ Inv-loop lengths sum₀ i₀ added i = (i ≤ length lengths) × (added ≤ 4294
 
 abbrev μ-loop : tie.MeasureT-loop
 μ-loop lengths sum₀ i₀ added i = length lengths - i
-
--- one length more
-more : (lengths : List ℕ) (i : ℕ) → i < length lengths → sum (λ n. n) (drop i lengths) ≡ getD lengths i 0 + sum (λ n. n) (drop (i + 1) lengths)
-more lengths i l = ap (sum (λ n. n)) (drop-cons lengths i 0 l) ∙ rw add-one
 
 loop-holds : tie.Need-loop-holds Inv-loop μ-loop
 loop-holds c = (omega arith, omega arith, omega arith)
@@ -48,7 +44,7 @@ loop-again : tie.Need-loop-again Inv-loop μ-loop
 loop-again c =
     let l = c .before .before .before .loop in
     let xs = c .before .before .before .before .before .args .lengths .now in
-    let m = more xs (l .i) (omega arith) in
+    let m = sum-next xs (l .i) (omega arith) in
     let w = c .wide .ensures in
     let b = c .before .shared-slice-known2 .given (l .i) in
     (omega arith, omega arith, omega arith)

@@ -1,27 +1,28 @@
 use Prim.Native.Nat.{_-_}
 use native.Mathlib.Nat.{add-sub-cancel-left}
 use native.Mathlib.Omega.{arith}
-use mathlib.Core.Path.{_≡_, refl}
+use mathlib.Core.Path.{_≡_, refl, sym, subst}
 use mathlib.Core.List.{[], _∷_}
 use types.Run.{miss}
 use borrow.Author.Needs.{needs}
 use lib.ListN.{length, getD, take, drop}
 use Rattle.table.specs.LevelTest.{LevelsStand}
+use Rattle.set_lengths.specs.Trusted.Lengths.{cut}
 use Rattle.part.specs.Trusted.Parts.{tablesOf}
 use Rattle.part.specs.Trusted.Ways.{least}
 use Rattle.part.specs.Trusted.Add.{Add}
 use Rattle.part.specs.Trusted.AddAnswers.{addingAnswer}
-use Rattle.part.specs.SetLaws.{SetSoFar, set-start, set-room, set-stop, set-more, set-all}
+use Rattle.part.specs.SetLaws.{Turns, SetSoFar, set-start, set-room, set-stop, set-more, set-all}
 use Rattle.part.proofs.Shape.{shaped}
 use Rattle.part.proofs.Part.take_each.Statement.{statement}
 use Rattle.part.proofs.Part.take_each.Tie as tie
 
 abbrev Inv-loop : tie.InvT-loop
-Inv-loop self text lengths levels₀ part₀ at₀ i₀ levels part at i =
-    SetSoFar self lengths text part i at × LevelsStand levels (tablesOf part) × (length levels ≡ length levels₀)
+Inv-loop self text lengths levels₀ added₀ at₀ i₀ levels added at i =
+    SetSoFar self lengths text (added .part) i at × LevelsStand levels (tablesOf (added .part)) × (length levels ≡ length levels₀)
 
 abbrev μ-loop : tie.MeasureT-loop
-μ-loop self text lengths levels₀ part₀ at₀ i₀ levels part at i = length lengths - i
+μ-loop self text lengths levels₀ added₀ at₀ i₀ levels added at i = length lengths - i
 
 loop-holds : tie.Need-loop-holds Inv-loop μ-loop
 loop-holds c =
@@ -57,26 +58,32 @@ take-requires c κs =
     (l .inv .0 .sound, l .inv .1)
 
 sheet-added : (c : tie.After-take Inv-loop μ-loop) → let i = c .before .before .before in let l = i .before .before .loop in let a = i .before .before .before .before .before .before .args in
-    Add least (l .part) (take (getD (a .lengths .now) (l .i) 0) (drop (l .at) (a .text .now))) (c .take .result .part) (addingAnswer (c .take .result .answer))
+    Add least (l .added .part) (take (getD (a .lengths .now) (l .i) 0) (drop (l .at) (a .text .now))) (c .take .result .part) (addingAnswer (c .take .result .answer))
 sheet-added c = rw (add-sub-cancel-left (c .before .before .before .before .before .loop .at) _) at (c .take .ensures .0)
 
 enum-told : tie.Need-enum-told Inv-loop μ-loop
 enum-told c = search needs
 
-cast-t21 : tie.Need-cast-t21 Inv-loop μ-loop
-cast-t21 c = let s = c .before .before .before .before .before .before .before .before .before .before .before .before in omega (arith, s .pre .2 .few)
+cast-position : tie.Need-cast-position Inv-loop μ-loop
+cast-position c = let s = c .before .before .before .before .before .before .before .before .before .before .before .before in omega (arith, s .pre .2 .few)
 
-add-t22 : tie.Need-add-t22 Inv-loop μ-loop
-add-t22 c = let s = c .before .before .before .before .before .before .before .before .before .before .before .before in omega (arith, s .pre .2 .few)
+add-position : tie.Need-add-position Inv-loop μ-loop
+add-position c = let s = c .before .before .before .before .before .before .before .before .before .before .before .before in omega (arith, s .pre .2 .few)
+
+with-answer-requires : tie.Need-with-answer-requires Inv-loop μ-loop
+with-answer-requires c κs = search needs
 
 same-length : tie.Need-same-length Inv-loop μ-loop
 same-length c = omega arith
 
 returns : tie.Need-returns Inv-loop μ-loop
 returns c =
-    let t = c .before .before .before in
+    let m = c .before in
+    let t = m .before .before .before in
     let l = t .before .before .before .before .before .loop in
-    set-stop (l .inv .0) (omega arith) (t .take .result .part) (t .take .result .answer) (sheet-added t) (λ e. miss (1 ∷ 2 ∷ 3 ∷ 4 ∷ 5 ∷ []) 0 tt (rw e at (c .match .keys2)))
+    let a = t .before .before .before .before .before .before .before .before .before .args in
+    subst (Turns (a .self) 1 (cut (a .lengths .now) (a .text .now)) (a .self)) (sym (c .with-answer .ensures))
+    (set-stop (l .inv .0) (omega arith) (t .take .result .part) (t .take .result .answer) (sheet-added t) (λ e. miss (1 ∷ 2 ∷ 3 ∷ 4 ∷ 5 ∷ []) 0 tt (rw e at (m .match .keys2))))
 
 add-i : tie.Need-add-i Inv-loop μ-loop
 add-i c = omega arith
@@ -86,16 +93,22 @@ loop-less c = omega arith
 
 loop-again : tie.Need-loop-again Inv-loop μ-loop
 loop-again c =
-    let t = c .before .before .before .before .before in
+    let t = c .before .before .before .before in
     let l = t .before .before .before .before .before .loop in
     let k = t .take in
-    (set-more (l .inv .0) (omega arith) (k .result .part) (k .result .answer) (sheet-added t) (c .before .enum-told .given .1), k .ensures .1, omega arith)
+    (set-more (l .inv .0) (omega arith) (k .result .part) (k .result .answer) (sheet-added t) (c .enum-told .given .1), k .ensures .1, omega arith)
+
+with-answer-requires-2 : tie.Need-with-answer-requires-2 Inv-loop μ-loop
+with-answer-requires-2 c κs = search needs
 
 same-length-2 : tie.Need-same-length-2 Inv-loop μ-loop
-same-length-2 c = c .before .loop .inv .2
+same-length-2 c = c .before .before .loop .inv .2
 
 returns-2 : tie.Need-returns-2 Inv-loop μ-loop
-returns-2 c = set-all (c .before .loop .inv .0) (omega arith)
+returns-2 c =
+    let l = c .before .before .loop in
+    let a = c .before .before .before .before .before .before .args in
+    subst (Turns (a .self) 1 (cut (a .lengths .now) (a .text .now)) (a .self)) (sym (c .with-answer2 .ensures)) (set-all (l .inv .0) (omega arith))
 
 pub take-each-spec : {M : Type 1} → statement M
 take-each-spec =
@@ -113,12 +126,14 @@ take-each-spec =
     part-take-end
     take-requires
     enum-told
-    cast-t21
-    add-t22
+    cast-position
+    add-position
+    with-answer-requires
     same-length
     returns
     add-i
     loop-less
     loop-again
+    with-answer-requires-2
     same-length-2
     returns-2)
