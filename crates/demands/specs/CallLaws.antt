@@ -1,16 +1,15 @@
 -- What a call promises, as its tries: each is an add, and which sheets are tried; and what the call leaves as it was.
 -- A further kind of call has its clause of `call-tries` and `call-tried` here, and all else of a list of calls goes by these.
-use Prim.Native.Nat.{ℕ, _+_}
+use Prim.Native.Nat.{ℕ}
 use native.Mathlib.Omega.{arith}
 use mathlib.Core.Path.{_≡_, refl, sym, ap, _∙_, subst}
 use mathlib.Core.Logic.{_⊎_, inl, inr, ⊎-elim}
 use mathlib.Core.List.{List, [], _∷_, _++_, append-nil, map}
-use lib.ListN.{length}
 use Rattle.lists.specs.Trusted.Lists.{Every}
 use Rattle.lists.specs.ListLaws.{every-none, every-cons, every-head, every-tail}
 use Rattle.part.specs.Trusted.Parts.{Shaped}
 use Rattle.part.specs.Trusted.Sound.{Sound}
-use Rattle.part.specs.Trusted.Ways.{Way}
+use Rattle.part.specs.Trusted.Ways.{Way, least}
 use Rattle.part.specs.Trusted.Answers.{Answer, accepted, refused}
 use Rattle.part.specs.Trusted.Tries.{Try, CallResult}
 use Rattle.part.specs.Trusted.Sets.{member, InTurn, all, next, stop}
@@ -18,7 +17,7 @@ use Rattle.part.specs.AddLaws.{Kept, AddCase, unsound, misread, driven, read, f
 use Rattle.part.specs.SetLaws.{SetCase, unsound-part, unfit, in-turn, set-case}
 use Rattle.part.specs.declared.Part.{Part}
 use Rattle.demands.specs.Trusted.Calls.{Call, add, addSet, oneSheet, Promise, Chain, done, call, sheetEntries, ifAccepted, acceptedBy}
-use Rattle.demands.specs.Trusted.Demands.{texts, OnEachOther, no-try, next-try, TriedSheets, before-any, every, up-to}
+use Rattle.demands.specs.Trusted.Demands.{triedOf, OnEachOther, no-try, next-try, TriedSheets, before-any, every, up-to}
 use Rattle.demands.specs.TryLaws.{Trying, CountGrown, none-grown, line-kept, line-grown}
 
 -- ---- adding a set
@@ -28,31 +27,33 @@ turn-tries all = every-none _
 turn-tries (next a t) = every-cons a (turn-tries t)
 turn-tries (stop a) = every-cons a (every-none _)
 
+-- the sheets of a set, by their texts
+abbrev setSheets : List (List ℕ) → List (Way × List ℕ)
+setSheets = map (λ t. (least, t))
+
 -- how it ends: every sheet is taken, or one is refused
-record Broken (o p : Part) (i : ℕ) (sheets : List (List ℕ)) (r : CallResult) : Type 0 where
+record Broken (o p : Part) (sheets : List (List ℕ)) (r : CallResult) : Type 0 where
   ahead : List Try
   last : Try
-  rest : List (List ℕ)
+  rest : List (Way × List ℕ)
   number : ℕ
   place : ℕ
   tries : r .tries ≡ ahead ++ last ∷ []
-  texts : sheets ≡ texts (r .tries) ++ rest
+  tried : setSheets sheets ≡ map triedOf (r .tries) ++ rest
   stand : OnEachOther p ahead (last .before)
   refuses : last .answer ≡ refused number place
   answer : r .answer ≡ last .answer
-  position : r .position ≡ i + length ahead
   stays : r .part ≡ o
 
 record All (p : Part) (sheets : List (List ℕ)) (r : CallResult) : Type 0 where
-  texts : texts (r .tries) ≡ sheets
+  tried : map triedOf (r .tries) ≡ setSheets sheets
   stand : OnEachOther p (r .tries) (r .part)
   answer : r .answer ≡ accepted
-  position : r .position ≡ 0
 
-turn-ends : {o p : Part} {i : ℕ} {sheets : List (List ℕ)} {r : CallResult} → InTurn o i sheets p r → All p sheets r ⊎ Broken o p i sheets r
-turn-ends all = inl (record { texts = refl; stand = no-try; answer = refl; position = refl })
-turn-ends (next {i = i} {text = text} {p = p} {q = q} a t) =
-    ⊎-elim (λ x. inl (record { texts = ap (_∷_ text) (x .texts); stand = next-try {t = member text p q accepted} refl (x .stand); answer = x .answer; position = x .position }))
+turn-ends : {o p : Part} {i : ℕ} {sheets : List (List ℕ)} {r : CallResult} → InTurn o i sheets p r → All p sheets r ⊎ Broken o p sheets r
+turn-ends all = inl (record { tried = refl; stand = no-try; answer = refl })
+turn-ends (next {text = text} {p = p} {q = q} a t) =
+    ⊎-elim (λ x. inl (record { tried = ap (_∷_ (least, text)) (x .tried); stand = next-try {t = member text p q accepted} refl (x .stand); answer = x .answer }))
     (λ x. inr (record {
       ahead = member text p q accepted ∷ x .ahead;
       last = x .last;
@@ -60,27 +61,25 @@ turn-ends (next {i = i} {text = text} {p = p} {q = q} a t) =
       number = x .number;
       place = x .place;
       tries = ap (_∷_ (member text p q accepted)) (x .tries);
-      texts = ap (_∷_ text) (x .texts);
+      tried = ap (_∷_ (least, text)) (x .tried);
       stand = next-try {t = member text p q accepted} refl (x .stand);
       refuses = x .refuses;
       answer = x .answer;
-      position = omega (arith, x .position);
       stays = x .stays;
     }))
     (turn-ends t)
-turn-ends (stop {i = i} {text = text} {texts = rest} {p = p} {q = q} {number = n} {place = l} a) =
+turn-ends (stop {text = text} {texts = rest} {p = p} {q = q} {number = n} {place = l} a) =
     inr (record {
       ahead = [];
       last = member text p q (refused n l);
-      rest = rest;
+      rest = setSheets rest;
       number = n;
       place = l;
       tries = refl;
-      texts = refl;
+      tried = refl;
       stand = no-try;
       refuses = refl;
       answer = refl;
-      position = omega arith;
       stays = refl;
     })
 
@@ -106,16 +105,16 @@ single-tried o w text r h = of (r .answer) refl
     tries = ap (λ r. r .tries) (h .1)
 
     of : (a : Answer) → r .answer ≡ a → TriedSheets o (add w text) r
-    of accepted e = every (ap texts tries) (subst (λ ts. OnEachOther o ts (r .part)) (sym tries) (next-try {t = t} e no-try)) e
+    of accepted e = every (ap (map triedOf) tries) (subst (λ ts. OnEachOther o ts (r .part)) (sym tries) (next-try {t = t} e no-try)) e
     of (refused number place) e =
-        up-to [] t [] number place tries (sym (ap texts tries) ∙ sym (append-nil (texts (r .tries)))) no-try e refl (refused-stays w o text (r .part) (r .answer) number place (h .0) e)
+        up-to [] t [] number place tries (sym (ap (map triedOf) tries) ∙ sym (append-nil (map triedOf (r .tries)))) no-try e refl (refused-stays w o text (r .part) (r .answer) number place (h .0) e)
 
 set-tried : (o : Part) (lengths text : List ℕ) (r : CallResult) → SetCase o lengths text r → TriedSheets o (addSet lengths text) r
 set-tried o lengths text r (unsound-part n e) = before-any 20 (λ z. omega arith) e
 set-tried o lengths text r (unfit s n e) = before-any 33 (λ z. omega arith) e
 set-tried o lengths text r (in-turn s f t) =
-    ⊎-elim (λ x. every (x .texts) (x .stand) (x .answer))
-    (λ x. up-to (x .ahead) (x .last) (x .rest) (x .number) (x .place) (x .tries) (x .texts) (x .stand) (x .refuses) (x .answer) (x .stays))
+    ⊎-elim (λ x. every (x .tried) (x .stand) (x .answer))
+    (λ x. up-to (x .ahead) (x .last) (x .rest) (x .number) (x .place) (x .tries) (x .tried) (x .stand) (x .refuses) (x .answer) (x .stays))
     (turn-ends t)
 
 -- WHICH SHEETS ARE TRIED

@@ -49,7 +49,7 @@ since {p} (next {c = c} {r = r} l) (call h g) shape =
 call-accounted : (p : Part) (es : List SheetEntry) (o : Part) (c : Call) (r : CallResult) → Since p es o c r → CallAccounted p es o c r
 call-accounted p es o c r z = record { tried = call-tried o c r (z .promise); each = each }
   where
-    each : (ahead : List Try) (t : Try) (rest : List Try) → r .tries ≡ ahead ++ t ∷ rest → (n : ℕ) × Total (es ++ sheetEntries ahead) n × Accounted (left p n) t
+    each : (ahead : List Try) (t : Try) (rest : List Try) → r .tries ≡ ahead ++ t ∷ rest → (n : ℕ) × Total (es ++ sheetEntries ahead) n × (t .before .k ≡ p .k) × Accounted (left p n) t
     each ahead t rest e =
         let l = call-ahead o c r (z .promise) ahead t rest e in
         let all : Every Trying (ahead ++ t ∷ rest) = subst (Every Trying) e (call-tries o c r (z .promise)) in
@@ -57,7 +57,7 @@ call-accounted p es o c r z = record { tried = call-tried o c r (z .promise); ea
         let k = kept-trans (z .kept) (line-kept l before (z .kept .shaped)) in
         let g = grown-append (z .grown) (line-grown l before (z .kept .shaped)) in
         let f : t .before .capacity - t .before .used ≡ left p (g .sum) = omega (arith, g .count, k .same-capacity) in
-        (g .sum, g .total, subst (λ n. Accounted n t) f (try-accounted t (k .shaped) (every-head (every-right ahead (t ∷ rest) all))))
+        (g .sum, g .total, k .same-k, subst (λ n. Accounted n t) f (try-accounted t (k .shaped) (every-head (every-right ahead (t ∷ rest) all))))
 
 -- DEMAND 3
 pub counted : (p : Part) → Shaped p → (cs : List Call) (rs : List CallResult) → Chain p cs rs → Demand3 p cs rs

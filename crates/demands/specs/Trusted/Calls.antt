@@ -2,12 +2,12 @@
 -- 01, "Counting over a list of adds". Definitions only.
 use Prim.Native.Nat.{ℕ}
 use mathlib.Core.Path.{_≡_}
-use mathlib.Core.List.{List, [], _∷_, _++_}
+use mathlib.Core.List.{List, [], _∷_, _++_, map}
 use Rattle.lists.specs.Trusted.Lists.{gather}
 use Rattle.lists.specs.Trusted.Checked.{Checked, passed, refused as unread}
 use Rattle.cover.specs.Trusted.CoverTables.{Circuit}
 use Rattle.set_lengths.specs.Trusted.Lengths.{cut}
-use Rattle.part.specs.Trusted.Ways.{Way, reading}
+use Rattle.part.specs.Trusted.Ways.{Way, least, reading}
 use Rattle.part.specs.Trusted.Answers.{Answer, accepted, refused}
 use Rattle.part.specs.Trusted.Add.{Add}
 use Rattle.part.specs.Trusted.Tries.{Try, CallResult}
@@ -21,10 +21,10 @@ pub data Call : Type 0 where
   -- a set of sheets (02, #106)
   addSet : (lengths text : List ℕ) → Call
 
--- the texts of its sheets
-abbrev pub sheetsOf : Call → List (List ℕ)
-sheetsOf (add w text) = text ∷ []
-sheetsOf (addSet lengths text) = cut lengths text
+-- its sheets: the way of each, and its text
+abbrev pub sheetsOf : Call → List (Way × List ℕ)
+sheetsOf (add w text) = (w, text) ∷ []
+sheetsOf (addSet lengths text) = map (λ t. (least, t)) (cut lengths text)
 
 -- what an add on the part p gives: its one sheet was tried
 abbrev pub oneSheet : Way → List ℕ → Part → Part → Answer → CallResult

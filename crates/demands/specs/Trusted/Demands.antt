@@ -203,23 +203,23 @@ pub data OnEachOther : Part → List Try → Part → Type 0 where
   no-try : {p : Part} → OnEachOther p [] p
   next-try : {t : Try} {ts : List Try} {q : Part} → t .answer ≡ accepted → OnEachOther (t .after) ts q → OnEachOther (t .before) (t ∷ ts) q
 
-abbrev pub texts : List Try → List (List ℕ)
-texts = map (λ t. t .text)
+abbrev pub triedOf : Try → Way × List ℕ
+triedOf t = (t .way, t .text)
 
 -- which sheets of a call on the part o are tried: none, where a condition holds that is tested before any sheet; all, and the call is
 -- accepted; or those up to the first that is refused, and its answer is the call's
 pub data TriedSheets (o : Part) (c : Call) (r : CallResult) : Type 0 where
   before-any : (number : ℕ) → number ≢ 23 → r ≡ turnedAway o number → TriedSheets o c r
-  every : texts (r .tries) ≡ sheetsOf c → OnEachOther o (r .tries) (r .part) → r .answer ≡ accepted → TriedSheets o c r
-  up-to : (ahead : List Try) (t : Try) (rest : List (List ℕ)) (number place : ℕ) → r .tries ≡ ahead ++ t ∷ [] → sheetsOf c ≡ texts (r .tries) ++ rest →
+  every : map triedOf (r .tries) ≡ sheetsOf c → OnEachOther o (r .tries) (r .part) → r .answer ≡ accepted → TriedSheets o c r
+  up-to : (ahead : List Try) (t : Try) (rest : List (Way × List ℕ)) (number place : ℕ) → r .tries ≡ ahead ++ t ∷ [] → sheetsOf c ≡ map triedOf (r .tries) ++ rest →
       OnEachOther o ahead (t .before) → t .answer ≡ refused number place → r .answer ≡ t .answer → r .part ≡ o → TriedSheets o c r
 
--- a call on the part o, with the result r, after the sheets `es` were accepted from the part p on: "each counts as an add of its own on the
+-- a call on the part o, with the result r, after the sheets `es` were accepted from the part p on, whose K stays: "each counts as an add of its own on the
 -- part with those ahead of it added. For its number left, those ahead count as accepted even if the call is turned down."
 pub record CallAccounted (p : Part) (es : List SheetEntry) (o : Part) (c : Call) (r : CallResult) : Type 0 where
   pub tried : TriedSheets o c r
   pub each : (ahead : List Try) (t : Try) (rest : List Try) → r .tries ≡ ahead ++ t ∷ rest →
-      (n : ℕ) × Total (es ++ sheetEntries ahead) n × Accounted (left p n) t
+      (n : ℕ) × Total (es ++ sheetEntries ahead) n × (t .before .k ≡ p .k) × Accounted (left p n) t
 
 -- DEMAND 3, of the calls `cs` from the part p on, with the results `rs`
 pub record Demand3 (p : Part) (cs : List Call) (rs : List CallResult) : Type 0 where
