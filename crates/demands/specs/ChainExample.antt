@@ -161,6 +161,25 @@ set-refused : (ts : List Try) ×
 unfolding AddSet sound blanks
 set-refused = (_, InTurn.next add-1 (InTurn.stop driven-again))
 
+-- one table for both: none is left for the second sheet, and the part is unaltered
+abbrev small : Part
+small = (opened 4 1) .part
+
+abbrev filled : Part
+filled = extended small table-1
+
+fills : Add least small first-text filled accepted
+unfolding Add sound blanks
+fills = rw first-read (1, least-1, record { new = table-1; chosen = added-1; part = refl; answer = refl })
+
+none-left : Add least filled second-text filled (refused 23 0)
+unfolding Add sound blanks
+none-left = rw second-read (1, least-2, (refl, refl))
+
+set-too-large : (ts : List Try) × AddSet small (88 ∷ 38 ∷ []) (first-text ++ second-text) (record { part = small; answer = refused 23 0; position = 2; tries = ts })
+unfolding AddSet sound blanks
+set-too-large = (_, InTurn.next fills (InTurn.stop none-left))
+
 -- the second sheet's first byte with the first: bytes after its last line, so 1 there, at line 5
 one-byte-more : readOf (take 89 (first-text ++ second-text)) ≡ unread 1 5
 unfolding readOf _>>=_ require given

@@ -105,7 +105,7 @@ same-answers p f cs rs ts h g = answers-determined h g f f (alike-refl p) .0
 pub promises-possible : (p : Part) (cs : List Call) → (rs : List CallResult) × Chain p cs rs
 promises-possible = chain-possible
 
--- a further call goes on with a list: the adds of a set's sheets, one by one, are a list of calls with the same answers (02, #106: "as if
--- those before it had been added")
+-- the sheets of a set that were tried, each as an add of its own, are a list of calls with the same parts and answers (02, #106: "as if those
+-- before it had been added")
 pub set-adds : (p : Part) (lengths text : List ℕ) (r : CallResult) → AddSet p lengths text r → Chain p (map (λ t. add (t .way) (t .text)) (r .tries)) (map ownCall (r .tries))
 set-adds p lengths text r h = line-chain (call-line p (addSet lengths text) r h) (call-tries p (addSet lengths text) r h)
