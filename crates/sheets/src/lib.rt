@@ -73,8 +73,7 @@ pub fn add_sheets(opened: Part, input: &[u8], start: usize) -> End
             let part = added.part;
             return End { part, told, sheet };
         }
-        let drawn = next.sheet;
-        added = added.part.offer(drawn, &mut levels);
+        added = added.part.offer(next.sheet, &mut levels);
         let answer = added.answer;
         let told = tell_adding(answer);
         if told.number != 0 {

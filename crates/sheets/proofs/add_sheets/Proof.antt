@@ -30,11 +30,11 @@ sheet-offered c =
     let l = n .before .before in
     next-formed (l .before .before .args .input .now) (l .loop .added .part) (l .loop .at) (l .loop .inv .0 .sound) (l .loop .inv .0 .shaped) (omega arith) (n .read-next .result) (n .read-next .ensures) (c .enum-told .given .1)
 
-sheet-stepped : (c : tie.After-tell-adding Inv-loop μ-loop) → let o = c .before .before in let n = o .before .before .before .before .before in let l = n .before .before in
+sheet-stepped : (c : tie.After-tell-adding Inv-loop μ-loop) → let o = c .before .before in let n = o .before .before .before .before in let l = n .before .before in
     Stepped (l .before .before .args .input .now) (l .loop .added .part) (l .loop .at) (o .offer .result .part) (c .tell-adding .result) (n .read-next .result .end)
 sheet-stepped c =
     let o = c .before .before in
-    let t = o .before .before .before in
+    let t = o .before .before in
     let n = t .before .before in
     let l = n .before .before in
     stepped-offered (l .before .before .args .input .now) (l .loop .added .part) (l .loop .at) (l .loop .inv .0 .sound) (l .loop .inv .0 .shaped) (omega arith) (n .read-next .result) (n .read-next .ensures) (t .enum-told .given .1)
@@ -80,8 +80,8 @@ slice-aggregate-offer c = search needs
 
 offer-requires : tie.Need-offer-requires Inv-loop μ-loop
 offer-requires c κs =
-    let l = c .before .before .before .before .before .before .loop in
-    (l .inv .0 .sound, sheet-offered (c .before .before), l .inv .1)
+    let l = c .before .before .before .before .before .loop in
+    (l .inv .0 .sound, sheet-offered (c .before), l .inv .1)
 
 tell-adding-requires : tie.Need-tell-adding-requires Inv-loop μ-loop
 tell-adding-requires c κs = search needs
@@ -90,7 +90,7 @@ returns-2 : tie.Need-returns-2 Inv-loop μ-loop
 returns-2 c =
     let a = c .before .before .before in
     let o = a .before .before in
-    let n = o .before .before .before .before .before in
+    let n = o .before .before .before .before in
     let l = n .before .before in
     ended-stop (l .loop .inv .0) (o .offer .result .part) (a .tell-adding .result) (n .read-next .result .end) (omega arith) (sheet-stepped a) (c .before .if1 .taken)
 
@@ -98,7 +98,7 @@ loop-less : tie.Need-loop-less Inv-loop μ-loop
 loop-less c =
     let a = c .before .before in
     let o = a .before .before in
-    let n = o .before .before .before .before .before in
+    let n = o .before .before .before .before in
     let l = n .before .before in
     omega (arith, on-the-way (l .loop .inv .0) (o .offer .result .part) (a .tell-adding .result) (n .read-next .result .end) (omega arith) (sheet-stepped a) (c .if1 .left))
 
@@ -106,7 +106,7 @@ loop-again : tie.Need-loop-again Inv-loop μ-loop
 loop-again c =
     let a = c .before .before in
     let o = a .before .before in
-    let n = o .before .before .before .before .before in
+    let n = o .before .before .before .before in
     let l = n .before .before in
     (sheets-more (l .loop .inv .0) (o .offer .result .part) (a .tell-adding .result) (n .read-next .result .end) (omega arith) (sheet-stepped a) (c .if1 .left), o .offer .ensures .1)
 
