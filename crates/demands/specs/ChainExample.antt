@@ -4,7 +4,7 @@ use Prim.Native.Nat.{ℕ, _≤_}
 use native.Mathlib.Omega.{arith}
 use mathlib.Core.Path.{_≡_, refl}
 use mathlib.Core.Bool.{true, false}
-use mathlib.Core.List.{List, [], _∷_, _++_, map}
+use mathlib.Core.List.{List, [], _∷_, _++_, map, List·Memᴰ·head}
 use lib.ListN.{take, replicate}
 use Rattle.lists.specs.Trusted.Lists.{Every, here}
 use Rattle.lists.specs.ListLaws.{every-none, every-cons, permuted-refl}
@@ -16,21 +16,26 @@ use Rattle.cover.specs.Trusted.Cover.{Cover, net, top, end, old, Rooted, rooted
 use Rattle.cover.specs.Trusted.Tables.{LookupTable}
 use Rattle.cover.specs.Trusted.CoverTables.{Circuit, LeastCoverTables}
 use Rattle.sheet.specs.Checks.{bytes}
-use Rattle.part.specs.Trusted.Parts.{blanks}
+use Rattle.table.specs.ResultLaws.{says-true}
+use Rattle.part.specs.Trusted.Parts.{blanks, tablesOf}
+use Rattle.part.specs.Trusted.Sound.{Sound}
+use Rattle.part.specs.Trusted.Nets.{Driven}
+use Rattle.part.specs.SoundLaws.{sound-reflects}
+use Rattle.part.specs.OpenLaws.{opened-sound}
 use Rattle.part.specs.Trusted.SoundTest.{sound}
 use Rattle.part.specs.Trusted.Reading.{readOf}
 use Rattle.set_lengths.specs.Trusted.Lengths.{isWhole}
 use Rattle.part.specs.Trusted.Ways.{least}
 use Rattle.part.specs.Trusted.Answers.{accepted, refused}
 use Rattle.part.specs.Trusted.Tries.{Try, CallResult}
-use Rattle.part.specs.Trusted.Sets.{InTurn, turnedAway, AddSet}
+use Rattle.part.specs.Trusted.Sets.{member, InTurn, turnedAway, AddSet}
 use Rattle.part.specs.Trusted.Add.{opened, extended, Add}
-use Rattle.demands.specs.Trusted.Calls.{add, oneSheet, final, Chain, call}
+use Rattle.demands.specs.Trusted.Calls.{add, addSet, oneSheet, final, Chain, call}
 use Rattle.list_reading.specs.PartExamples.{part}
 use Rattle.part.specs.declared.Part.{Part}
 use Rattle.demands.specs.Trusted.Calls as calls
 use Rattle.demands.specs.Trusted.Demands as Demands
-use Rattle.demands.specs.Trusted.Demands.{Total, more}
+use Rattle.demands.specs.Trusted.Demands.{Total, more, out-driven, none-added, one-added, SetCondition, of-sheet, no-try, next-try, TriedSheets, up-to}
 
 -- net 20 = (1 or 2) and (3 or 4), and net 21 = not (20 and not 5)
 abbrev first : Circuit
@@ -160,6 +165,31 @@ set-refused : (ts : List Try) ×
     AddSet start (88 ∷ 88 ∷ 38 ∷ []) (first-text ++ first-text ++ second-text) (record { part = start; answer = refused 21 0; position = 2; tries = ts })
 unfolding AddSet sound blanks
 set-refused = (_, InTurn.next add-1 (InTurn.stop driven-again))
+
+-- the same by its condition, the first sheet being added ahead, and by what is tried, the third sheet not being looked at
+middle-sound : Sound middle
+unfolding sound blanks
+middle-sound = says-true (sound-reflects middle) refl
+
+middle-drives : Driven 20 (tablesOf middle)
+unfolding blanks
+middle-drives = (_, List·Memᴰ·head refl, refl)
+
+refused-condition : SetCondition start (88 ∷ 88 ∷ 38 ∷ []) (first-text ++ first-text ++ second-text) 21 0 2
+refused-condition =
+    of-sheet (opened-sound 4 8 refl) (record { some = omega arith; few = omega arith; add-up = refl }) (first-text ∷ []) first-text (second-text ∷ []) refl
+    middle (one-added add-1 none-added) 21 0 (out-driven first middle-sound first-read middle-drives)
+
+refused-tried : TriedSheets start (addSet (88 ∷ 88 ∷ 38 ∷ []) (first-text ++ first-text ++ second-text))
+    (record {
+      part = start;
+      answer = refused 21 0;
+      position = 2;
+      tries = member first-text start middle accepted ∷ member first-text middle middle (refused 21 0) ∷ [];
+    })
+refused-tried =
+    up-to (member first-text start middle accepted ∷ []) (member first-text middle middle (refused 21 0)) ((least, second-text) ∷ []) 21 0 refl refl
+    (next-try {t = member first-text start middle accepted} refl no-try) refl refl refl
 
 -- one table for both: none is left for the second sheet, and the part is unaltered
 abbrev small : Part

@@ -24,7 +24,7 @@ use Rattle.part.specs.Trusted.Add.{Add}
 use Rattle.part.specs.Trusted.AddAnswers.{addingAnswer}
 use Rattle.part.specs.Trusted.Tries.{Try, CallResult}
 use Rattle.part.specs.Trusted.Sets.{member, InTurn, all, next, stop, turnedAway, AddSet}
-use Rattle.part.specs.Trusted.SetAnswers.{setResult}
+use Rattle.part.specs.Trusted.SetAnswers.{setResult, Positioned}
 use Rattle.part.specs.AddLaws.{add-case, Kept, kept-trans, same-kept, kept}
 use Rattle.part.specs.declared.Part.{Part}
 use Rattle.part.specs.declared.Adding.{Adding}
@@ -52,8 +52,12 @@ refusal OutputRead d = (22, 0, refl)
 refusal Full d = (23, 0, refl)
 
 -- what the code hands back is what comes of the sheets from position i on, the first on the part p, for some sheets that were tried
-abbrev pub Turns : (o : Part) (i : ℕ) (texts : List (List ℕ)) (p : Part) → SetAdded → Type 0
+abbrev Turns : (o : Part) (i : ℕ) (texts : List (List ℕ)) (p : Part) → SetAdded → Type 0
 Turns o i texts p r = (ts : List Try) × InTurn o i texts p (setResult r ts)
+
+-- what it hands back at the end
+abbrev pub SetEnded : (o : Part) (lengths text : List ℕ) → SetAdded → Type 0
+SetEnded o lengths text r = (ts : List Try) × InTurn o 1 (cut lengths text) o (setResult r ts) × Positioned (r .answer)
 
 -- the first i sheets were added, up to the place of the text: what comes of the rest is what comes of all
 pub record SetSoFar (o : Part) (lengths text : List ℕ) (p : Part) (i at : ℕ) : Type 0 where
@@ -66,8 +70,8 @@ pub set-start : (o : Part) (lengths text : List ℕ) → Shaped o → Sound o �
 set-start o lengths text shape s w = record { shaped = shape; sound = s; left = omega (arith, w .add-up); whole = λ r t. t }
 
 module _ {o : Part} {lengths text : List ℕ} {p : Part} {i at : ℕ} (h : SetSoFar o lengths text p i at) where
-  pub set-all : length lengths ≤ i → Turns o 1 (cut lengths text) o (record { part = p; answer = Accepted })
-  set-all l = h .whole (record { part = p; answer = Accepted }) ([], rw (drop-past i lengths l) all)
+  pub set-all : length lengths ≤ i → SetEnded o lengths text (record { part = p; answer = Accepted })
+  set-all l = let t = h .whole (record { part = p; answer = Accepted }) ([], rw (drop-past i lengths l) all) in (t .0, t .1, tt)
 
   module _ (l : i < length lengths) where
     pub set-room : at + getD lengths i 0 ≤ length text
@@ -77,11 +81,12 @@ module _ {o : Part} {lengths text : List ℕ} {p : Part} {i at : ℕ} (h : SetSo
     sheet = take (getD lengths i 0) (drop at text)
 
     module _ (q : Part) (a : Adding) (g : Add least p sheet q (addingAnswer a)) where
-      pub set-stop : (a ≡ Added → ⊥) → Turns o 1 (cut lengths text) o (record { part = o; answer = SheetRefused a (i + 1) })
+      pub set-stop : (a ≡ Added → ⊥) → SetEnded o lengths text (record { part = o; answer = SheetRefused a (i + 1) })
       set-stop d =
           let (number, place, e) = refusal a d in
-          h .whole (record { part = o; answer = SheetRefused a (i + 1) })
-          (member sheet p q (refused number place) ∷ [], rw (cut-next lengths i l text at, e) (stop (subst (Add least p sheet q) e g)))
+          let t = h .whole (record { part = o; answer = SheetRefused a (i + 1) })
+          (member sheet p q (refused number place) ∷ [], rw (cut-next lengths i l text at, e) (stop (subst (Add least p sheet q) e g))) in
+          (t .0, t .1, omega arith)
 
       pub set-more : a ≡ Added → SetSoFar o lengths text q (i + 1) (at + getD lengths i 0)
       set-more e =

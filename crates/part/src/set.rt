@@ -8,7 +8,7 @@ ghost use Rattle.part.specs.Trusted.Parts.{tablesOf};
 ghost use Rattle.part.specs.Trusted.Sound.{Sound};
 ghost use Rattle.part.specs.Trusted.Tries.{Try};
 ghost use Rattle.part.specs.Trusted.Sets.{InTurn, AddSet};
-ghost use Rattle.part.specs.Trusted.SetAnswers.{setResult};
+ghost use Rattle.part.specs.Trusted.SetAnswers.{setResult, Positioned};
 use crate::Added;
 use crate::Adding;
 use crate::Part;
@@ -28,7 +28,7 @@ impl Part {
     // codes.
     fn take_each(self, text: &[u8], lengths: &[u32], levels: &mut [u16]) -> SetAdded
         requires { ⌜ Sound self × LevelsStand (now levels) (tablesOf self) × Whole (now lengths) (length (now text)) ⌝ }
-        ensures { λ r. ⌜ ((ts : List Try) × InTurn self 1 (cut (now (lengths .entry)) (now (text .entry))) self (setResult r ts)) ⌝ }
+        ensures { λ r. ⌜ ((ts : List Try) × InTurn self 1 (cut (now (lengths .entry)) (now (text .entry))) self (setResult r ts) × Positioned (r .answer)) ⌝ }
     {
         let mut added = Added {
             part: self,
@@ -53,7 +53,7 @@ impl Part {
     // Adds the sheets of a set, all or none: their text one after the other, with the length of each. The conditions that refuse it are
     // tested in 02's order: 20, 33, then each sheet's on the part with those before it.
     pub fn add_set(self, text: &[u8], lengths: &[u32]) -> SetAdded
-        ensures { λ r. ⌜ ((ts : List Try) × AddSet self (now (lengths .entry)) (now (text .entry)) (setResult r ts)) ⌝ }
+        ensures { λ r. ⌜ ((ts : List Try) × AddSet self (now (lengths .entry)) (now (text .entry)) (setResult r ts) × Positioned (r .answer)) ⌝ }
     {
         let tables = self.tables;
         let mut levels = [0u16; CODE_ROOM];

@@ -13,7 +13,7 @@ use Rattle.part.specs.Trusted.SoundTest.{sound}
 use Rattle.part.specs.SoundLaws.{sound-reflects}
 use Rattle.part.specs.Trusted.Tries.{Try}
 use Rattle.part.specs.Trusted.Sets.{AddSet}
-use Rattle.part.specs.Trusted.SetAnswers.{setResult}
+use Rattle.part.specs.Trusted.SetAnswers.{setResult, Positioned}
 use Rattle.part.specs.SetLaws.{set-unsound, set-unfit, set-fit}
 use Rattle.part.specs.declared.Part.{Part}
 use Rattle.part.specs.declared.SetAdded.{SetAdded}
@@ -31,7 +31,7 @@ set-whole c = sym (c .before .before .whole .ensures) ∙ not-false _ (c .if2 .l
 
 -- what is handed back keeps the promise, for some tries
 abbrev Added : Part → (lengths text : List ℕ) → SetAdded → Type 0
-Added p lengths text r = (ts : List Try) × AddSet p lengths text (setResult r ts)
+Added p lengths text r = (ts : List Try) × AddSet p lengths text (setResult r ts) × Positioned (r .answer)
 
 -- ---- the needs
 
@@ -54,7 +54,7 @@ returns c =
     let d = c .before .before .before .before in
     let a = d .before .before .before .before .before .args in
     subst (Added (a .self) (a .lengths .now) (a .text .now)) (sym (c .with-answer .ensures))
-    ([], set-unsound (a .self) (a .lengths .now) (a .text .now) (sym (d .sound .ensures .0) ∙ not-true _ (c .before .if1 .taken)))
+    ([], set-unsound (a .self) (a .lengths .now) (a .text .now) (sym (d .sound .ensures .0) ∙ not-true _ (c .before .if1 .taken)), tt)
 
 with-answer-requires-2 : tie.Need-with-answer-requires-2
 with-answer-requires-2 c κs = search needs
@@ -64,7 +64,7 @@ returns-2 c =
     let e = c .before .before in
     let a = e .before .before .before .before .before .before .before .before .args in
     subst (Added (a .self) (a .lengths .now) (a .text .now)) (sym (c .with-answer2 .ensures))
-    ([], set-unfit (a .self) (a .lengths .now) (a .text .now) (self-sound e) (sym (e .before .whole .ensures) ∙ not-true _ (c .before .if2 .taken)))
+    ([], set-unfit (a .self) (a .lengths .now) (a .text .now) (self-sound e) (sym (e .before .whole .ensures) ∙ not-true _ (c .before .if2 .taken)), tt)
 
 slice-aggregate-take-each : tie.Need-slice-aggregate-take-each
 slice-aggregate-take-each c = search needs
@@ -84,7 +84,7 @@ returns-3 c =
     let t = c .before .take-each in
     let w = c .before .before .before in
     let a = w .before .before .before .before .before .before .before .before .before .args in
-    (t .ensures .0, set-fit (a .self) (a .lengths .now) (a .text .now) (self-sound (w .before)) (set-whole w) _ (t .ensures .1))
+    (t .ensures .0, set-fit (a .self) (a .lengths .now) (a .text .now) (self-sound (w .before)) (set-whole w) _ (t .ensures .1), t .ensures .2)
 
 pub add-set-spec : {M : Type 1} → statement M
 add-set-spec = tie.close (tie.spec slice-aggregate-sound sound-requires whole-requires with-answer-requires returns with-answer-requires-2 returns-2 slice-aggregate-take-each take-each-requires returns-3)

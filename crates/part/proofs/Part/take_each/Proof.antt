@@ -7,12 +7,11 @@ use types.Run.{miss}
 use borrow.Author.Needs.{needs}
 use lib.ListN.{length, getD, take, drop}
 use Rattle.table.specs.LevelTest.{LevelsStand}
-use Rattle.set_lengths.specs.Trusted.Lengths.{cut}
 use Rattle.part.specs.Trusted.Parts.{tablesOf}
 use Rattle.part.specs.Trusted.Ways.{least}
 use Rattle.part.specs.Trusted.Add.{Add}
 use Rattle.part.specs.Trusted.AddAnswers.{addingAnswer}
-use Rattle.part.specs.SetLaws.{Turns, SetSoFar, set-start, set-room, set-stop, set-more, set-all}
+use Rattle.part.specs.SetLaws.{SetEnded, SetSoFar, set-start, set-room, set-stop, set-more, set-all}
 use Rattle.part.proofs.Shape.{shaped}
 use Rattle.part.proofs.Part.take_each.Statement.{statement}
 use Rattle.part.proofs.Part.take_each.Tie as tie
@@ -82,7 +81,7 @@ returns c =
     let t = m .before .before .before in
     let l = t .before .before .before .before .before .loop in
     let a = t .before .before .before .before .before .before .before .before .before .args in
-    subst (Turns (a .self) 1 (cut (a .lengths .now) (a .text .now)) (a .self)) (sym (c .with-answer .ensures))
+    subst (SetEnded (a .self) (a .lengths .now) (a .text .now)) (sym (c .with-answer .ensures))
     (set-stop (l .inv .0) (omega arith) (t .take .result .part) (t .take .result .answer) (sheet-added t) (λ e. miss (1 ∷ 2 ∷ 3 ∷ 4 ∷ 5 ∷ []) 0 tt (rw e at (m .match .keys2))))
 
 add-i : tie.Need-add-i Inv-loop μ-loop
@@ -108,7 +107,7 @@ returns-2 : tie.Need-returns-2 Inv-loop μ-loop
 returns-2 c =
     let l = c .before .before .loop in
     let a = c .before .before .before .before .before .before .args in
-    subst (Turns (a .self) 1 (cut (a .lengths .now) (a .text .now)) (a .self)) (sym (c .with-answer2 .ensures)) (set-all (l .inv .0) (omega arith))
+    subst (SetEnded (a .self) (a .lengths .now) (a .text .now)) (sym (c .with-answer2 .ensures)) (set-all (l .inv .0) (omega arith))
 
 pub take-each-spec : {M : Type 1} → statement M
 take-each-spec =
