@@ -60,10 +60,10 @@ pub struct Adding<F> {
 }
 
 impl<F: FnMut(&Sheet, usize) -> usize> Adding<F> {
-    /// The part, sound, with no sheet added.
-    pub fn to(part: Part, tables: F) -> Adding<F> {
+    /// The part, sound, with no sheet added; the sheets find `left` tables.
+    pub fn to(part: Part, left: usize, tables: F) -> Adding<F> {
         let Part { k, capacity, tables: old } = part;
-        let (nets, left) = (Nets::of(&old), capacity - old.len());
+        let nets = Nets::of(&old);
         Adding { accepted: Accepted { k, capacity, old, sheets: Vec::new(), joined: Vec::new(), least: Vec::new() }, nets, left, tables }
     }
 

@@ -6,6 +6,8 @@
 
 pub mod adding;
 pub mod blif;
+pub mod call_cases;
+pub mod call_check;
 pub mod check;
 pub mod cover;
 pub mod dot;
@@ -26,6 +28,7 @@ pub mod one_more;
 pub mod part;
 pub mod program;
 pub mod refusal;
+pub mod reservation;
 pub mod rng;
 pub mod samples;
 pub mod set;

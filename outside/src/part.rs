@@ -43,6 +43,22 @@ impl Table {
 }
 
 impl Part {
+    /// The tables that are not used.
+    pub fn left(&self) -> usize {
+        self.capacity - self.tables.len()
+    }
+
+    /// The nets that tables drive.
+    pub fn driven(&self) -> Vec<u16> {
+        self.tables.iter().map(|table| table.net).filter(|&net| net != 0).collect()
+    }
+
+    /// The nets that tables read.
+    pub fn read(&self) -> Vec<u16> {
+        let inputs = self.tables.iter().flat_map(|table| &table.inputs);
+        inputs.copied().filter(|&input| i64::from(input) <= NETS).collect()
+    }
+
     /// The list.
     pub fn list(&self) -> String {
         let mut list = String::new();

@@ -38,7 +38,8 @@ pub fn map(input: &[u8]) -> Result<Part, Refusal> {
 /// Reads an input sheet by sheet; `tables` gives how many tables a joined sheet takes at K.
 fn walk(input: &[u8], tables: impl FnMut(&Sheet, usize) -> usize) -> Result<Accepted, Refusal> {
     let (part, mut rest) = open(input).map_err(|number| Refusal::new(number, 0, 0))?;
-    let mut adding = Adding::to(part, tables);
+    let left = part.left();
+    let mut adding = Adding::to(part, left, tables);
     while !rest.is_empty() {
         let sheet = adding.accepted.sheets.len() + 1;
         let (read, after) = read_next(rest).map_err(|fault| Refusal::new(fault.number, sheet, fault.line))?;

@@ -1,6 +1,6 @@
 //! Refusals, by 01's numbers.
 
-/// What is turned down: 01's number, the sheet, from 1 (0 for an opening line, a list or a whole set), and the place.
+/// What is turned down: 01's number, the sheet, from 1 (0 for an opening line, a list, a whole set or a call of one sheet), and the place.
 #[derive(Clone, Copy, Debug, PartialEq, Eq)]
 pub struct Refusal {
     pub number: u32,

@@ -15,20 +15,26 @@ const NO_SET: Refusal = Refusal { number: 33, sheet: 0, place: 0 };
 
 /// The set's sheets with their least numbers, or the first refusal; `lengths` has the bytes of each sheet in `text`. The part is sound.
 pub fn read_set(part: &Part, text: &[u8], lengths: &[u32]) -> Result<Accepted, Refusal> {
-    walk(part, text, lengths, least)
+    walk(part, part.left(), text, lengths, least)
 }
 
 /// The part with a least cover of each sheet after its tables.
 pub fn add_set(part: &Part, text: &[u8], lengths: &[u32]) -> Result<Part, Refusal> {
     let mut tables = part.tables.clone();
-    walk(part, text, lengths, |sheet, k| cover::add(sheet, k, &mut tables))?;
+    walk(part, part.left(), text, lengths, |sheet, k| cover::add(sheet, k, &mut tables))?;
     Ok(Part { tables, ..*part })
 }
 
-/// Takes a set sheet by sheet; `tables` gives how many tables a joined sheet takes at K.
-fn walk(part: &Part, text: &[u8], lengths: &[u32], tables: impl FnMut(&Sheet, usize) -> usize) -> Result<Accepted, Refusal> {
+/// Takes a set sheet by sheet, on a part of which the sheets find `left` tables; `tables` gives how many a joined sheet takes at K.
+pub fn walk(
+    part: &Part,
+    left: usize,
+    text: &[u8],
+    lengths: &[u32],
+    tables: impl FnMut(&Sheet, usize) -> usize,
+) -> Result<Accepted, Refusal> {
     let texts = cut(text, lengths).ok_or(NO_SET)?;
-    let mut adding = Adding::to(part.clone(), tables);
+    let mut adding = Adding::to(part.clone(), left, tables);
     for (position, text) in (1..).zip(texts) {
         let sheet = read_only(text).map_err(|fault| Refusal::new(fault.number, position, fault.line))?;
         adding.add(sheet).map_err(|number| Refusal::new(number, position, 0))?;

@@ -116,20 +116,9 @@ impl Draft {
         self.part.tables.len() + self.sheets[..count].iter().map(|sheet| generate::tables(sheet, self.part.k)).sum::<usize>()
     }
 
-    /// The nets that the part drives.
-    fn driven(&self) -> Vec<u16> {
-        self.part.tables.iter().map(|table| table.net).filter(|&net| net != 0).collect()
-    }
-
-    /// The nets that the part reads.
-    fn read(&self) -> Vec<u16> {
-        let inputs = self.part.tables.iter().flat_map(|table| &table.inputs);
-        inputs.copied().filter(|&input| i64::from(input) <= NETS).collect()
-    }
-
     /// Whether no sheet drives a net that the part, or a sheet before it, drives or reads.
     fn nets_fit(&self) -> bool {
-        let (mut driven, mut read) = (self.driven(), self.read());
+        let (mut driven, mut read) = (self.part.driven(), self.part.read());
         self.sheets.iter().all(|sheet| {
             let free = !driven.contains(&sheet.net) && !read.contains(&sheet.net);
             driven.push(sheet.net);
@@ -161,23 +150,40 @@ impl Draft {
 
     /// Sheet `at` drives this net, if none of its leaves is that.
     fn drives(mut self, at: usize, net: u16) -> Option<Draft> {
-        self.sheets[at].net = net;
-        (!self.sheets[at].leaves().contains(&net)).then_some(self)
+        self.sheets[at] = driving(self.sheets[at].clone(), net)?;
+        Some(self)
     }
 
     /// Sheet `at` reads this net at one of its leaves, if at none before.
     fn reads(mut self, at: usize, net: u16) -> Option<Draft> {
-        if self.sheets[at].leaves().contains(&net) {
-            return None;
-        }
-        let leaf = self.sheets[at].gates.iter_mut().flat_map(|gate| &mut gate.fanins).find(|edge| matches!(edge.source, Source::Net(_)))?;
-        leaf.source = Source::Net(net);
+        self.sheets[at] = reading(self.sheets[at].clone(), net)?;
         Some(self)
     }
 }
 
+/// The sheet with this output net, if none of its leaves is that.
+pub(crate) fn driving(sheet: Sheet, net: u16) -> Option<Sheet> {
+    (!sheet.leaves().contains(&net)).then_some(Sheet { net, ..sheet })
+}
+
+/// The sheet with this net at one of its leaves, if at none before.
+pub(crate) fn reading(mut sheet: Sheet, net: u16) -> Option<Sheet> {
+    if sheet.leaves().contains(&net) {
+        return None;
+    }
+    let leaf = sheet.gates.iter_mut().flat_map(|gate| &mut gate.fanins).find(|edge| matches!(edge.source, Source::Net(_)))?;
+    leaf.source = Source::Net(net);
+    Some(sheet)
+}
+
 fn with_texts(case: Case, texts: &[Vec<u8>]) -> Case {
-    Case { text: texts.concat(), lengths: texts.iter().map(|text| text.len() as u32).collect(), ..case }
+    let (text, lengths) = one_text(texts);
+    Case { text, lengths, ..case }
+}
+
+/// The text of a set of these sheets, and their lengths.
+pub(crate) fn one_text(texts: &[Vec<u8>]) -> (Vec<u8>, Vec<u32>) {
+    (texts.concat(), texts.iter().map(|text| text.len() as u32).collect())
 }
 
 /// A draft of `least` to `most` sheets; one in eight has the most.
@@ -217,7 +223,7 @@ fn reads_before(rng: &mut Rng) -> Option<Case> {
 fn reads_old(rng: &mut Rng) -> Option<Case> {
     let draft = some(rng, 1, SHEETS)?;
     let at = rng.below(draft.sheets.len());
-    let net = one_of(rng, &draft.driven())?;
+    let net = one_of(rng, &draft.part.driven())?;
     draft.reads(at, net)?.case()
 }
 
@@ -332,14 +338,14 @@ fn byte_less(rng: &mut Rng) -> Option<Case> {
 }
 
 /// A sheet's text that is refused, with the number and the line.
-struct Bad {
-    text: Vec<u8>,
-    number: u32,
-    line: usize,
+pub(crate) struct Bad {
+    pub text: Vec<u8>,
+    pub number: u32,
+    pub line: usize,
 }
 
 /// A good sheet with one fault put in.
-fn fault(rng: &mut Rng, sheet: &Sheet) -> Bad {
+pub(crate) fn fault(rng: &mut Rng, sheet: &Sheet) -> Bad {
     if rng.once_in(3) {
         fault_in_text(rng, sheet)
     } else {
@@ -417,7 +423,7 @@ fn fault_in_sheet(rng: &mut Rng, mut sheet: Sheet) -> Bad {
 }
 
 /// The first of a thousand nets without this one.
-fn apart(net: u16) -> u16 {
+pub(crate) fn apart(net: u16) -> u16 {
     if net > 5000 {
         1
     } else {
@@ -453,7 +459,7 @@ fn two_faults(rng: &mut Rng) -> Option<Case> {
 fn net_before(rng: &mut Rng, nets: fn(&Sheet) -> Vec<u16>) -> Option<Case> {
     let (draft, first, second) = two_of(rng)?;
     let net = *rng.pick(&nets(&draft.sheets[first]));
-    let driven = draft.driven().contains(&net) || draft.sheets[..second].iter().any(|sheet| sheet.net == net);
+    let driven = draft.part.driven().contains(&net) || draft.sheets[..second].iter().any(|sheet| sheet.net == net);
     draft.drives(second, net)?.refused(if driven { 21 } else { 22 }, second + 1, 0)
 }
 
@@ -467,14 +473,14 @@ fn driven_and_read(rng: &mut Rng) -> Option<Case> {
 
 fn net_driven_by_list(rng: &mut Rng) -> Option<Case> {
     let draft = some(rng, 1, SHEETS)?;
-    let nets = draft.driven();
+    let nets = draft.part.driven();
     drives_one_of(rng, draft, &nets, 21)
 }
 
 fn net_read_by_list(rng: &mut Rng) -> Option<Case> {
     let draft = some(rng, 1, SHEETS)?;
-    let driven = draft.driven();
-    let nets: Vec<u16> = draft.read().into_iter().filter(|net| !driven.contains(net)).collect();
+    let driven = draft.part.driven();
+    let nets: Vec<u16> = draft.part.read().into_iter().filter(|net| !driven.contains(net)).collect();
     drives_one_of(rng, draft, &nets, 22)
 }
 

@@ -1,6 +1,7 @@
-//! Tests on generated sets of what adds a set of sheets to a list, as the archive does.
+//! Tests on generated sets of what adds a set of sheets to a list, as the archive does; and of all that writes a list into an output.
 
 use std::collections::BTreeSet;
+use std::fmt::Debug;
 
 use crate::adding::Accepted;
 use crate::check::check_accepted;
@@ -25,22 +26,32 @@ const UNTOUCHED: u8 = 0x5a;
 pub type Add = dyn Fn(&[u8], &[u8], &[u32], &mut [u8]) -> Result<usize, Refusal>;
 
 /// The part whose list the text is; a refusal's place is the list's line.
-fn part_of(text: &[u8]) -> Result<Part, Refusal> {
+pub fn part_of(text: &[u8]) -> Result<Part, Refusal> {
     list::read(text).map_err(|fault| Refusal::new(fault.kind.number(), 0, fault.line))
 }
 
-/// The same by the independent implementation.
+/// Writes the part's list to the output's front, and gives its count of bytes.
+pub fn write_list(part: &Part, output: &mut [u8]) -> Result<usize, Refusal> {
+    let list = part.list();
+    output.get_mut(..list.len()).ok_or(NO_ROOM)?.copy_from_slice(list.as_bytes());
+    Ok(list.len())
+}
+
+/// The same as an `Add` by the independent implementation.
 pub fn add_to_list(list: &[u8], text: &[u8], lengths: &[u32], output: &mut [u8]) -> Result<usize, Refusal> {
-    let new = add_set(&part_of(list)?, text, lengths)?.list();
-    output.get_mut(..new.len()).ok_or(NO_ROOM)?.copy_from_slice(new.as_bytes());
-    Ok(new.len())
+    write_list(&add_set(&part_of(list)?, text, lengths)?, output)
 }
 
 /// The same by the archive.
 #[cfg(feature = "linked")]
 pub fn linked(list: &[u8], text: &[u8], lengths: &[u32], output: &mut [u8]) -> Result<usize, Refusal> {
-    let refusal = |refused: crate::linked::SetRefused| Refusal::new(refused.number, refused.position as usize, refused.place as usize);
-    crate::linked::add_set(list, text, lengths, output).map(<[u8]>::len).map_err(refusal)
+    crate::linked::add_set(list, text, lengths, output).map(<[u8]>::len).map_err(refusal_of)
+}
+
+/// A refusal of the archive.
+#[cfg(feature = "linked")]
+pub fn refusal_of(refused: crate::linked::CallRefused) -> Refusal {
+    Refusal::new(refused.number, refused.position as usize, refused.place as usize)
 }
 
 /// What the case's set is to its list, by the independent implementation.
@@ -55,34 +66,48 @@ pub fn check_add(add: &Add, case: &Case, answer: &Result<Accepted, Refusal>, out
     if let Some(wanted) = case.wanted.filter(|&wanted| wanted != own) {
         return Err(format!("our own answer is {own:?} where {wanted:?} is right"));
     }
+    let added = answer.as_ref().map_err(|&refusal| refusal);
+    let call = |output: &mut [u8]| add(&case.list, &case.text, &case.lengths, output).map(|count| (count, ()));
+    check_rooms(&call, case.list.len(), added.map(|added| (Some(added), ())), output)?;
+    Ok(())
+}
+
+/// What writes a list to the front of an output, or none: it gives the count of bytes, and what else it hands back.
+pub type Write<'a, T> = dyn Fn(&mut [u8]) -> Result<(usize, T), Refusal> + 'a;
+
+/// Tests a call with room for the longest list, for just the one that it writes, for one byte less and for none, where `right` is the answer
+/// with room enough: the sheets whose tables its list has after those of one of `old` bytes, where it writes one, and what else it hands
+/// back. Nothing else is altered. It gives the list that is written with the most room.
+pub fn check_rooms<T: Copy + Debug + PartialEq>(
+    call: &Write<T>,
+    old: usize,
+    right: Result<(Option<&Accepted>, T), Refusal>,
+    output: &mut [u8],
+) -> Result<Vec<u8>, String> {
+    let added = right.map_or(None, |(added, _)| added);
+    let count = added.map_or(0, |added| old + new_bytes(added));
+    let mut list = Vec::new();
     output.fill(UNTOUCHED);
-    let count = answer.as_ref().map_or(0, |accepted| case.list.len() + new_bytes(accepted));
     for length in BTreeSet::from([0, count.saturating_sub(1), count, output.len()]) {
         let fault = |fault: String| format!("with room for {length} bytes: {fault}");
-        let written = add_into(add, case, answer, count, &mut output[..length]).map_err(fault)?;
+        let given = call(&mut output[..length]);
+        let wanted = right.and_then(|(_, other)| if length < count { Err(NO_ROOM) } else { Ok((count, other)) });
+        if given != wanted {
+            return Err(fault(format!("{given:?} where {wanted:?} is right")));
+        }
+        let written = given.map_or(0, |(count, _)| count);
+        list = output[..written].to_vec();
         output[..written].fill(UNTOUCHED);
-        if output.iter().any(|&byte| byte != UNTOUCHED) {
+        if output.iter().fold(0, |altered, byte| altered | (byte ^ UNTOUCHED)) != 0 {
             return Err(fault("what it should not alter is altered".into()));
         }
+        added.filter(|_| written > 0).map_or(Ok(()), |added| check_accepted(added, &list)).map_err(fault)?;
     }
-    Ok(())
+    Ok(list)
 }
 
 /// The bytes of the new tables' lines: each leaf, and each table but the root's, is an input once, whichever cover is taken.
 fn new_bytes(accepted: &Accepted) -> usize {
     let sheets = accepted.sheets.iter().zip(&accepted.least);
     sheets.map(|(sheet, least)| 40 * least + 6 * (sheet.leaves().len() + least - 1)).sum()
-}
-
-/// One call: how many bytes it writes, all of the `count` that the list has, or none. Its answer and the list are tested.
-fn add_into(add: &Add, case: &Case, answer: &Result<Accepted, Refusal>, count: usize, output: &mut [u8]) -> Result<usize, String> {
-    let given = add(&case.list, &case.text, &case.lengths, output);
-    let accepted = answer.as_ref().map_err(|&refusal| refusal);
-    let wanted = accepted.and_then(|accepted| if output.len() < count { Err(NO_ROOM) } else { Ok(accepted) });
-    if given != wanted.map(|_| count) {
-        return Err(format!("{given:?} where {:?} is right", wanted.map(|_| count)));
-    }
-    let Ok(accepted) = wanted else { return Ok(0) };
-    check_accepted(accepted, &output[..count])?;
-    Ok(count)
 }

@@ -1,5 +1,6 @@
-//! What the tools share: reading standard input, options of a run of cases, failing cases, and how they end.
+//! What the tools share: reading standard input, options of a run of cases, failing cases, what occurred, and how they end.
 
+use std::collections::BTreeMap;
 use std::io::{Read, Write};
 use std::process::ExitCode;
 
@@ -79,6 +80,44 @@ impl Failures<'_> {
             write_file(&format!("{save}/case-{seed}-{index}"), text)?;
         }
         Ok(self.count < 10)
+    }
+}
+
+/// How often each kind of case and each outcome occurred in a run: a refusal by its number, 0 for what is accepted.
+pub struct Tally {
+    kinds: BTreeMap<&'static str, usize>,
+    outcomes: BTreeMap<u32, usize>,
+}
+
+impl Tally {
+    /// None so far; each of these is to occur.
+    pub fn of(kinds: impl IntoIterator<Item = &'static str>, outcomes: impl IntoIterator<Item = u32>) -> Tally {
+        Tally {
+            kinds: kinds.into_iter().map(|kind| (kind, 0)).collect(),
+            outcomes: outcomes.into_iter().map(|number| (number, 0)).collect(),
+        }
+    }
+
+    pub fn add(&mut self, kind: &'static str, outcome: u32) {
+        *self.kinds.entry(kind).or_default() += 1;
+        *self.outcomes.entry(outcome).or_default() += 1;
+    }
+
+    /// Prints all of them, and gives how many cases failed; a run in which something did not occur is no good one.
+    pub fn finish(&self, failures: &Failures, cases: &str) -> Result<usize, String> {
+        for (kind, count) in &self.kinds {
+            println!("{count:>8} {kind}");
+        }
+        for (number, count) in &self.outcomes {
+            let outcome = if *number == 0 { "accepted".into() } else { format!("refusal {number}") };
+            println!("{count:>8} {outcome}");
+        }
+        let count: usize = self.kinds.values().sum();
+        println!("seed {}: {count} {cases}, {} failed", failures.options.seed, failures.count);
+        if failures.count == 0 && self.kinds.values().chain(self.outcomes.values()).any(|&count| count == 0) {
+            return Err("a kind of cases or an outcome that did not occur".into());
+        }
+        Ok(failures.count)
     }
 }
 

@@ -1,16 +1,18 @@
 """The expected output of the program part_test: the user's scope paper (01), sections "Part", "List" and the tables of refusals, with the
-nets and codes of request 102, the levels of request 103, the joins of request 104 and the sets of request 106, written down once more from
-the papers alone, with nothing shared with crates/. CASES.md has the answers worked out by hand.
+nets and codes of request 102, the levels of request 103, the joins of request 104, the sets of request 106 and the reservations of request
+109 (there holds), written down once more from the papers alone, with nothing shared with crates/. CASES.md has the answers worked out by
+hand.
 
-An add reads its sheet by tests/sheet/model.py, joins its gates by tests/cover/join.py, and has its least number of tables from
-tests/cover/exhaustive.py and their groups, where 01 settles them, from tests/cover/settled.py.
+A sheet is read by tests/sheet/model.py, its gates are joined by tests/cover/join.py, and its least number of tables comes from
+tests/cover/exhaustive.py; the groups of the tables that are taken, where 01 settles them, come from tests/cover/settled.py.
 
 Run: python3 tests/part/model.py < crates/part_test/stdin > crates/part_test/stdout
      python3 tests/part/model.py --answers < crates/part_test/stdin    (line and answer of each step that CASES.md has)
-     python3 tests/part/model.py --lists < crates/part_test/stdin      (the list after each accepted add or set, of a long one some lines)
+     python3 tests/part/model.py --lists < crates/part_test/stdin      (each list that a call changed, of a long one some lines)
 """
 
 import copy
+import functools
 import importlib.util
 import itertools
 import pathlib
@@ -44,11 +46,20 @@ class Record:
 
 
 class Part:
-    """01, "Part": K, capacity, used count, and a record for each of the 800 tables that a part may have."""
+    """01, "Part": K, capacity, used count, and a record for each of the 800 tables that a part may have; request 109: the number of tables
+    set aside and the output net, "both zero when nothing is held"."""
 
     def __init__(self, k=0, capacity=0):
         self.k, self.capacity, self.used = k, capacity, 0
+        self.reserved, self.reserved_net = 0, 0
         self.records = [Record() for _ in range(RECORDS)]
+
+    def reservation(self):
+        return self.reserved, self.reserved_net
+
+    def left(self):
+        """The number left for an add: "what is neither used nor set aside"."""
+        return self.capacity - self.used - self.reserved
 
 
 def is_net(code):
@@ -70,13 +81,25 @@ def opened(k, capacity):
 
 
 def sound(part):
-    """01, "A part is sound when": the first of the five points here, and the records past the used count."""
+    """01, "A part is sound when": the first of the five points here, and the records past the used count; and request 109's points."""
     if not (2 <= part.k <= 6 and 1 <= part.capacity <= 800 and part.used <= part.capacity):
+        return False
+    if not sound_reservation(part):
         return False
     for record in part.records[part.used :]:
         if record.net or record.u or any(record.inputs) or record.truth or record.level:
             return False
     return sound_tables(part.records[: part.used], part.k)
+
+
+def sound_reservation(part):
+    """Request 109: not "if the number set aside is above capacity minus used, if just one of the two is zero, or if the held net is out of
+    range"."""
+    if part.reserved > part.capacity - part.used:
+        return False
+    if (part.reserved == 0) != (part.reserved_net == 0):
+        return False
+    return part.reserved_net <= SHEET.NETS
 
 
 def sound_tables(tables, k):
@@ -253,30 +276,95 @@ def values_as_drawn(lines, records, used):
     return all(drawn_value(lines, values) == mapped_value(records, used, values) for values in given)
 
 
-def add(part, text):
-    """01, "Turned down because of the part": 20, then the sheet's, then 21 to 23. The answer and the place."""
-    if not sound(part):
-        return -20, 0
-    try:
-        lines, _ = SHEET.read(text, 0, True)
-    except SHEET.Refused as refused:
-        number, place = refused.args
-        return -number, place
+def refuse(number, condition):
+    """A refusal that names no place: place 0."""
+    if condition:
+        raise SHEET.Refused(number, 0)
+
+
+def answered(call):
+    """A call that alters its part, or refuses and alters nothing, with its answer: 0 and 0, or minus the number and the place."""
+
+    @functools.wraps(call)
+    def answer(*given):
+        try:
+            call(*given)
+        except SHEET.Refused as refused:
+            number, place = refused.args
+            return -number, place
+        return 0, 0
+
+    return answer
+
+
+def read_sheet(text):
+    """The lines of the sheet that a text is, the output net without its sign, or the sheet's refusal."""
+    lines, _ = SHEET.read(text, 0, True)
+    return lines, abs(lines[0][0])
+
+
+def number_needed(part, lines, left):
+    """The least number of a sheet that was read, where 21 to 23 do not turn it down: "in order"."""
     (out, _), *gates = lines
     in_use = part.records[: part.used]
-    if any(table.net == abs(out) for table in in_use):
-        return -21, 0
-    if any(abs(out) in table.inputs[: table.u] for table in in_use):
-        return -22, 0
-    if least(part.k, JOIN.joined(gates)) > part.capacity - part.used:
-        return -23, 0
+    refuse(21, any(table.net == abs(out) for table in in_use))
+    refuse(22, any(abs(out) in table.inputs[: table.u] for table in in_use))
+    number = least(part.k, JOIN.joined(gates))
+    refuse(23, number > left)
+    return number
+
+
+def take(part, lines):
+    """A sheet's tables, put after the old ones, and the levels."""
     for record in tables(part.k, part.used, lines):
         part.records[part.used] = record
         part.used += 1
     in_use = part.records[: part.used]
     for record, level in zip(in_use, levels(in_use)):
         record.level = level
-    return 0, 0
+
+
+@answered
+def add(part, text):
+    """01, "Turned down because of the part": 20, then the sheet's, then 21 to 23."""
+    refuse(20, not sound(part))
+    lines, _ = read_sheet(text)
+    number_needed(part, lines, part.left())
+    take(part, lines)
+
+
+@answered
+def reserve(part, text):
+    """Request 109: 35 "comes right after 20"; then "every check of an add", and it "sets aside its least number"."""
+    refuse(20, not sound(part))
+    refuse(35, part.reserved > 0)
+    lines, net = read_sheet(text)
+    part.reserved, part.reserved_net = number_needed(part, lines, part.left()), net
+
+
+def close(part):
+    part.reserved, part.reserved_net = 0, 0
+
+
+@answered
+def commit(part, text):
+    """Request 109: 36 right after 20 or, "for the net, right before 21"; "every check of an add afresh, may use the tables set aside, and
+    closes the hold"."""
+    refuse(20, not sound(part))
+    refuse(36, part.reserved == 0)
+    lines, net = read_sheet(text)
+    refuse(36, net != part.reserved_net)
+    number_needed(part, lines, part.left() + part.reserved)
+    take(part, lines)
+    close(part)
+
+
+@answered
+def withdraw(part):
+    """Request 109: 20, then 36 "with none open"; "a withdrawal closes it too"."""
+    refuse(20, not sound(part))
+    refuse(36, part.reserved == 0)
+    close(part)
 
 
 def add_set(part, text, lengths):
@@ -347,53 +435,79 @@ def told(numbers):
     return " ".join(words) or "none"
 
 
+def set_fields(part, step, given):
+    """The steps that set fields of the part."""
+    if step == 1:
+        part.k = given[0]
+    elif step == 2:
+        part.capacity = given[0]
+    elif step == 3:
+        part.used = given[0]
+    elif step == 4:
+        t, net, u, *inputs, truth, level = given
+        part.records[t - 1] = Record(net, u, inputs, truth, level)
+    elif step == 5:
+        part.records[given[0] - 1].truth = 2**64 - 1
+    elif step == 6:
+        for t in range(given[0]):
+            part.records[t] = Record(0, 2, (1, 2, 0, 0, 0, 0), 8, 1)
+    elif step == 12:
+        part.records[given[0] - 1].level = given[1]
+    elif step == 15:
+        part.reserved = given[0]
+    elif step == 16:
+        part.reserved_net = given[0]
+
+
+def called(part, step, given, lengths):
+    """An add, a set, a reservation, a commit or a withdrawal: its answer, and the part handed back."""
+    if step == 19:
+        return withdraw(part), part
+    text = data_file(given[0])
+    if step == 14:
+        return add_set(part, text, lengths)
+    return {10: add, 17: reserve, 18: commit}[step](part, text), part
+
+
+def listed(part):
+    """The list, where the part is sound."""
+    return whole_list(part) if sound(part) else b""
+
+
 def run(script):
     """The steps that the head of crates/part_test/src/main.rt lists. Gives the output, the answers with the script's lines, but for
-    accepted openings, and the list after each accepted add or set."""
+    accepted openings, and each list that a call changed."""
     part, lengths, output, answers, lists = Part(), [], b"", [], b""
     for at, row in enumerate(script.splitlines(), 1):
         assert len(row) == COLUMNS * FIELDS, f"line {at} is not twelve fields"
         step, *given = (int(row[i : i + COLUMNS]) for i in range(0, len(row), COLUMNS))
-        answer, buffer, added = None, None, None
+        set_fields(part, step, given)
+        answer, buffer = None, None
         if step == 0:
             answer, part = opened(given[0], given[1])
-        elif step == 1:
-            part.k = given[0]
-        elif step == 2:
-            part.capacity = given[0]
-        elif step == 3:
-            part.used = given[0]
-        elif step == 4:
-            t, net, u, *inputs, truth, level = given
-            part.records[t - 1] = Record(net, u, inputs, truth, level)
-        elif step == 5:
-            part.records[given[0] - 1].truth = 2**64 - 1
-        elif step == 6:
-            for t in range(given[0]):
-                part.records[t] = Record(0, 2, (1, 2, 0, 0, 0, 0), 8, 1)
         elif step == 7:
             answer = int(sound(part))
         elif step == 8:
             answer, buffer = write_line(part, given[0], b"." * min(given[1], BUFFER), given[2])
         elif step == 9:
             answer, buffer = write_list(part, b"." * min(given[0], BUFFER), given[1])
-        elif step == 10:
-            added = add(part, data_file(given[0]))
         elif step == 11:
             output += line_of_levels(part)
             answers.append((at, told(levels_in_use(part))))
-        elif step == 12:
-            part.records[given[0] - 1].level = given[1]
         elif step == 13:
             times, low, high = given[:3]
             lengths = (lengths + [low + 65536 * high] * times)[:LENGTHS]
-        elif step == 14:
-            added, part = add_set(part, data_file(given[0]), lengths)
-            lengths = []
-        if added is not None:
-            output += row_of(added) + (whole_list(part) if sound(part) else b"")
-            answers.append((at, *added))
-            lists += shown_list(part) if added[0] == 0 else b""
+        elif step == 20:
+            output += row_of(part.reservation())
+            answers.append((at, *part.reservation()))
+        elif step in (10, 14, 17, 18, 19):
+            before = listed(part)
+            result, part = called(part, step, given, lengths)
+            lengths = [] if step == 14 else lengths
+            rows = [result] if step in (10, 14) else [result, part.reservation()]
+            output += b"".join(map(row_of, rows)) + listed(part)
+            answers.append((at, *itertools.chain(*rows)))
+            lists += shown_list(part) if listed(part) != before else b""
         if answer is not None:
             output += b"%6d\n" % answer
             if (step, answer) != (0, 0):

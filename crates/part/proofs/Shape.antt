@@ -1,5 +1,5 @@
 -- Every part that a function is handed has 800 records of six inputs each: its type says so.
--- A function's proof has it, with p for its parameter: let t = c .good .0 .1 .1 .1 .1 .1 .0 in shaped p (t .0) (t .1 .0 .1) (t .1 .1)
+-- A function's proof has it, with p for its parameter: let t = c .good .0 .1 .1 .1 .1 .1 .1 .0 in shaped p (t .0) (t .1 .0 .1) (t .1 .1)
 use mathlib.Core.Path.{_≡_, sym, _∙_}
 use mathlib.Core.List.{List, [], _∷_, map}
 use lib.ListN.{length, length-map}

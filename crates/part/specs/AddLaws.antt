@@ -1,5 +1,5 @@
 -- The cases of an add; and that it keeps soundness, the shape, K and the capacity.
-use Prim.Native.Nat.{ℕ, _+_, _-_, _≤_, _<_}
+use Prim.Native.Nat.{ℕ, _+_, _≤_, _<_}
 use native.Mathlib.Omega.{arith}
 use mathlib.Core.Path.{_≡_, refl, sym, _∙_, subst}
 use mathlib.Core.List.{List}
@@ -16,7 +16,7 @@ use Rattle.cover.specs.Trusted.Tables.{LookupTable}
 use Rattle.cover.specs.Trusted.CoverTables.{Circuit, CoverTables, Fresh}
 use Rattle.cover.specs.CoverTableLaws.{added-sized}
 use Rattle.table.specs.Trusted.Limits.{inputRoom}
-use Rattle.part.specs.Trusted.Parts.{tablesOf, Shaped}
+use Rattle.part.specs.Trusted.Parts.{tablesOf, available, Shaped}
 use Rattle.part.specs.Trusted.Sound.{Sound}
 use Rattle.part.specs.Trusted.SoundTest.{sound}
 use Rattle.part.specs.SoundLaws.{sound-reflects}
@@ -61,9 +61,9 @@ pub data AddCase (w : Way) (p : Part) (text : List ℕ) (q : Part) (a : Answer) 
   driven : (s : Circuit) → Sound p → reading w text ≡ passed s → Driven (s .out) (tablesOf p) → Refused p 21 0 q a → AddCase w p text q a
   read : (s : Circuit) → Sound p → reading w text ≡ passed s → ¬ (Driven (s .out) (tablesOf p)) → Read (s .out) (tablesOf p) → Refused p 22 0 q a →
       AddCase w p text q a
-  full : (s : Circuit) (n : ℕ) → Sound p → reading w text ≡ passed s → Fresh s (tablesOf p) → NumberBy w p s n → p .capacity - p .used < n →
+  full : (s : Circuit) (n : ℕ) → Sound p → reading w text ≡ passed s → Fresh s (tablesOf p) → NumberBy w p s n → available p < n →
       Refused p 23 0 q a → AddCase w p text q a
-  taken : (s : Circuit) → Sound p → reading w text ≡ passed s → Fresh s (tablesOf p) → (t : Accepted w p s q a) → p .used + length (t .new) ≤ p .capacity →
+  taken : (s : Circuit) → Sound p → reading w text ≡ passed s → Fresh s (tablesOf p) → (t : Accepted w p s q a) → p .used + length (t .new) + p .reservation .count ≤ p .capacity →
       AddCase w p text q a
 
 module _ (w : Way) (p : Part) (text : List ℕ) (q : Part) (a : Answer) where
@@ -71,16 +71,16 @@ module _ (w : Way) (p : Part) (text : List ℕ) (q : Part) (a : Answer) where
   unfolding Add
   add-case = by-either (sound-reflects p) (λ h. readings h (reading w text) refl) unsound
     where
-      room : (h : Sound p) (s : Circuit) (n : ℕ) → NumberBy w p s n → n ≤ p .capacity - p .used → (t : Accepted w p s q a) →
-          p .used + length (t .new) ≤ p .capacity
-      room h s n l le t = omega (arith, le, h .used-fits, number-unique w p s l (chosen-number w p s (t .new) (t .chosen)))
+      room : (h : Sound p) (s : Circuit) (n : ℕ) → NumberBy w p s n → n ≤ available p → (t : Accepted w p s q a) →
+          p .used + length (t .new) + p .reservation .count ≤ p .capacity
+      room h s n l le t = omega (arith, le, h .used-fits, h .reservation .fits, number-unique w p s l (chosen-number w p s (t .new) (t .chosen)))
 
       readings : Sound p → (v : Checked Circuit) → reading w text ≡ v → Take w p v q a → AddCase w p text q a
       readings h (unread number place) e = misread number place h e
       readings h (passed s) e =
           by-either (driven-reflects (s .out) (tablesOf p)) (driven s h e)
           (λ d. by-either (read-reflects (s .out) (tablesOf p)) (read s h e d)
-          (λ r o. by-either (reflects-le (o .0) (p .capacity - p .used))
+          (λ r o. by-either (reflects-le (o .0) (available p))
           (λ l t. taken s h e (fresh s (tablesOf p) d r) t (room h s (o .0) (o .1) l t))
           (λ l. full s (o .0) h e (fresh s (tablesOf p) d r) (o .1) (omega arith)) (o .2)))
 
@@ -97,7 +97,7 @@ module _ (p : Part) (shape : Shaped p) where
   kept {w} {text} (taken s h e f t room) = subst (λ q. Kept p q) (sym (t .part)) (record {
     same-k = refl;
     same-capacity = refl;
-    shaped = extended-shaped p shape h (t .new) room narrow;
+    shaped = extended-shaped p shape h (t .new) (omega (arith, room)) narrow;
     sound = λ g. extended-sound p shape h (t .new) s (reading-right w text s e .legal) added f room;
   })
     where

@@ -144,11 +144,12 @@ module _ (p : Part) (shape : Shaped p) (h : Sound p) (new : List LookupTable) wh
   }
 
   pub extended-sound : (s : Circuit) → Legal codeBase s → CoverTables codeBase (p .k) (tablesOf p) new s → Fresh s (tablesOf p) →
-      p .used + length new ≤ p .capacity → Sound (extended p new)
+      p .used + length new + p .reservation .count ≤ p .capacity → Sound (extended p new)
   extended-sound s l a f room = record {
     k-range = h .k-range;
     capacity-range = h .capacity-range;
-    used-fits = room;
+    used-fits = omega (arith, room);
     rest-blank = rw extended-rest (rw drop-drop at (every-drop (length new) (drop (p .used) (p .tables)) (h .rest-blank)));
     rules = rw (extended-inUse p shape h new) (rules-append (p .k) (inUse p) (recordsAfter (tablesOf p) new) (h .rules) (added-follows (p .k) (inUse p) new s l a f));
+    reservation = record { fits = omega (arith, room); both = h .reservation .both; range = h .reservation .range };
   }

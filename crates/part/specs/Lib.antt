@@ -10,3 +10,4 @@ pub mod SetLaws
 pub mod Storing
 pub mod StoringLaws
 pub mod OpenLaws
+pub mod ReserveLaws

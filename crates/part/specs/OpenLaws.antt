@@ -1,5 +1,5 @@
 -- What an opening gives, by its tests; that it has the shape of its type, and that an accepted one is sound.
-use Prim.Native.Nat.{ℕ}
+use Prim.Native.Nat.{ℕ, _-_}
 use native.Mathlib.Omega.{arith}
 use mathlib.Core.Path.{_≡_, refl}
 use mathlib.Core.Bool.{cond}
@@ -11,6 +11,7 @@ use Rattle.table.specs.Trusted.Limits.{inputRoom, tableRoom, KRange, CapacityRa
 use Rattle.table.specs.Trusted.Records.{blank}
 use Rattle.table.specs.Trusted.Rules.{Blank}
 use Rattle.table.specs.TestedLaws.{no-records}
+use Rattle.part_records.specs.ReservationLaws.{none-reservable}
 use Rattle.part.specs.Trusted.Parts.{blanks, Shaped}
 use Rattle.part.specs.Trusted.Sound.{Sound}
 use Rattle.part.specs.Trusted.Answers.{accepted, refused, Result, empty}
@@ -24,6 +25,7 @@ empty-sound k capacity g h = record {
   used-fits = omega arith;
   rest-blank = every-replicate Blank tableRoom blank (record { net = refl; count = refl; inputs = every-replicate (λ x. x ≡ 0) inputRoom 0 refl; truth = refl; level = refl });
   rules = no-records k capacity .rules;
+  reservation = none-reservable (capacity - 0);
 }
 
 pub empty-shaped : (k capacity : ℕ) → Shaped (empty k capacity)

@@ -28,7 +28,7 @@ use Rattle.part.specs.Trusted.SetAnswers.{setResult, Positioned}
 use Rattle.part.specs.AddLaws.{add-case, Kept, kept-trans, same-kept, kept}
 use Rattle.part.specs.declared.Part.{Part}
 use Rattle.part.specs.declared.Adding.{Adding}
-use Rattle.part.specs.declared.Adding.the-variants.{Accepted as Added, Unsound, Misread, OutputDriven, OutputRead, Full}
+use Rattle.part.specs.declared.Adding.the-variants.{Accepted as Added, Unsound, Misread, OutputDriven, OutputRead, Full, AlreadyReserved, NotReserved}
 use Rattle.part.specs.declared.SetAdded.{SetAdded}
 use Rattle.part.specs.declared.SetAdding.the-variants.{Accepted, SheetRefused}
 
@@ -43,13 +43,15 @@ cut-next lengths i l text at =
 -- ---- the sheets in turn
 
 -- an answer other than that the sheet was added is a refusal
-refusal : (a : Adding) → (a ≡ Added → ⊥) → (number : ℕ) × (place : ℕ) × (addingAnswer a ≡ refused number place)
+pub refusal : (a : Adding) → (a ≡ Added → ⊥) → (number : ℕ) × (place : ℕ) × (addingAnswer a ≡ refused number place)
 refusal Added d = absurd (d refl)
 refusal Unsound d = (20, 0, refl)
 refusal (Misread why line) d = (numberOf why, line, refl)
 refusal OutputDriven d = (21, 0, refl)
 refusal OutputRead d = (22, 0, refl)
 refusal Full d = (23, 0, refl)
+refusal AlreadyReserved d = (35, 0, refl)
+refusal NotReserved d = (36, 0, refl)
 
 -- what the code hands back is what comes of the sheets from position i on, the first on the part p, for some sheets that were tried
 abbrev Turns : (o : Part) (i : ℕ) (texts : List (List ℕ)) (p : Part) → SetAdded → Type 0

@@ -35,4 +35,4 @@ newRecords p m = recordsAfter (tablesOf p) (newTables m)
 
 -- the part with them
 abbrev pub stored : Part → Mapping → Part
-stored p m = record { k = p .k; capacity = p .capacity; used = p .used + m .count; tables = paste (p .tables) (p .used) (newRecords p m) (m .count) }
+stored p m = record { k = p .k; capacity = p .capacity; used = p .used + m .count; reservation = p .reservation; tables = paste (p .tables) (p .used) (newRecords p m) (m .count) }

@@ -1,5 +1,5 @@
 -- The tests of an output net over the records in use; and the mapping's records as a sheet's tables.
-use Prim.Native.Nat.{ℕ, _+_, _-_, _≤_, _<_}
+use Prim.Native.Nat.{ℕ, _+_, _≤_, _<_}
 use native.Mathlib.Omega.{arith}
 use native.Mathlib.Numerals.{add-one}
 use mathlib.Core.Path.{_≡_, refl, sym, ap, ap₂, _∙_, subst}
@@ -41,7 +41,7 @@ use Rattle.pending.specs.Luts.{lutReads, lutTable}
 use Rattle.mapper_laws.specs.declared.Mapping.{Mapping}
 use Rattle.mapper_laws.specs.CodeRun.{noTable}
 use Rattle.mapper_laws.specs.CodeMap.{SheetMapped}
-use Rattle.part.specs.Trusted.Parts.{inUse, tablesOf, Shaped}
+use Rattle.part.specs.Trusted.Parts.{inUse, tablesOf, available, Shaped}
 use Rattle.part.specs.Trusted.Sound.{Sound}
 use Rattle.part.specs.Trusted.SoundTest.{sound}
 use Rattle.part.specs.SoundLaws.{sound-reflects, used-count}
@@ -177,7 +177,7 @@ module _ (p : Part) (shape : Shaped p) (h : Sound p) (s : CodeSheet) (m : Mappin
 
   stored-extended : stored p m ≡ extended p new
   stored-extended =
-      ap₂ (λ n rs. record { k = p .k; capacity = p .capacity; used = p .used + n; tables = inUse p ++ rs ++ drop (p .used + n) (p .tables) }) (sym new-count)
+      ap₂ (λ n rs. record { k = p .k; capacity = p .capacity; used = p .used + n; reservation = p .reservation; tables = inUse p ++ rs ++ drop (p .used + n) (p .tables) }) (sym new-count)
       (ap (λ n. take n (newRecords p m)) (sym new-room) ∙ take-length (newRecords p m))
 
   -- the levels stand for the tables of the part that is stored
@@ -187,16 +187,16 @@ module _ (p : Part) (shape : Shaped p) (h : Sound p) (s : CodeSheet) (m : Mappin
       (subst (λ ts. LevelsStand levels (tablesOf p ++ ts)) (ap (λ n. take n new) (sym new-count) ∙ take-length new) st)
 
   module _ (d : isDriven (s .out) (tablesOf p) ≡ false) (r : isRead (s .out) (tablesOf p) ≡ false) where
-    pub offer-full : p .capacity - p .used < m .count → Offer least p (circuitOf s) p (refused 23 0)
+    pub offer-full : available p < m .count → Offer least p (circuitOf s) p (refused 23 0)
     offer-full l =
-        rw d (rw r (length new, new-least .fewest, rw (lt-leb (length new) (p .capacity - p .used) (omega (arith, l, new-count))) (refl, refl)))
+        rw d (rw r (length new, new-least .fewest, rw (lt-leb (length new) (available p) (omega (arith, l, new-count))) (refl, refl)))
 
-    pub offer-stored : m .count ≤ p .capacity - p .used → Offer least p (circuitOf s) (stored p m) accepted
+    pub offer-stored : m .count ≤ available p → Offer least p (circuitOf s) (stored p m) accepted
     offer-stored l =
         rw d (rw r (
           length new,
           new-least .fewest,
-          rw (le-leb (length new) (p .capacity - p .used) (omega (arith, l, new-count)))
+          rw (le-leb (length new) (available p) (omega (arith, l, new-count)))
               (record { new = new; chosen = new-least; part = stored-extended; answer = refl }),
         ))
 

@@ -6,8 +6,9 @@ pub mod Answers
 pub mod OpenAnswers
 pub mod Nets
 pub mod Add
-pub mod AddAnswers
 pub mod Tries
+pub mod AddAnswers
 pub mod Sets
+pub mod Reservations
 pub mod SetAnswers
 pub mod SoundTest

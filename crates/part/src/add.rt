@@ -38,8 +38,8 @@ fn map_joined(sheet: Sheet, k: u8, used: u16) -> Mapping
 }
 
 impl Part {
-    // The part as it is, and why the sheet was not added.
-    fn refused(self, answer: Adding) -> Added
+    // The part as it is, with the answer.
+    pub(crate) fn refused(self, answer: Adding) -> Added
         ensures { λ r. ⌜ r ≡ record { part = self; answer = answer } ⌝ }
     {
         Added { part: self, answer }
@@ -73,7 +73,8 @@ impl Part {
         }
         let mapping = map_joined(sheet, self.k, used);
         let needed = mapping.count as u16;
-        if needed > self.capacity - used {
+        let reservation = self.reservation;
+        if needed > self.capacity - used - reservation.count {
             return self.refused(Adding::Full);
         }
         let count = mapping.count as usize;
@@ -118,9 +119,10 @@ impl Part {
     pub fn add(self, text: &[u8]) -> Added
         ensures { λ r. ⌜ Add least self (now (text .entry)) (r .part) (addingAnswer (r .answer)) ⌝ }
     {
+        let reservation = self.reservation;
         let tables = self.tables;
         let mut levels = [0u16; CODE_ROOM];
-        if !part_records::sound(self.k, self.capacity, self.used, tables, &mut levels) {
+        if !part_records::sound(self.k, self.capacity, self.used, reservation, tables, &mut levels) {
             return self.refused(Adding::Unsound);
         }
         self.take(text, &mut levels)

@@ -1,5 +1,6 @@
 // Parts of the row module: a device that holds lookup tables.
 mod add;
+mod reserve;
 mod set;
 
 ghost use mathlib.Core.Path.{_≡_};
@@ -8,6 +9,7 @@ ghost use Rattle.part.specs.Trusted.Add.{opened};
 ghost use Rattle.part.specs.Trusted.OpenAnswers.{openingAnswer};
 ghost use Rattle.part.specs.Trusted.SoundTest.{sound as isSound};
 use lists::within;
+use part_records::Reservation;
 use sheet::Refusal;
 use table::CODE_ROOM;
 use table::INPUT_ROOM;
@@ -15,11 +17,12 @@ use table::TABLE_ROOM;
 use table::Table;
 use table::blank;
 
-// A part of the row module: the most inputs of a table, how many tables it can hold, how many it holds, and the tables.
+// A part of the row module: the most inputs of a table, how many tables it can hold, how many it holds, what is reserved, and the tables.
 pub struct Part {
     pub k: u8,
     pub capacity: u16,
     pub used: u16,
+    pub reservation: Reservation,
     pub tables: [Table; 800],
 }
 
@@ -36,7 +39,7 @@ pub struct Opened {
     pub answer: Opening,
 }
 
-// What an add answers. AddAnswers in specs/Trusted gives the refusals' numbers and places.
+// What an add answers, and a reservation, a commit and a withdrawal. AddAnswers in specs/Trusted gives the refusals' numbers and places.
 pub enum Adding {
     Accepted,
     Unsound,
@@ -44,9 +47,11 @@ pub enum Adding {
     OutputDriven,
     OutputRead,
     Full,
+    AlreadyReserved,
+    NotReserved,
 }
 
-// The part that an add hands back, the one it got where it is refused, and the answer.
+// The part that such a call hands back, the one it got where it is refused, and the answer.
 pub struct Added {
     pub part: Part,
     pub answer: Adding,
@@ -67,7 +72,7 @@ pub struct SetAdded {
     pub answer: SetAdding,
 }
 
-// A part with this K and this capacity that holds no table.
+// A part with this K and this capacity that holds no table and has nothing reserved.
 pub fn empty(k: u8, capacity: u16) -> Part
     ensures { λ r. ⌜ r ≡ emptyPart k capacity ⌝ }
 {
@@ -75,6 +80,7 @@ pub fn empty(k: u8, capacity: u16) -> Part
         k,
         capacity,
         used: 0,
+        reservation: Reservation { count: 0, net: 0 },
         tables: [blank(); 800],
     }
 }
@@ -104,12 +110,13 @@ impl Part {
         }
     }
 
-    // The part keeps 01's five points of soundness and its tables have their levels, whatever its fields hold.
+    // The part keeps 01's five points of soundness, its tables have their levels and its reservation is one that it may have, whatever its fields hold.
     pub fn sound(self) -> bool
         ensures { λ r. ⌜ r ≡ isSound self ⌝ }
     {
+        let reservation = self.reservation;
         let tables = self.tables;
         let mut levels = [0u16; CODE_ROOM];
-        part_records::sound(self.k, self.capacity, self.used, tables, &mut levels)
+        part_records::sound(self.k, self.capacity, self.used, reservation, tables, &mut levels)
     }
 }

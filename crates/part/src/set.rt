@@ -55,9 +55,10 @@ impl Part {
     pub fn add_set(self, text: &[u8], lengths: &[u32]) -> SetAdded
         ensures { λ r. ⌜ ((ts : List Try) × AddSet self (now (lengths .entry)) (now (text .entry)) (setResult r ts) × Positioned (r .answer)) ⌝ }
     {
+        let reservation = self.reservation;
         let tables = self.tables;
         let mut levels = [0u16; CODE_ROOM];
-        let sound = part_records::sound(self.k, self.capacity, self.used, tables, &mut levels);
+        let sound = part_records::sound(self.k, self.capacity, self.used, reservation, tables, &mut levels);
         let whole = set_lengths::whole(lengths, text.len());
         if !sound {
             return self.with_answer(SetAdding::Unsound);

@@ -1,2 +1,4 @@
+pub mod Trusted
+pub mod ReservationLaws
 pub mod Uses
 pub mod UseLaws

@@ -16,11 +16,20 @@
 //   14 n                                       add the set in a file that          prints 0 or minus the number, the place and the
 //                                              argument n names, with the          position; then the list, where the part is sound
 //                                              lengths collected, and drop them
+//   15 count · 16 net                          set the number set aside · set the net of the reservation
+//   17 n                                       reserve for the sheet in a file     prints 0 or minus the number, and the place; the
+//                                              that argument n names               number set aside and the net; then the list, where
+//                                                                                  the part is sound
+//   18 n                                       commit the sheet in a file          the same
+//                                              that argument n names
+//   19                                         withdraw                            the same
+//   20                                         prints the reservation: the number set aside and the net, in one line
 ghost use Prim.Native.Nat.{_≤_};
 ghost use Rattle.io.specs.Counts.{Counts};
 use decimal::Field;
 use libc::STDOUT_FILENO;
 use listing::WriteAnswer;
+use part::Added;
 use part::Adding;
 use part::Opening;
 use part::Part;
@@ -104,6 +113,8 @@ fn adding(a: Adding) -> i32 {
         Adding::OutputDriven => -21,
         Adding::OutputRead => -22,
         Adding::Full => -23,
+        Adding::AlreadyReserved => -35,
+        Adding::NotReserved => -36,
     }
 }
 
@@ -233,12 +244,17 @@ fn filled(mut p: Part, n: u32) -> Part {
     p
 }
 
+// The part with the field set that a step names.
 fn with_field(mut p: Part, which: u32, x: u32) -> Part {
+    let mut r = p.reservation;
     match which {
         1 => p.k = low8(x),
         2 => p.capacity = low16(x),
-        _ => p.used = low16(x),
+        3 => p.used = low16(x),
+        15 => r.count = low16(x),
+        _ => r.net = low16(x),
     }
+    p.reservation = r;
     p
 }
 
@@ -332,14 +348,33 @@ fn print_levels(p: Part) {
     io::write_all(STDOUT_FILENO, b"\n");
 }
 
-fn add(p: Part, s: &[u8]) -> Part {
+// The number set aside and the net, on a line of their own.
+fn print_reservation(p: Part) {
+    let r = p.reservation;
+    put(r.count as i32);
+    say(r.net as i32);
+}
+
+// The sheet in a file added, reserved for or committed, by the step.
+fn offered(p: Part, s: &[u8]) -> Added {
     let mut text = io::large_buffer();
     let n = read_sheet(field(s, 1) as usize, &mut text);
-    let added = p.add(&text[..n]);
+    match field(s, 0) {
+        10 => p.add(&text[..n]),
+        17 => p.reserve(&text[..n]),
+        _ => p.commit(&text[..n]),
+    }
+}
+
+// Prints what a call answers, the reservation where it is asked for, and the list, where the part is sound. Gives the part handed back.
+fn print_added(added: Added, reserving: bool) -> Part {
     let answer = added.answer;
     let part = added.part;
     put(adding(answer));
     say(place(answer) as i32);
+    if reserving {
+        print_reservation(part);
+    }
     print_list(part);
     part
 }
@@ -393,14 +428,14 @@ fn add_set(state: State, s: &[u8]) -> State {
 fn step(p: Part, s: &[u8]) -> Part {
     match field(s, 0) {
         0 => open(s),
-        1 => with_field(p, 1, field(s, 1)),
-        2 => with_field(p, 2, field(s, 1)),
-        3 => with_field(p, 3, field(s, 1)),
+        1 | 2 | 3 | 15 | 16 => with_field(p, field(s, 0), field(s, 1)),
         4 => with_record(p, field(s, 1), record(s)),
         5 => with_full_truth(p, field(s, 1)),
         6 => filled(p, field(s, 1)),
-        10 => add(p, s),
+        10 => print_added(offered(p, s), false),
         12 => with_level(p, field(s, 1), low16(field(s, 2))),
+        17 | 18 => print_added(offered(p, s), true),
+        19 => print_added(p.withdraw(), true),
         _ => shown(p, s),
     }
 }
@@ -412,6 +447,7 @@ fn shown(p: Part, s: &[u8]) -> Part {
         7 => say(if p.sound() { 1 } else { 0 }),
         8 => write_line(p, s, &mut buf),
         11 => print_levels(p),
+        20 => print_reservation(p),
         _ => write_list(p, s, &mut buf),
     }
     p

@@ -6,12 +6,11 @@
 //! `linked`), against the independent implementation too. A case is known by its seed and index. A list of an accepted set is checked, not
 //! compared. A run in which a kind of cases, a refusal or an accepted set does not occur fails; 14 is tried with each accepted set.
 
-use std::collections::BTreeMap;
 use std::process::ExitCode;
 
 use outside::set_cases::{case, KINDS};
 use outside::set_check::{add_to_list, answer, check_add, Add, LONGEST};
-use outside::tool::{finish_run, Failures, Options};
+use outside::tool::{finish_run, Failures, Options, Tally};
 
 fn adder(words: &[String]) -> Result<Box<Add>, String> {
     match &words.iter().map(String::as_str).collect::<Vec<&str>>()[..] {
@@ -30,32 +29,19 @@ const OUTCOMES: [std::ops::RangeInclusive<u32>; 3] = [0..=13, 21..=23, 31..=33];
 fn run_cases() -> Result<usize, String> {
     let options = Options::read(20_000)?;
     let add = adder(&options.words)?;
-    let mut kinds: BTreeMap<&str, usize> = KINDS.map(|(kind, _)| (kind, 0)).into();
-    let mut outcomes: BTreeMap<u32, usize> = OUTCOMES.into_iter().flatten().map(|number| (number, 0)).collect();
+    let mut tally = Tally::of(KINDS.map(|(kind, _)| kind), OUTCOMES.into_iter().flatten());
     let mut failures = Failures::none(&options);
     let mut output = vec![0; LONGEST];
     for index in options.first..options.first + options.count {
         let case = case(options.seed, index);
         let answer = answer(&case);
-        *kinds.entry(case.kind).or_default() += 1;
-        *outcomes.entry(answer.as_ref().map_or_else(|refusal| refusal.number, |_| 0)).or_default() += 1;
+        tally.add(case.kind, answer.as_ref().map_or_else(|refusal| refusal.number, |_| 0));
         let tested = check_add(&*add, &case, &answer, &mut output);
         if !failures.take(&index.to_string(), case.kind, &case.shown(), tested)? {
             break;
         }
     }
-    for (kind, count) in &kinds {
-        println!("{count:>8} {kind}");
-    }
-    for (number, count) in &outcomes {
-        let outcome = if *number == 0 { "accepted".into() } else { format!("refusal {number}") };
-        println!("{count:>8} {outcome}");
-    }
-    println!("seed {}: {} sets, {} failed", options.seed, kinds.values().sum::<usize>(), failures.count);
-    if failures.count == 0 && kinds.values().chain(outcomes.values()).any(|&count| count == 0) {
-        return Err("a kind of cases or an outcome that did not occur".into());
-    }
-    Ok(failures.count)
+    tally.finish(&failures, "sets")
 }
 
 fn main() -> ExitCode {

@@ -2,6 +2,7 @@
 #![allow(dead_code)]
 
 pub mod nested;
+pub mod reservations;
 pub mod sets;
 
 use outside::refusal::Refusal;

@@ -1,6 +1,6 @@
 -- Opening a part, and what an add promises: 01, "Turned down because of the part", in its order.
 -- Definitions only.
-use Prim.Native.Nat.{ℕ, _+_, _-_}
+use Prim.Native.Nat.{ℕ, _+_}
 use mathlib.Core.Path.{_≡_}
 use mathlib.Core.Bool.{Bool, cond}
 use mathlib.Core.List.{List, _++_}
@@ -12,7 +12,7 @@ use Rattle.cover.specs.Trusted.Tables.{LookupTable}
 use Rattle.cover.specs.Trusted.CoverTables.{Circuit}
 use Rattle.table.specs.Trusted.Limits.{inputRoom, tableRoom}
 use Rattle.table.specs.Trusted.Records.{recordsAfter}
-use Rattle.part.specs.Trusted.Parts.{inUse, tablesOf}
+use Rattle.part.specs.Trusted.Parts.{inUse, tablesOf, available}
 use Rattle.part.specs.Trusted.SoundTest.{sound}
 use Rattle.part.specs.Trusted.Ways.{Way, reading, NumberBy, Chosen}
 use Rattle.part.specs.Trusted.Answers.{Answer, accepted, refused, Result, empty}
@@ -37,6 +37,7 @@ extended p new = record {
   k = p .k;
   capacity = p .capacity;
   used = p .used + length new;
+  reservation = p .reservation;
   tables = inUse p ++ recordsAfter (tablesOf p) new ++ drop (p .used + length new) (p .tables);
 }
 
@@ -60,7 +61,7 @@ pub record Accepted (w : Way) (p : Part) (s : Circuit) (q : Part) (a : Answer) :
 
 -- 23, of a sheet whose number is n
 abbrev pub Fill : Way → Part → Circuit → ℕ → Part → Answer → Type 0
-Fill w p s n q a = either (leb n (p .capacity - p .used)) (Accepted w p s q a) (Refused p 23 0 q a)
+Fill w p s n q a = either (leb n (available p)) (Accepted w p s q a) (Refused p 23 0 q a)
 
 -- 21 and 22
 abbrev pub Offer : Way → Part → Circuit → Part → Answer → Type 0

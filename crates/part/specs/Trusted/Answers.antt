@@ -1,5 +1,6 @@
 -- What a call answers, in 01's numbers, and what it hands back; and a part of no tables. Definitions only.
 use Prim.Native.Nat.{ℕ}
+use Rattle.part_records.specs.Trusted.Reservations.{unreserved}
 use Rattle.part.specs.Trusted.Parts.{blanks}
 use Rattle.part.specs.declared.Part.{Part}
 
@@ -12,6 +13,6 @@ pub record Result : Type 0 where
   pub part : Part
   pub answer : Answer
 
--- a part of no tables
+-- a part of no tables, with nothing reserved
 abbrev pub empty : ℕ → ℕ → Part
-empty k capacity = record { k = k; capacity = capacity; used = 0; tables = blanks }
+empty k capacity = record { k = k; capacity = capacity; used = 0; reservation = unreserved; tables = blanks }

@@ -1,5 +1,6 @@
--- The records that a part has in use, and which tables they are.
+-- The records that a part has in use, and which tables they are; the number of tables left; and the part with another reservation.
 -- Definitions only.
+use Prim.Native.Nat.{ℕ, _-_}
 use mathlib.Core.Path.{_≡_}
 use mathlib.Core.List.{List, map}
 use lib.ListN.{length, take, replicate}
@@ -8,6 +9,8 @@ use Rattle.cover.specs.Trusted.Tables.{LookupTable}
 use Rattle.table.specs.declared.Table.{Table}
 use Rattle.table.specs.Trusted.Limits.{inputRoom, tableRoom}
 use Rattle.table.specs.Trusted.Records.{tableOf, blank}
+use Rattle.part_records.specs.Trusted.Reservations.{unreserved}
+use Rattle.part_records.specs.declared.Reservation.{Reservation}
 use Rattle.part.specs.declared.Part.{Part}
 
 -- as many records of zeros as a part has room for
@@ -20,6 +23,17 @@ inUse p = take (p .used) (p .tables)
 
 abbrev pub tablesOf : Part → List LookupTable
 tablesOf p = map tableOf (inUse p)
+
+-- THE NUMBER LEFT for a sheet: "what is neither used nor set aside" (02, #109)
+abbrev pub available : Part → ℕ
+available p = p .capacity - p .used - p .reservation .count
+
+-- the part with this reservation in place of its own, and with none
+abbrev pub withReservation : Part → Reservation → Part
+withReservation p r = record { k = p .k; capacity = p .capacity; used = p .used; reservation = r; tables = p .tables }
+
+abbrev pub released : Part → Part
+released p = withReservation p unreserved
 
 -- what its type says of every part: it has 800 records, and each has six inputs
 pub record Shaped (p : Part) : Type 0 where

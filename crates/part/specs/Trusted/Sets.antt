@@ -9,12 +9,12 @@ use Rattle.part.specs.Trusted.Ways.{least}
 use Rattle.part.specs.Trusted.SoundTest.{sound}
 use Rattle.part.specs.Trusted.Answers.{Answer, accepted, refused}
 use Rattle.part.specs.Trusted.Add.{Add}
-use Rattle.part.specs.Trusted.Tries.{Try, CallResult}
+use Rattle.part.specs.Trusted.Tries.{adding, Try, CallResult}
 use Rattle.part.specs.declared.Part.{Part}
 
 -- a sheet of a set
 abbrev pub member : List ℕ → Part → Part → Answer → Try
-member text p q a = record { way = least; text = text; before = p; after = q; answer = a }
+member text p q a = record { purpose = adding; way = least; text = text; before = p; after = q; answer = a }
 
 -- "The rule for one sheet is applied to each in turn, as if those before it had been added. If one is refused, the refusal number, its place
 -- and the sheet's position in the set (from 1) come back with the part unaltered." The set was given the part o; of the sheets from

@@ -5,9 +5,17 @@ use Rattle.part.specs.Trusted.Ways.{Way}
 use Rattle.part.specs.Trusted.Answers.{Answer}
 use Rattle.part.specs.declared.Part.{Part}
 
--- one sheet in a call: the way in which its tables are chosen, its text, the part that it stands on, which is the call's own or that with
--- those ahead of it added, and what its add gives
+-- what a sheet is looked at for
+pub data Purpose : Type 0 where
+  -- its tables are added
+  adding : Purpose
+  -- its number is set aside (02, #109)
+  reserving : Purpose
+
+-- one sheet in a call: what for, the way in which its tables are chosen, its text, the part that it stands on, which is the call's own or that with
+-- those ahead of it added, or for a commit with the reservation closed, and what comes of it
 pub record Try : Type 0 where
+  pub purpose : Purpose
   pub way : Way
   pub text : List ℕ
   pub before : Part

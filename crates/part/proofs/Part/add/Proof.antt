@@ -24,7 +24,7 @@ returns : tie.Need-returns
 unfolding sound
 returns c =
     let d = c .before .before .before in
-    let a = d .before .before .before .before .args in
+    let a = d .before .before .before .before .before .args in
     add-same (c .refused .result) (a .self) Unsound (c .refused .ensures) (a .self) (a .text .now)
     (add-unsound (a .self) (a .text .now) (sym (d .sound .ensures .0) ∙ not-true _ (c .before .if1 .taken)))
 
@@ -37,7 +37,7 @@ take-requires c κs =
     let e = c .before in
     let d = e .before .before in
     let t = not-false _ (e .if1 .left) in
-    (says-true (sound-reflects (d .before .before .before .before .args .self)) (sym (d .sound .ensures .0) ∙ t), d .sound .ensures .1 t)
+    (says-true (sound-reflects (d .before .before .before .before .before .args .self)) (sym (d .sound .ensures .0) ∙ t), d .sound .ensures .1 t)
 
 returns-2 : tie.Need-returns-2
 returns-2 c = c .before .take .ensures .0

@@ -22,11 +22,11 @@ use Rattle.part.proofs.Part.add_set.Tie as tie
 
 -- ---- what is known on the way
 
-self-sound : (c : tie.Else1) → sound (c .before .before .before .before .before .before .before .before .args .self) ≡ true
+self-sound : (c : tie.Else1) → sound (c .before .before .before .before .before .before .before .before .before .args .self) ≡ true
 unfolding sound
 self-sound c = sym (c .before .before .before .sound .ensures .0) ∙ not-false _ (c .if1 .left)
 
-set-whole : (c : tie.Else2) → let a = c .before .before .before .before .before .before .before .before .before .args in isWhole (a .lengths .now) (length (a .text .now)) ≡ true
+set-whole : (c : tie.Else2) → let a = c .before .before .before .before .before .before .before .before .before .before .args in isWhole (a .lengths .now) (length (a .text .now)) ≡ true
 set-whole c = sym (c .before .before .whole .ensures) ∙ not-false _ (c .if2 .left)
 
 -- what is handed back keeps the promise, for some tries
@@ -52,7 +52,7 @@ returns : tie.Need-returns
 unfolding sound
 returns c =
     let d = c .before .before .before .before in
-    let a = d .before .before .before .before .before .args in
+    let a = d .before .before .before .before .before .before .args in
     subst (Added (a .self) (a .lengths .now) (a .text .now)) (sym (c .with-answer .ensures))
     ([], set-unsound (a .self) (a .lengths .now) (a .text .now) (sym (d .sound .ensures .0) ∙ not-true _ (c .before .if1 .taken)), tt)
 
@@ -62,7 +62,7 @@ with-answer-requires-2 c κs = search needs
 returns-2 : tie.Need-returns-2
 returns-2 c =
     let e = c .before .before in
-    let a = e .before .before .before .before .before .before .before .before .args in
+    let a = e .before .before .before .before .before .before .before .before .before .args in
     subst (Added (a .self) (a .lengths .now) (a .text .now)) (sym (c .with-answer2 .ensures))
     ([], set-unfit (a .self) (a .lengths .now) (a .text .now) (self-sound e) (sym (e .before .whole .ensures) ∙ not-true _ (c .before .if2 .taken)), tt)
 
@@ -73,7 +73,7 @@ take-each-requires : tie.Need-take-each-requires
 take-each-requires c κs =
     let e = c .before .before in
     let d = e .before .before .before in
-    let a = d .before .before .before .before .before .args in (
+    let a = d .before .before .before .before .before .before .args in (
       says-true (sound-reflects (a .self)) (self-sound e),
       d .sound .ensures .1 (not-false _ (e .if1 .left)),
       says-true (whole-reflects (a .lengths .now) (length (a .text .now))) (set-whole (c .before)),
@@ -83,7 +83,7 @@ returns-3 : tie.Need-returns-3
 returns-3 c =
     let t = c .before .take-each in
     let w = c .before .before .before in
-    let a = w .before .before .before .before .before .before .before .before .before .args in
+    let a = w .before .before .before .before .before .before .before .before .before .before .args in
     (t .ensures .0, set-fit (a .self) (a .lengths .now) (a .text .now) (self-sound (w .before)) (set-whole w) _ (t .ensures .1), t .ensures .2)
 
 pub add-set-spec : {M : Type 1} → statement M

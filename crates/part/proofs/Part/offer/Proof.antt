@@ -32,7 +32,7 @@ use Rattle.part.proofs.Part.offer.Tie as tie
 
 -- the part with other records, and with the mapping's first n after those in use
 abbrev holding : Part → List Table → Part
-holding p rs = record { k = p .k; capacity = p .capacity; used = p .used; tables = rs }
+holding p rs = record { k = p .k; capacity = p .capacity; used = p .used; reservation = p .reservation; tables = rs }
 
 abbrev pasted : Part → Mapping → ℕ → List Table
 pasted p m n = paste (p .tables) (p .used) (newRecords p m) n
@@ -43,7 +43,7 @@ atLevel r l = record { net = r .net; count = r .count; inputs = r .inputs; truth
 
 -- with another used count
 abbrev counting : ℕ → Part → Part
-counting n p = record { k = p .k; capacity = p .capacity; used = n; tables = p .tables }
+counting n p = record { k = p .k; capacity = p .capacity; used = n; reservation = p .reservation; tables = p .tables }
 
 abbrev Inv-loop : tie.InvT-loop
 Inv-loop sheet levels self used first out uses₀ i₀ uses i = (length (self .tables) ≡ tableRoom) × Looked self (sheet .out) i uses
@@ -62,7 +62,7 @@ abbrev μ-loop2 : tie.MeasureT-loop2
 -- ---- what is known on the way
 
 self-shaped : (c : tie.Start Inv-loop μ-loop Inv-loop2 μ-loop2) → Shaped (c .args .t1)
-self-shaped c = let t = c .good .0 .1 .1 .1 .1 .1 .0 in shaped (c .args .t1) (t .0) (t .1 .0 .1) (t .1 .1)
+self-shaped c = let t = c .good .0 .1 .1 .1 .1 .1 .1 .0 in shaped (c .args .t1) (t .0) (t .1 .0 .1) (t .1 .1)
 
 capacity-fits : (c : tie.Start Inv-loop μ-loop Inv-loop2 μ-loop2) → c .args .t1 .capacity ≤ tableRoom
 capacity-fits c = c .pre .0 .capacity-range .1
@@ -143,14 +143,17 @@ cast-needed c = search needs
 sub-if3 : tie.Need-sub-if3 Inv-loop μ-loop Inv-loop2 μ-loop2
 sub-if3 c = omega arith
 
+sub-if3-2 : tie.Need-sub-if3-2 Inv-loop μ-loop Inv-loop2 μ-loop2
+sub-if3-2 c = omega (arith, c .before .before .before .before .before .before .before .before .pre .0 .reservation .fits)
+
 refused-requires-3 : tie.Need-refused-requires-3 Inv-loop μ-loop Inv-loop2 μ-loop2
 refused-requires-3 c κs = search needs
 
 returns-3 : tie.Need-returns-3 Inv-loop μ-loop Inv-loop2 μ-loop2
 returns-3 c =
-    let m = c .before .before in
+    let m = c .before .before .before .before in
     let d = m .before in
-    let s = c .before .before .before .before .before .before .before .before in
+    let s = c .before .before .before .before .before .before .before .before .before .before in
     let a = s .args in (
       offer-same (c .refused3 .result) (a .t1) Full (c .refused3 .ensures) (a .t1) (circuitOf (a .sheet))
           (offer-full (a .t1) (self-shaped s) (s .pre .0) (a .sheet) (m .map-joined .result) (m .map-joined .ensures) (not-driven (d .before)) (not-read d) (c .before .if3 .taken)),
@@ -162,9 +165,9 @@ cast-count c = search needs
 
 loop2-holds : tie.Need-loop2-holds Inv-loop μ-loop Inv-loop2 μ-loop2
 loop2-holds c =
-    let s = c .before .before .before .before .before .before .before in
+    let s = c .before .before .before .before .before .before .before .before .before in
     let p = s .args .t1 in
-    let m = c .before .map-joined .result in (
+    let m = c .before .before .before .map-joined .result in (
       omega arith,
       ap (holding p) (paste-zero (p .tables) (p .used) (newRecords p m)),
       rw (append-nil (tablesOf p)) (s .pre .2),
@@ -183,7 +186,7 @@ element-copy-out-lut c = omega arith
 next-level-requires : tie.Need-next-level-requires Inv-loop μ-loop Inv-loop2 μ-loop2
 next-level-requires c κs =
     let l = c .before .before .before .before .loop2 in
-    (omega (arith, capacity-fits (c .before .before .before .before .before .before .before .before .before .before .before .before)), levels-small (l .levels) _ (l .inv .2))
+    (omega (arith, capacity-fits (c .before .before .before .before .before .before .before .before .before .before .before .before .before .before)), levels-small (l .levels) _ (l .inv .2))
 
 mul-t-2 : tie.Need-mul-t-2 Inv-loop μ-loop Inv-loop2 μ-loop2
 mul-t-2 c = omega arith
@@ -199,23 +202,24 @@ loop2-less c = omega arith
 
 loop2-again : tie.Need-loop2-again Inv-loop μ-loop Inv-loop2 μ-loop2
 loop2-again c =
-    let f = c .before .before .before .before .before .before .before .before .before .map-joined in
+    let f = c .before .before .before .before .before .before .before .before .before .before .before .map-joined in
     let m = f .result in
-    let s = c .before .before .before .before .before .before .before .before .before .before .before .before .before .before .before in
+    let s = c .before .before .before .before .before .before .before .before .before .before .before .before .before .before .before .before .before in
     let p = s .args .t1 in
     let l = c .before .before .before .before .before .before .before .loop2 in
     let n = c .before .before .next-level in
     let r = getD (m .tables) (l .n) noTable in
     let q : Table → Part = λ t. holding p (set (pasted p m (l .n)) (p .used + l .n) t) in
     let e : pasted p m (suc (l .n)) ≡ pasted p m (l .n + 1) = rw add-one in
+    let left = c .before .before .before .before .before .before .before .before .if3 .left in
     let h = self-shaped s in (
       omega arith,
       ap (λ o. holding o (set (o .tables) (p .used + l .n) (atLevel r (n .result)))) (l .inv .1)
           ∙ ap q (ap (atLevel r) (n .ensures .0) ∙ store-record p h (s .pre .0) (s .args .sheet) m (f .ensures) (l .levels) (l .n) (omega arith) (l .inv .2))
-          ∙ ap (holding p) (paste-suc (p .tables) (p .used) (newRecords p m) (l .n) blank (omega (arith, h .records, capacity-fits s))
+          ∙ ap (holding p) (paste-suc (p .tables) (p .used) (newRecords p m) (l .n) blank (omega (arith, h .records, capacity-fits s, left))
           (omega (arith, new-room p h (s .pre .0) (s .args .sheet) m (f .ensures))) ∙ e),
       subst (λ xs. LevelsStand xs (tablesOf p ++ take (l .n + 1) (newTables m))) (sym (n .ensures .1))
-          (store-levels p h (s .pre .0) (s .args .sheet) m (f .ensures) (l .levels) (l .n) (omega arith) (l .inv .2) (s .pre .1 .out-net .1) (omega (arith, capacity-fits s))),
+          (store-levels p h (s .pre .0) (s .args .sheet) m (f .ensures) (l .levels) (l .n) (omega arith) (l .inv .2) (s .pre .1 .out-net .1) (omega (arith, capacity-fits s, left))),
       ap length (n .ensures .1) ∙ noted-length (l .levels) (p .used + l .n) (r .net) (levelIn (l .levels) (lutReads r)) ∙ l .inv .3,
     )
 
@@ -228,7 +232,7 @@ same-length c = c .before .loop2 .inv .3
 returns-4 : tie.Need-returns-4 Inv-loop μ-loop Inv-loop2 μ-loop2
 returns-4 c =
     let l = c .before .loop2 in
-    let m = c .before .before .before in
+    let m = c .before .before .before .before .before in
     let d = m .before in
     let s = d .before .before .before .before .before in
     let p = s .args .t1 in
@@ -264,6 +268,7 @@ offer-spec =
     map-joined-requires
     cast-needed
     sub-if3
+    sub-if3-2
     refused-requires-3
     returns-3
     cast-count

@@ -26,7 +26,7 @@ abbrev μ-loop : tie.MeasureT-loop
 loop-holds : tie.Need-loop-holds Inv-loop μ-loop
 loop-holds c =
     let s = c .before .before .before in
-    let t = s .good .0 .1 .1 .1 .1 .1 .0 in
+    let t = s .good .0 .1 .1 .1 .1 .1 .1 .0 in
     let a = s .args in
     (set-start (a .self) (a .lengths .now) (a .text .now) (shaped (a .self) (t .0) (t .1 .0 .1) (t .1 .1)) (s .pre .0) (s .pre .2), s .pre .1, refl)
 
@@ -82,7 +82,7 @@ returns c =
     let l = t .before .before .before .before .before .loop in
     let a = t .before .before .before .before .before .before .before .before .before .args in
     subst (SetEnded (a .self) (a .lengths .now) (a .text .now)) (sym (c .with-answer .ensures))
-    (set-stop (l .inv .0) (omega arith) (t .take .result .part) (t .take .result .answer) (sheet-added t) (λ e. miss (1 ∷ 2 ∷ 3 ∷ 4 ∷ 5 ∷ []) 0 tt (rw e at (m .match .keys2))))
+    (set-stop (l .inv .0) (omega arith) (t .take .result .part) (t .take .result .answer) (sheet-added t) (λ e. miss (1 ∷ 2 ∷ 3 ∷ 4 ∷ 5 ∷ 6 ∷ 7 ∷ []) 0 tt (rw e at (m .match .keys2))))
 
 add-i : tie.Need-add-i Inv-loop μ-loop
 add-i c = omega arith
