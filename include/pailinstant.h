@@ -12,7 +12,7 @@
 extern "C" {
 #endif
 
-/* The bytes of the longest list: this much room is always enough for pailinstant_map and pailinstant_add_set. */
+/* The bytes of the longest list: this much room is always enough for pailinstant_map and for all that adds sheets to a list. */
 #define PAILINSTANT_LONGEST 60819
 
 /* The numbers of the longest list: this much room is always enough for pailinstant_read_list. */
@@ -22,9 +22,13 @@ extern "C" {
 #define PAILINSTANT_REFUSAL(answer) (((answer) >> 16) & 65535u)
 #define PAILINSTANT_LINE(answer) ((answer) & 65535u)
 
-/* Of an answer of pailinstant_add_set of 65536 or more: besides the refusal's number its place, and the sheet's position in the set. */
+/* Of a refusal of a call that adds or reserves sheets: besides its number its place, and the sheet's position in the set. */
 #define PAILINSTANT_PLACE(answer) ((answer) & 65535u)
 #define PAILINSTANT_POSITION(answer) ((answer) >> 32)
+
+/* Of an answer of pailinstant_reserve: the number of tables set aside, 0 for a refusal, and the output net that they are for. */
+#define PAILINSTANT_RESERVED(answer) ((answer) >> 48)
+#define PAILINSTANT_NET(answer) ((answer) & 65535u)
 
 /* Writes what the mapping program prints for the input, the list or one line of a refusal, to the front of `output`, and gives how many
  * bytes that is. Where the room is too small it writes nothing and gives 0. */
@@ -51,6 +55,34 @@ uint32_t pailinstant_read_list(const uint8_t *text, size_t text_len, uint64_t *n
  * is not named here is 0. */
 uint64_t pailinstant_add_set(const uint8_t *list, size_t list_len, const uint8_t *text, size_t text_len, const uint32_t *lengths,
                              size_t lengths_len, uint8_t *output, size_t output_len);
+
+/* A reservation sets tables of a part aside for a sheet. A list does not show it, so a program keeps two numbers beside the list:
+ * `reserved`, the number of tables set aside, and `net`, the output net that they are for, both 0 where nothing is reserved. Each of the
+ * calls below takes the list with its two numbers. A refusal is 2^32 x the position + 65536 x the number + the place, the position 0 but for
+ * a sheet of a set: first those of the list, with its line as the place; then 20 where the two numbers are no reservation of the list's
+ * part; then 35, 36 or 33 and those of a sheet, as said below; last 14 where the room is too small. A place that is not named is 0. A
+ * refused call writes nothing and leaves the reservation as it is. */
+
+/* Sets aside as many tables as the sheet needs, takes none, and gives 2^48 x their number + the sheet's output net, without its sign: these
+ * are the two numbers from now on, and the list stays as it is. A refusal is below 2^48: 35 where a reservation is open; then what refuses
+ * the sheet in a set, with its line, from 1, as the place. */
+uint64_t pailinstant_reserve(const uint8_t *list, size_t list_len, uint16_t reserved, uint16_t net, const uint8_t *text, size_t text_len);
+
+/* Adds the sheet, which may use the tables set aside and all others that are not used, and closes the reservation: both numbers are 0 from
+ * now on. It writes the list of the part with the sheet added to the front of `output`, and gives how many bytes that is. A refusal is 65536
+ * or more: 36 where none is open; then the sheet's own, with its line as the place; 36 where its output net is not the reserved one; then
+ * 21, 22 or 23. The sheet that was reserved is not refused 23, where every list since came with its two numbers as a call gave them. */
+uint64_t pailinstant_commit(const uint8_t *list, size_t list_len, uint16_t reserved, uint16_t net, const uint8_t *text, size_t text_len,
+                            uint8_t *output, size_t output_len);
+
+/* Closes the reservation, and gives 0: both numbers are 0 from now on, and the list stays as it is. A refusal is 65536 or more: 36 where
+ * none is open. */
+uint64_t pailinstant_withdraw(const uint8_t *list, size_t list_len, uint16_t reserved, uint16_t net);
+
+/* As pailinstant_add_set, beside the reservation, which stays as it is: the sheets find only the tables that are neither used nor set
+ * aside. */
+uint64_t pailinstant_add_set_beside(const uint8_t *list, size_t list_len, uint16_t reserved, uint16_t net, const uint8_t *text,
+                                    size_t text_len, const uint32_t *lengths, size_t lengths_len, uint8_t *output, size_t output_len);
 
 #ifdef __cplusplus
 }

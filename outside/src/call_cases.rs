@@ -15,6 +15,7 @@ use crate::samples;
 use crate::set_cases::{apart, driving, fault, one_text, reading};
 use crate::sheet::Sheet;
 use crate::{GATES, NETS, TABLES};
+use When::{Always, Closed, Open};
 
 /// One call of a sequence, what it was made as, and what is right for it.
 pub struct Step {
@@ -66,7 +67,6 @@ enum When {
     Closed,
     Always,
 }
-use When::{Always, Closed, Open};
 
 /// The kinds of calls on sound parts whose answer is known.
 const KINDS: [(&str, When, Make); 45] = [
@@ -86,41 +86,42 @@ const KINDS: [(&str, When, Make); 45] = [
     ("a set with a fault", Always, faulty_set),
     ("lengths that do not add up", Always, wrong_lengths),
     ("a reservation of all tables left", Closed, |rng, known| Some(known.reserving(sheet_of(rng, known, known.left())?))),
-    ("a reservation of a table too many", Closed, |rng, known| Some(reserve_refused(&sheet_of(rng, known, known.left() + 1)?, 23))),
+    ("a reservation of a table too many", Closed, |rng, known| Some(reserve_refused(&sheet_of(rng, known, known.left() + 1)?.sheet, 23))),
     ("a reservation of a driven net", Closed, |rng, known| Some(reserve_refused(&one_clashing(rng, known, &known.driven)?, 21))),
     ("a reservation of a read net", Closed, |rng, known| Some(reserve_refused(&one_clashing(rng, known, &known.only_read())?, 22))),
     ("a reservation of a sheet with a fault", Closed, |rng, known| faulty(rng, known, None, |text| Call::Reserve { text })),
-    ("a second reservation", Open, |rng, known| Some(reserve_refused(&some_sheet(rng, known, TABLES)?, 35))),
-    ("a second reservation of the same sheet", Open, |_, known| Some(reserve_refused(known.reserved.as_ref()?, 35))),
+    ("a second reservation", Open, |rng, known| Some(reserve_refused(&any_sheet(rng, known)?, 35))),
+    ("a second reservation of the same sheet", Open, |_, known| Some(reserve_refused(&known.reserved.as_ref()?.sheet, 35))),
     ("a second reservation, of a driven net", Open, |rng, known| Some(reserve_refused(&one_clashing(rng, known, &known.driven)?, 35))),
     ("a second reservation, of a sheet with a fault", Open, |rng, known| faulty(rng, known, Some(35), |text| Call::Reserve { text })),
-    ("a commit with none open", Closed, |rng, known| Some(commit_refused(&some_sheet(rng, known, TABLES)?, 36))),
+    ("a commit with none open", Closed, |rng, known| Some(commit_refused(&any_sheet(rng, known)?, 36))),
     ("a commit with none open, of a sheet with a fault", Closed, |rng, known| faulty(rng, known, Some(36), |text| Call::Commit { text })),
     ("a commit of the reserved sheet", Open, |_, known| known.committing(known.reserved.clone()?)),
     ("a commit of the reserved sheet inverted", Open, |_, known| known.committing(inverted(known.reserved.clone()?))),
     ("a commit of the reserved sheet, its net driven since", Open, |_, known| {
-        commit_taken(known, known.reserved.clone(), &known.driven, 21)
+        commit_taken(known, known.reserved.clone()?, &known.driven, 21)
     }),
     ("a commit of the reserved sheet, its net read since", Open, |_, known| {
-        commit_taken(known, known.reserved.clone(), &known.only_read(), 22)
+        commit_taken(known, known.reserved.clone()?, &known.only_read(), 22)
     }),
     ("a commit of another sheet of the net", Open, commit_any),
     ("a commit of fewer tables than are set aside", Open, |rng, known| commit_between(rng, known, 1, known.set_aside() - 1)),
     ("a commit of more tables than are set aside", Open, |rng, known| commit_between(rng, known, known.set_aside() + 1, known.left())),
     ("a commit of all tables that are not used", Open, |rng, known| commit_between(rng, known, known.left(), known.left())),
     ("a commit of a table too many", Open, commit_too_many),
-    ("a commit of a driven net", Open, |rng, known| commit_taken(known, sheet_of_reserved(rng, known), &known.driven, 21)),
-    ("a commit of a read net", Open, |rng, known| commit_taken(known, sheet_of_reserved(rng, known), &known.only_read(), 22)),
-    ("a commit of another net", Open, |rng, known| commit_other(known, some_sheet(rng, known, known.left())?)),
+    ("a commit of a driven net", Open, |rng, known| commit_taken(known, sheet_of_reserved(rng, known)?, &known.driven, 21)),
+    ("a commit of a read net", Open, |rng, known| commit_taken(known, sheet_of_reserved(rng, known)?, &known.only_read(), 22)),
+    ("a commit of another net", Open, |rng, known| commit_other(known, any_sheet(rng, known)?)),
     ("a commit of another net, a driven one", Open, |rng, known| commit_other(known, one_clashing(rng, known, &known.driven)?)),
     ("a commit of another net, a read one", Open, |rng, known| commit_other(known, one_clashing(rng, known, &known.only_read())?)),
-    ("a commit of another net, of a table too many", Open, |rng, known| commit_other(known, sheet_of(rng, known, known.left() + 1)?)),
+    ("a commit of another net, of a table too many", Open, |rng, known| commit_other(known, sheet_of(rng, known, known.left() + 1)?.sheet)),
     ("a commit of a sheet with a fault", Open, faulty_commit),
     ("a commit of another net, of a sheet with a fault", Open, |rng, known| faulty(rng, known, None, |text| Call::Commit { text })),
     ("a withdrawal", Open, |_, known| Some((Call::Withdraw, Ok(known.without_reservation())))),
     ("a withdrawal with none open", Closed, |_, _| Some((Call::Withdraw, Err(placeless(36))))),
 ];
 
+/// The kinds of calls that are made as one of those, and then handed over with other numbers, with another list, or with both.
 const UNSOUND: &str = "numbers that are no reservation";
 const DAMAGED: &str = "a damaged list";
 const BOTH: &str = "a damaged list, and numbers that are no reservation";
@@ -155,7 +156,7 @@ pub fn sequence(seed: u64, index: u64) -> Sequence {
     Sequence { list: part.list().into_bytes(), reservation, steps }
 }
 
-/// A part with room for a few tables, or for all; it has none, or those of some sheets, or any.
+/// A part of no tables, of some sheets' tables or of any, with room for a few more, for many or for none.
 fn start(rng: &mut Rng) -> Part {
     let mut part = match rng.below(24) {
         0 => list_cases::part(rng),
@@ -197,8 +198,7 @@ fn next(rng: &mut Rng, known: &mut Known, unsound: &mut bool) -> Step {
 /// A call of a kind that fits the reservation. Where none is open, one of the first kind, which opens one, is tried more often than others.
 fn made(rng: &mut Rng, known: &Known) -> (&'static str, Made) {
     loop {
-        let more = rng.once_in(8);
-        let (kind, when, make) = if more { &KINDS[0] } else { rng.pick(&KINDS) };
+        let (kind, when, make) = if rng.once_in(8) { &KINDS[0] } else { rng.pick(&KINDS) };
         let fits = match when {
             Open => known.set_aside() > 0,
             Closed => known.set_aside() == 0,
@@ -333,18 +333,19 @@ impl Known {
     /// The accepted reservation of a sheet.
     fn reserving(&self, counted: Counted) -> Made {
         let reservation = Reservation { tables: counted.tables as u16, net: counted.sheet.net };
-        let call = Call::Reserve { text: text(&counted) };
+        let call = Call::Reserve { text: text(&counted.sheet) };
         (call, Ok(Known { reservation, reserved: Some(counted), ..self.clone() }))
     }
 
     /// The accepted commit of a sheet, where the reserved net is free.
     fn committing(&self, counted: Counted) -> Option<Made> {
-        self.is_free(self.reservation.net).then(|| (Call::Commit { text: text(&counted) }, Ok(self.without_reservation().with(&counted))))
+        self.is_free(self.reservation.net)
+            .then(|| (Call::Commit { text: text(&counted.sheet) }, Ok(self.without_reservation().with(&counted))))
     }
 }
 
-fn text(counted: &Counted) -> Vec<u8> {
-    counted.sheet.text().into_bytes()
+fn text(sheet: &Sheet) -> Vec<u8> {
+    sheet.text().into_bytes()
 }
 
 fn inverted(mut counted: Counted) -> Counted {
@@ -357,12 +358,12 @@ fn placeless(number: u32) -> Refusal {
     Refusal::new(number, 0, 0)
 }
 
-fn reserve_refused(counted: &Counted, number: u32) -> Made {
-    (Call::Reserve { text: text(counted) }, Err(placeless(number)))
+fn reserve_refused(sheet: &Sheet, number: u32) -> Made {
+    (Call::Reserve { text: text(sheet) }, Err(placeless(number)))
 }
 
-fn commit_refused(counted: &Counted, number: u32) -> Made {
-    (Call::Commit { text: text(counted) }, Err(placeless(number)))
+fn commit_refused(sheet: &Sheet, number: u32) -> Made {
+    (Call::Commit { text: text(sheet) }, Err(placeless(number)))
 }
 
 /// Any net; one in eight is the least or the greatest.
@@ -399,28 +400,46 @@ fn sheet_of(rng: &mut Rng, known: &Known, tables: usize) -> Option<Counted> {
     sheet_for(rng, known.k, net, tables)
 }
 
+/// Any sheet of a free net.
+fn any_sheet(rng: &mut Rng, known: &Known) -> Option<Sheet> {
+    if rng.once_in(2) {
+        let tables = rng.between(1, 8);
+        return sheet_of(rng, known, tables).map(|counted| counted.sheet);
+    }
+    generated(rng, known)
+}
+
 /// Any sheet of a free net that takes at most so many tables.
 fn some_sheet(rng: &mut Rng, known: &Known, most: usize) -> Option<Counted> {
     if rng.once_in(2) {
         let tables = rng.between(1, most.clamp(1, 8));
         return sheet_of(rng, known, tables).filter(|_| tables <= most);
     }
-    let sheet = generate::sheets(rng, 1).pop()?;
+    let sheet = generated(rng, known)?;
     let tables = generate::tables(&sheet, known.k);
-    (tables <= most && known.is_free(sheet.net)).then_some(Counted { sheet, tables })
+    (tables <= most).then_some(Counted { sheet, tables })
+}
+
+/// A generated sheet, if its net is free.
+fn generated(rng: &mut Rng, known: &Known) -> Option<Sheet> {
+    generate::sheets(rng, 1).pop().filter(|sheet| known.is_free(sheet.net))
 }
 
 /// A sheet of one of these nets.
-fn one_clashing(rng: &mut Rng, known: &Known, nets: &BTreeSet<u16>) -> Option<Counted> {
+fn one_clashing(rng: &mut Rng, known: &Known, nets: &BTreeSet<u16>) -> Option<Sheet> {
     let net = any_of(rng, nets)?;
-    let Counted { sheet, tables } = some_sheet(rng, known, TABLES)?;
-    Some(Counted { sheet: driving(sheet, net)?, tables })
+    driving(any_sheet(rng, known)?, net)
 }
 
-/// A set of these sheets.
-fn set(sheets: &[Counted]) -> Call {
-    let (text, lengths) = one_text(&sheets.iter().map(text).collect::<Vec<Vec<u8>>>());
+/// A set of these texts.
+fn set(texts: &[Vec<u8>]) -> Call {
+    let (text, lengths) = one_text(texts);
     Call::AddSet { text, lengths }
+}
+
+/// The text of each of these sheets.
+fn texts(sheets: &[Counted]) -> Vec<Vec<u8>> {
+    sheets.iter().map(|counted| text(&counted.sheet)).collect()
 }
 
 /// A set of one to three sheets that find tables enough.
@@ -431,7 +450,7 @@ fn set_that_fits(rng: &mut Rng, known: &Known) -> Option<Made> {
         after = after.with(&counted);
         sheets.push(counted);
     }
-    Some((set(&sheets), Ok(after)))
+    Some((set(&texts(&sheets)), Ok(after)))
 }
 
 /// A set of up to four sheets that take so many tables together: it is refused at the first sheet that finds too few.
@@ -448,7 +467,7 @@ fn set_of(rng: &mut Rng, known: &Known, tables: usize) -> Option<Made> {
         after = after.with(&sheets[sheets.len() - 1]);
     }
     let wanted = short.map_or(Ok(after), |position| Err(Refusal::new(23, position, 0)));
-    (!sheets.is_empty()).then(|| (set(&sheets), wanted))
+    (!sheets.is_empty()).then(|| (set(&texts(&sheets)), wanted))
 }
 
 /// No sheet, or one that finds tables enough, to stand before another.
@@ -462,7 +481,7 @@ fn set_with(rng: &mut Rng, known: &Known, last: Counted) -> Option<Made> {
     let after = sheets.iter().fold(known.clone(), Known::with);
     (last.tables <= after.beside() && after.is_free(last.sheet.net)).then_some(())?;
     sheets.push(last);
-    Some((set(&sheets), Ok(after.with(&sheets[sheets.len() - 1]))))
+    Some((set(&texts(&sheets)), Ok(after.with(&sheets[sheets.len() - 1]))))
 }
 
 fn drives_reserved(rng: &mut Rng, known: &Known) -> Option<Made> {
@@ -475,7 +494,7 @@ fn drives_reserved_refused(rng: &mut Rng, known: &Known) -> Option<Made> {
     let net = known.reservation.net;
     let tables = rng.between(known.beside() + 1, known.left());
     let only = sheet_for(rng, known.k, net, tables).filter(|_| known.is_free(net))?;
-    Some((set(&[only]), Err(Refusal::new(23, 1, 0))))
+    Some((set(&texts(&[only])), Err(Refusal::new(23, 1, 0))))
 }
 
 fn reads_reserved(rng: &mut Rng, known: &Known) -> Option<Made> {
@@ -487,19 +506,18 @@ fn reads_reserved(rng: &mut Rng, known: &Known) -> Option<Made> {
 
 /// A set whose last sheet drives one of these nets.
 fn clashing_set(rng: &mut Rng, known: &Known, nets: &BTreeSet<u16>, number: u32) -> Option<Made> {
-    let mut sheets = before(rng, known)?;
-    sheets.push(one_clashing(rng, known, nets)?);
-    Some((set(&sheets), Err(Refusal::new(number, sheets.len(), 0))))
+    let mut texts = texts(&before(rng, known)?);
+    texts.push(text(&one_clashing(rng, known, nets)?));
+    Some((set(&texts), Err(Refusal::new(number, texts.len(), 0))))
 }
 
 /// A set whose last sheet has a fault.
 fn faulty_set(rng: &mut Rng, known: &Known) -> Option<Made> {
-    let mut texts: Vec<Vec<u8>> = before(rng, known)?.iter().map(text).collect();
-    let sheet = some_sheet(rng, known, TABLES)?.sheet;
+    let mut texts = texts(&before(rng, known)?);
+    let sheet = any_sheet(rng, known)?;
     let bad = fault(rng, &sheet);
     texts.push(bad.text);
-    let (text, lengths) = one_text(&texts);
-    Some((Call::AddSet { text, lengths }, Err(Refusal::new(bad.number, texts.len(), bad.line))))
+    Some((set(&texts), Err(Refusal::new(bad.number, texts.len(), bad.line))))
 }
 
 /// A set, fitting or not, of which one length is a byte too long or too short, or that has none.
@@ -517,14 +535,14 @@ fn wrong_lengths(rng: &mut Rng, known: &Known) -> Option<Made> {
 
 /// A call of a sheet with a fault, which is refused for that, or before it with `number`.
 fn faulty(rng: &mut Rng, known: &Known, number: Option<u32>, call: fn(Vec<u8>) -> Call) -> Option<Made> {
-    let sheet = some_sheet(rng, known, TABLES)?.sheet;
+    let sheet = any_sheet(rng, known)?;
     let bad = fault(rng, &sheet);
     Some((call(bad.text), Err(number.map_or(Refusal::new(bad.number, 0, bad.line), placeless))))
 }
 
 /// A commit of a sheet of the reserved net with a fault.
 fn faulty_commit(rng: &mut Rng, known: &Known) -> Option<Made> {
-    let sheet = driving(some_sheet(rng, known, TABLES)?.sheet, known.reservation.net)?;
+    let sheet = driving(any_sheet(rng, known)?, known.reservation.net)?;
     let bad = fault(rng, &sheet);
     Some((Call::Commit { text: bad.text }, Err(Refusal::new(bad.number, 0, bad.line))))
 }
@@ -543,7 +561,7 @@ fn commit_between(rng: &mut Rng, known: &Known, least: usize, most: usize) -> Op
 
 fn commit_too_many(rng: &mut Rng, known: &Known) -> Option<Made> {
     known.is_free(known.reservation.net).then_some(())?;
-    Some(commit_refused(&sheet_for(rng, known.k, known.reservation.net, known.left() + 1)?, 23))
+    Some(commit_refused(&sheet_for(rng, known.k, known.reservation.net, known.left() + 1)?.sheet, 23))
 }
 
 /// A sheet of the reserved net, which may need too many tables.
@@ -552,23 +570,21 @@ fn sheet_of_reserved(rng: &mut Rng, known: &Known) -> Option<Counted> {
     sheet_for(rng, known.k, known.reservation.net, tables)
 }
 
-/// A commit of a sheet of the reserved net, which is one of these.
-fn commit_taken(known: &Known, counted: Option<Counted>, nets: &BTreeSet<u16>, number: u32) -> Option<Made> {
-    let counted = counted.filter(|_| nets.contains(&known.reservation.net))?;
-    Some(commit_refused(&counted, number))
+/// A commit of a sheet of the reserved net, if that is one of these.
+fn commit_taken(known: &Known, counted: Counted, nets: &BTreeSet<u16>, number: u32) -> Option<Made> {
+    nets.contains(&known.reservation.net).then(|| commit_refused(&counted.sheet, number))
 }
 
-/// A commit of a sheet of a net that is not the reserved one.
-fn commit_other(known: &Known, counted: Counted) -> Option<Made> {
-    (counted.sheet.net != known.reservation.net).then(|| commit_refused(&counted, 36))
+/// A commit of a sheet, if its net is not the reserved one.
+fn commit_other(known: &Known, sheet: Sheet) -> Option<Made> {
+    (sheet.net != known.reservation.net).then(|| commit_refused(&sheet, 36))
 }
 
 /// A set, a reservation or a commit of the sheets of an input with faults.
 fn damaged_sheets(rng: &mut Rng, known: &Known) -> Option<Call> {
     let texts = generate::damaged_sheets(rng);
     if rng.once_in(2) {
-        let (text, lengths) = one_text(&texts);
-        return Some(Call::AddSet { text, lengths });
+        return Some(set(&texts));
     }
     let text = texts.into_iter().next()?;
     Some(if known.set_aside() > 0 { Call::Commit { text } } else { Call::Reserve { text } })

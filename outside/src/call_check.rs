@@ -5,8 +5,8 @@ use crate::refusal::Refusal;
 use crate::reservation::{Call, Done, Reservation, State};
 use crate::set_check::{check_rooms, part_of, write_list};
 
-/// What is tested: given a list, its part's reservation, a call and an output, it writes the list with the call's sheets added to the output's
-/// front, where the call adds some, and gives the count of bytes, 0 where it writes none, and the reservation after the call.
+/// What is tested: given a list, its part's reservation, a call and an output, it writes the list with the call's sheets added to the
+/// output's front, where the call adds some, and gives the count of bytes, 0 where it writes none, and the reservation after the call.
 pub type Perform = dyn Fn(&[u8], Reservation, &Call, &mut [u8]) -> Result<(usize, Reservation), Refusal>;
 
 /// The same by the independent implementation.
@@ -52,9 +52,9 @@ impl Walk<'_> {
         Walk { perform, list: sequence.list.clone(), reservation: sequence.reservation, reserved: None }
     }
 
-    /// Makes the next call and tests all that it gives: the right answer, a list by its rules, nothing altered besides, 14 where the output is
-    /// too short, and then the guarantee. The independent answer is tested by what is known of the call from its making. It gives the number of
-    /// the refusal, 0 for an accepted call. `output` has `LONGEST` or more bytes.
+    /// Makes the next call and tests all that it gives: the right answer, a list by its rules, nothing altered besides, 14 where the output
+    /// is too short, and then the guarantee. The independent answer is tested by what is known of the call from its making. It gives the
+    /// number of the refusal, 0 for an accepted call. `output` has `LONGEST` or more bytes.
     pub fn step(&mut self, step: &Step, output: &mut [u8]) -> Result<u32, String> {
         self.take_numbers(step);
         let list = step.list.as_ref().unwrap_or(&self.list);
@@ -104,8 +104,8 @@ impl Walk<'_> {
         self.check_guarantee(output)
     }
 
-    /// The guarantee: while the reservation is open, the sheet that it was made for is not refused 23 at a commit; only its net may have been
-    /// driven or read since.
+    /// The guarantee: while the reservation is open, the sheet that it was made for is not refused 23 at a commit; only its net may have
+    /// been driven or read since.
     fn check_guarantee(&self, output: &mut [u8]) -> Result<(), String> {
         let Some(text) = &self.reserved else { return Ok(()) };
         match (self.perform)(&self.list, self.reservation, &Call::Commit { text: text.clone() }, output) {

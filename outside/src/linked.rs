@@ -19,9 +19,9 @@ extern "C" {
     fn pailinstant_read_list(text: *const u8, text_len: usize, numbers: *mut u64, numbers_len: usize) -> u32;
 
     /// Adds a set of sheets to the part whose list the `list_len` bytes at `list` are: the `text_len` bytes at `text`, of which each sheet
-    /// has as many as the next of the `lengths_len` numbers at `lengths` says. Where the set is accepted it writes the list of the part with
-    /// the sheets added to `output`, which has room for `output_len` bytes, and gives how many bytes that is. Else it writes nothing, and
-    /// gives 2^32 × the sheet's position in the set + 65536 × the refusal's number + the place: 14 where the room is too small, which
+    /// has as many as the next of the `lengths_len` numbers at `lengths` says. Where the set is accepted it writes the list of the part
+    /// with the sheets added to `output`, which has room for `output_len` bytes, and gives how many bytes that is. Else it writes nothing,
+    /// and gives 2^32 × the sheet's position in the set + 65536 × the refusal's number + the place: 14 where the room is too small, which
     /// `LONGEST` bytes never are.
     fn pailinstant_add_set(
         list: *const u8,
@@ -34,8 +34,8 @@ extern "C" {
         output_len: usize,
     ) -> u64;
 
-    /// The same beside a reservation: `reserved` tables are set aside for the output net `net`, both 0 for none, and the sheets find only the
-    /// others. It gives 65536 × 20 where the two numbers are no reservation of the list's part.
+    /// The same beside a reservation: `reserved` tables are set aside for the output net `net`, both 0 for none, and the sheets find only
+    /// the others. It gives 65536 × 20 where the two numbers are no reservation of the list's part.
     fn pailinstant_add_set_beside(
         list: *const u8,
         list_len: usize,
@@ -49,8 +49,8 @@ extern "C" {
         output_len: usize,
     ) -> u64;
 
-    /// Sets tables aside for the sheet that the `text_len` bytes at `text` are, in the part of the list, and gives 2^48 × their number + the
-    /// output net; the list stays as it is. Else it gives 65536 × the refusal's number + the place.
+    /// Sets tables aside for the sheet that the `text_len` bytes at `text` are, in the part of the list, and gives 2^48 × their number +
+    /// the output net; the list stays as it is. Else it gives 65536 × the refusal's number + the place.
     fn pailinstant_reserve(list: *const u8, list_len: usize, reserved: u16, net: u16, text: *const u8, text_len: usize) -> u64;
 
     /// Adds the sheet that the `text_len` bytes at `text` are to the part of the list, with the tables set aside to be used, and closes the
@@ -145,8 +145,8 @@ fn written(answer: u64, output: &[u8]) -> Result<&[u8], CallRefused> {
     }
 }
 
-/// The list of the part whose list `list` is with a set of sheets added, written to the front of `output`: all of them or none. `lengths` has
-/// the bytes of each sheet in `text`. Where the set is refused, or `output` has too little room, it is left as it is.
+/// The list of the part whose list `list` is with a set of sheets added, written to the front of `output`: all of them or none. `lengths`
+/// has the bytes of each sheet in `text`. Where the set is refused, or `output` has too little room, it is left as it is.
 pub fn add_set<'a>(list: &[u8], text: &[u8], lengths: &[u32], output: &'a mut [u8]) -> Result<&'a [u8], CallRefused> {
     // SAFETY: all pointers are to memory that is ours for the whole call, as much as the lengths say, and `output` overlaps no other.
     let answer = unsafe {
@@ -202,8 +202,8 @@ pub fn add_set_beside<'a>(
     written(answer, output)
 }
 
-/// The reservation of the tables that the sheet `text` needs, in the part whose list `list` is; `reservation` is the one that there is, which
-/// must be none. The list stays as it is.
+/// The reservation of the tables that the sheet `text` needs, in the part whose list `list` is; `reservation` is the one that there is,
+/// which must be none. The list stays as it is.
 pub fn reserve(list: &[u8], reservation: Reservation, text: &[u8]) -> Result<Reservation, CallRefused> {
     // SAFETY: both pointers are to bytes that are ours for the whole call, as many as the lengths say.
     let answer = unsafe { pailinstant_reserve(list.as_ptr(), list.len(), reservation.tables, reservation.net, text.as_ptr(), text.len()) };
@@ -213,9 +213,9 @@ pub fn reserve(list: &[u8], reservation: Reservation, text: &[u8]) -> Result<Res
     }
 }
 
-/// The list of the part whose list `list` is with the sheet `text` added, written to the front of `output`. The sheet has the reserved output
-/// net and may use the tables set aside, and the reservation is closed. Where it is refused, or `output` has too little room, that is left as
-/// it is, and the reservation stays open.
+/// The list of the part whose list `list` is with the sheet `text` added, written to the front of `output`. The sheet has the reserved
+/// output net and may use the tables set aside, and the reservation is closed. Where it is refused, or `output` has too little room, that
+/// is left as it is, and the reservation stays open.
 pub fn commit<'a>(list: &[u8], reservation: Reservation, text: &[u8], output: &'a mut [u8]) -> Result<&'a [u8], CallRefused> {
     // SAFETY: all pointers are to memory that is ours for the whole call, as much as the lengths say, and `output` overlaps no other.
     let answer = unsafe {

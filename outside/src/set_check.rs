@@ -95,13 +95,15 @@ pub fn check_rooms<T: Copy + Debug + PartialEq>(
         if given != wanted {
             return Err(fault(format!("{given:?} where {wanted:?} is right")));
         }
-        let written = given.map_or(0, |(count, _)| count);
-        list = output[..written].to_vec();
-        output[..written].fill(UNTOUCHED);
-        if output.iter().fold(0, |altered, byte| altered | (byte ^ UNTOUCHED)) != 0 {
+        let (written, rest) = output.split_at_mut(given.map_or(0, |(count, _)| count));
+        if rest.iter().fold(0, |altered, byte| altered | (byte ^ UNTOUCHED)) != 0 {
             return Err(fault("what it should not alter is altered".into()));
         }
-        added.filter(|_| written > 0).map_or(Ok(()), |added| check_accepted(added, &list)).map_err(fault)?;
+        if let Some(added) = added.filter(|_| !written.is_empty() && written != list) {
+            list = written.to_vec();
+            check_accepted(added, &list).map_err(fault)?;
+        }
+        written.fill(UNTOUCHED);
     }
     Ok(list)
 }

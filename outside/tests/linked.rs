@@ -3,12 +3,14 @@
 
 mod common;
 
-use common::sets::{check_by_hand, check_longest, check_short_outputs};
-use common::{input, one_gate, text, AND, LIST};
+use common::{input, one_gate, reservations, sets, text, AND, LIST};
+use outside::call_cases::sequence;
+use outside::call_check::{self, Walk};
 use outside::check::check_output;
 use outside::explain::reason;
 use outside::generate::case;
-use outside::linked::{add_set, check_list, map, read_list, refusal, Refused, SetRefused, LONGEST, NUMBERS};
+use outside::linked::{add_set, add_set_beside, check_list, commit, map, read_list, refusal, reserve, withdraw};
+use outside::linked::{CallRefused, Refused, Reservation, LONGEST, NUMBERS};
 use outside::one_more::{grown, has_join, Place};
 use outside::program::read;
 use outside::set_cases;
@@ -46,9 +48,9 @@ fn lists_read_back() {
 
 #[test]
 fn sets_by_hand() {
-    check_by_hand(&set_check::linked);
-    check_short_outputs(&set_check::linked);
-    check_longest(&set_check::linked);
+    sets::check_by_hand(&set_check::linked);
+    sets::check_short_outputs(&set_check::linked);
+    sets::check_longest(&set_check::linked);
 }
 
 /// What the wrapper gives, by the answer's three parts.
@@ -59,9 +61,9 @@ fn a_set() {
     let new = "     4     8     1\n     1    20     2     1     2                    8\n";
     assert_eq!(add_set(b"     4     8     0\n", &sheets.as_bytes()[..38], &[38], &mut output), Ok(new.as_bytes()));
     let refused = add_set(b"     4     8     0\n", sheets.as_bytes(), &[38, 38], &mut output);
-    assert_eq!(refused, Err(SetRefused { number: 21, place: 0, position: 2 }));
+    assert_eq!(refused, Err(CallRefused { number: 21, place: 0, position: 2 }));
     let refused = add_set(&LIST.as_bytes()[..100], sheets.as_bytes(), &[38, 38], &mut output);
-    assert_eq!(refused, Err(SetRefused { number: 31, place: 2, position: 0 }));
+    assert_eq!(refused, Err(CallRefused { number: 31, place: 2, position: 0 }));
 }
 
 #[test]
@@ -70,6 +72,54 @@ fn generated_sets() {
     for index in 0..3000 {
         let case = set_cases::case(2, index);
         assert_eq!(check_add(&set_check::linked, &case, &set_check::answer(&case), &mut output), Ok(()), "{} {index}", case.kind);
+    }
+}
+
+#[test]
+fn reservations_by_hand() {
+    reservations::check_by_hand(&call_check::linked);
+    reservations::check_short_outputs(&call_check::linked);
+    reservations::check_sale(&call_check::linked);
+}
+
+/// What the wrappers give: three tables, two of them reserved for net 30 and taken for it.
+#[test]
+fn a_reservation() {
+    let list = b"     2     3     0\n";
+    let two_gates = text(&[&[-30, 2], &[1, 2, 1, 2], &[2, 2, 10001, 3]]);
+    let reserved = Reservation { tables: 2, net: 30 };
+    assert_eq!(reserve(list, Reservation::NONE, two_gates.as_bytes()), Ok(reserved));
+    assert_eq!(reserve(list, reserved, two_gates.as_bytes()), Err(CallRefused { number: 35, place: 0, position: 0 }));
+    assert_eq!(reserve(list, Reservation::NONE, b""), Err(CallRefused { number: 1, place: 1, position: 0 }));
+
+    let mut output = vec![0; LONGEST];
+    let one = "     2     3     1\n     1    31     2     1     2                    8\n";
+    let sheets = one_gate(31, AND, &[1, 2]) + &one_gate(32, AND, &[1, 2]);
+    assert_eq!(add_set_beside(list, reserved, &sheets.as_bytes()[..38], &[38], &mut output), Ok(one.as_bytes()));
+    let refused = add_set_beside(list, reserved, sheets.as_bytes(), &[38, 38], &mut output);
+    assert_eq!(refused, Err(CallRefused { number: 23, place: 0, position: 2 }));
+
+    let three = one.replacen("     1", "     3", 1)
+        + "     2     0     2     1     2                    8\n     3    30     2     3 10002                    1\n";
+    assert_eq!(commit(one.as_bytes(), reserved, two_gates.as_bytes(), &mut output), Ok(three.as_bytes()));
+    let refused = commit(one.as_bytes(), Reservation::NONE, two_gates.as_bytes(), &mut output);
+    assert_eq!(refused, Err(CallRefused { number: 36, place: 0, position: 0 }));
+
+    assert_eq!(withdraw(list, reserved), Ok(()));
+    assert_eq!(withdraw(list, Reservation { tables: 4, net: 30 }), Err(CallRefused { number: 20, place: 0, position: 0 }));
+    assert_eq!(withdraw(&list[..18], reserved), Err(CallRefused { number: 31, place: 0, position: 0 }));
+}
+
+#[test]
+fn generated_calls() {
+    let mut output = vec![0; LONGEST];
+    for index in 0..2000 {
+        let sequence = sequence(2, index);
+        let mut walk = Walk::of(&call_check::linked, &sequence);
+        for step in &sequence.steps {
+            let outcome = walk.step(step, &mut output);
+            assert!(outcome.is_ok(), "{} in {index}: {outcome:?}", step.kind);
+        }
     }
 }
 
@@ -116,7 +166,7 @@ fn the_refusals() {
         let mut output = [b'.'; 200];
         let sentence = String::from_utf8(refusal(number, &mut output).to_vec()).expect("plain words");
         assert_eq!(sentence, reason(number).unwrap_or(""));
-        assert_eq!(sentence.is_empty(), !matches!(number, 1..=15 | 20..=23 | 31..=33), "{number}");
+        assert_eq!(sentence.is_empty(), !matches!(number, 1..=15 | 20..=23 | 31..=33 | 35 | 36), "{number}");
         assert!(sentence.len() <= 128 && output[sentence.len()..].iter().all(|&byte| byte == b'.'));
     }
 }

@@ -1,10 +1,16 @@
 /* placer [LIST] reads a list, from the file or from standard input, and prints its numbers, a line for K, capacity and used and a line for
  * each table; or which line is refused, and why. placer LIST TEXT ROOM LENGTH.. adds the set of sheets in the file TEXT, of these lengths,
- * 32 at most, to the part of the list, and prints the new list, for which it has so many bytes of room; or what is refused, and why. Exit
- * status: 0 with a list, 1 with a refusal, 2 where nothing can be read. */
+ * 32 at most, to the part of the list, and prints the new list, for which it has so many bytes of room; or what is refused, and why.
+ *
+ * With a reservation of RESERVED tables for the net NET, both 0 for none, placer reserve LIST RESERVED NET TEXT prints the reservation that
+ * is made for the sheet in the file TEXT, placer commit LIST RESERVED NET TEXT ROOM prints the new list, placer withdraw LIST RESERVED NET
+ * says that it is withdrawn, and placer add LIST RESERVED NET TEXT ROOM LENGTH.. adds a set beside it.
+ *
+ * Exit status: 0 where nothing is refused, 1 with a refusal, 2 where nothing can be read. */
 #include <inttypes.h>
 #include <stdio.h>
 #include <stdlib.h>
+#include <string.h>
 
 #include "pailinstant.h"
 
@@ -84,38 +90,122 @@ static int read_list(const char *name)
     return 1;
 }
 
-static int print_set(uint64_t answer, const uint8_t *output)
+static int print_refused(uint64_t answer)
 {
-    if (answer < 65536) {
-        fwrite(output, 1, answer, stdout);
-        return 0;
-    }
     printf("refused %" PRIu64 " at place %" PRIu64 " of sheet %" PRIu64, PAILINSTANT_REFUSAL(answer), PAILINSTANT_PLACE(answer),
            PAILINSTANT_POSITION(answer));
     print_words(PAILINSTANT_REFUSAL(answer));
     return 1;
 }
 
-static int add_set(const char *list_name, const char *text_name, size_t room, const uint32_t *lengths, size_t count)
+static int print_written(uint64_t answer, const uint8_t *output)
 {
-    struct bytes list = read_input(list_name), text = read_input(text_name);
-    uint8_t *output = malloc(room + 1);
+    if (answer >= 65536)
+        return print_refused(answer);
+    fwrite(output, 1, answer, stdout);
+    return 0;
+}
+
+static int print_reserved(uint64_t answer)
+{
+    if (PAILINSTANT_RESERVED(answer) == 0)
+        return print_refused(answer);
+    printf("reserved %" PRIu64 " for net %" PRIu64 "\n", PAILINSTANT_RESERVED(answer), PAILINSTANT_NET(answer));
+    return 0;
+}
+
+static int print_withdrawn(uint64_t answer)
+{
+    if (answer != 0)
+        return print_refused(answer);
+    puts("withdrawn");
+    return 0;
+}
+
+/* What a call is made with; each uses some of it. */
+struct call {
+    struct bytes list, text;
+    uint16_t reserved, net;
+    uint8_t *output;
+    size_t room;
+    uint32_t lengths[32];
+    size_t count;
+};
+
+static int add_set(const struct call *c)
+{
+    uint64_t answer = pailinstant_add_set(c->list.start, c->list.count, c->text.start, c->text.count, c->lengths, c->count, c->output,
+                                          c->room);
+    return print_written(answer, c->output);
+}
+
+static int add_set_beside(const struct call *c)
+{
+    uint64_t answer = pailinstant_add_set_beside(c->list.start, c->list.count, c->reserved, c->net, c->text.start, c->text.count,
+                                                 c->lengths, c->count, c->output, c->room);
+    return print_written(answer, c->output);
+}
+
+static int reserve(const struct call *c)
+{
+    return print_reserved(pailinstant_reserve(c->list.start, c->list.count, c->reserved, c->net, c->text.start, c->text.count));
+}
+
+static int commit(const struct call *c)
+{
+    uint64_t answer = pailinstant_commit(c->list.start, c->list.count, c->reserved, c->net, c->text.start, c->text.count, c->output,
+                                         c->room);
+    return print_written(answer, c->output);
+}
+
+static int withdraw(const struct call *c)
+{
+    return print_withdrawn(pailinstant_withdraw(c->list.start, c->list.count, c->reserved, c->net));
+}
+
+typedef int make(const struct call *);
+
+/* The call of this name beside a reservation; NULL where there is none. */
+static make *named(const char *name)
+{
+    if (strcmp(name, "reserve") == 0)
+        return reserve;
+    if (strcmp(name, "commit") == 0)
+        return commit;
+    if (strcmp(name, "withdraw") == 0)
+        return withdraw;
+    return strcmp(name, "add") == 0 ? add_set_beside : NULL;
+}
+
+/* Makes a call with the list of this name and what else it is made with: the name of a text, its room and its lengths, as far as given. */
+static int run(make *made, struct call *c, const char *list, char **rest, int count)
+{
     int status = 2;
-    if (list.start != NULL && text.start != NULL && output != NULL)
-        status = print_set(pailinstant_add_set(list.start, list.count, text.start, text.count, lengths, count, output, room), output);
-    free(list.start);
-    free(text.start);
-    free(output);
+    c->list = read_input(list);
+    if (count > 0)
+        c->text = read_input(rest[0]);
+    c->room = count > 1 ? strtoul(rest[1], NULL, 10) : 0;
+    for (; c->count < 32 && (int)c->count + 2 < count; c->count++)
+        c->lengths[c->count] = strtoul(rest[c->count + 2], NULL, 10);
+    c->output = malloc(c->room + 1);
+    if (c->list.start != NULL && (count == 0 || c->text.start != NULL) && c->output != NULL)
+        status = made(c);
+    free(c->list.start);
+    free(c->text.start);
+    free(c->output);
     return status;
 }
 
 int main(int count, char **arguments)
 {
-    uint32_t lengths[32];
-    int i;
-    if (count < 4)
-        return read_list(count > 1 ? arguments[1] : NULL);
-    for (i = 0; i < 32 && i + 4 < count; i++)
-        lengths[i] = strtoul(arguments[i + 4], NULL, 10);
-    return add_set(arguments[1], arguments[2], strtoul(arguments[3], NULL, 10), lengths, i);
+    struct call c = {{NULL, 0}, {NULL, 0}, 0, 0, NULL, 0, {0}, 0};
+    make *made = count > 4 ? named(arguments[1]) : NULL;
+    if (made != NULL) {
+        c.reserved = strtoul(arguments[3], NULL, 10);
+        c.net = strtoul(arguments[4], NULL, 10);
+        return run(made, &c, arguments[2], arguments + 5, count - 5);
+    }
+    if (count > 3)
+        return run(add_set, &c, arguments[1], arguments + 2, count - 2);
+    return read_list(count > 1 ? arguments[1] : NULL);
 }

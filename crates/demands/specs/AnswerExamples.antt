@@ -7,6 +7,7 @@ use Rattle.lists.specs.Trusted.Checked.{_>>=_, require, given}
 use Rattle.plan.specs.Key.{pack}
 use Rattle.plan.specs.Subsets.{least-of}
 use Rattle.sheet.specs.Checks.{bytes}
+use Rattle.part_records.specs.Trusted.Reservations.{unreserved}
 use Rattle.part.specs.Trusted.Parts.{blanks}
 use Rattle.part.specs.Trusted.SoundTest.{sound}
 use Rattle.part.specs.Trusted.Answers.{Answer, accepted, refused}
@@ -18,7 +19,7 @@ use Rattle.part.specs.declared.Part.{Part}
 
 -- the part of 01's list, which drives 20 and 21 and reads 1 to 5 and 20, with another capacity and used count
 abbrev with : (capacity used : ℕ) → Part
-with capacity used = record { k = part .k; capacity = capacity; used = used; tables = part .tables }
+with capacity used = record { k = part .k; capacity = capacity; used = used; reservation = unreserved; tables = part .tables }
 
 abbrev Case : Type 0
 Case = Part × String × Answer

@@ -27,7 +27,7 @@ use Rattle.part.specs.Trusted.Reading.{readOf}
 use Rattle.set_lengths.specs.Trusted.Lengths.{isWhole}
 use Rattle.part.specs.Trusted.Ways.{least}
 use Rattle.part.specs.Trusted.Answers.{accepted, refused}
-use Rattle.part.specs.Trusted.Tries.{Try, CallResult}
+use Rattle.part.specs.Trusted.Tries.{adding, Try, CallResult}
 use Rattle.part.specs.Trusted.Sets.{member, InTurn, turnedAway, AddSet}
 use Rattle.part.specs.Trusted.Add.{opened, extended, Add}
 use Rattle.demands.specs.Trusted.Calls.{add, addSet, oneSheet, final, Chain, call}
@@ -188,8 +188,8 @@ refused-tried : TriedSheets start (addSet (88 ∷ 88 ∷ 38 ∷ []) (first-text 
       tries = member first-text start middle accepted ∷ member first-text middle middle (refused 21 0) ∷ [];
     })
 refused-tried =
-    up-to (member first-text start middle accepted ∷ []) (member first-text middle middle (refused 21 0)) ((least, second-text) ∷ []) 21 0 refl refl
-    (next-try {t = member first-text start middle accepted} refl no-try) refl refl refl
+    up-to (member first-text start middle accepted ∷ []) (member first-text middle middle (refused 21 0)) ((adding, least, second-text) ∷ []) 21 0 refl refl
+    (next-try {t = member first-text start middle accepted} refl refl no-try) refl refl refl
 
 -- one table for both: none is left for the second sheet, and the part is unaltered
 abbrev small : Part

@@ -1,6 +1,6 @@
 -- DEMAND 1, of each entry point that can turn something down: `Part::open`, `Part::add`, `write_line` and `write_list`, each about what its
 -- contract says. The results are `opening-told`, `add-told`, `line-told` and `list-told`; Demands has what they say.
-use Prim.Native.Nat.{ℕ, _+_, _-_, _≤_}
+use Prim.Native.Nat.{ℕ, _+_, _≤_}
 use native.Mathlib.Omega.{arith}
 use mathlib.Core.Path.{_≡_, refl, sym, ap, _∙_, subst}
 use mathlib.Core.Bool.{Bool, true, false, cond}
@@ -13,7 +13,7 @@ use Rattle.lists.specs.Trusted.Checked.{Checked, passed, refused as unwritten}
 use Rattle.cover.specs.Trusted.CoverTables.{Circuit}
 use Rattle.table.specs.Trusted.Limits.{KRange, CapacityRange}
 use Rattle.part.specs.declared.Part.{Part}
-use Rattle.part.specs.Trusted.Parts.{tablesOf}
+use Rattle.part.specs.Trusted.Parts.{tablesOf, available}
 use Rattle.part.specs.Trusted.Sound.{Sound}
 use Rattle.part.specs.Trusted.SoundTest.{sound}
 use Rattle.part.specs.SoundLaws.{sound-reflects}
@@ -36,7 +36,7 @@ reflects-false : {b : Bool} {P : Type 0} → Reflects b P → ¬ P → b ≡ fal
 reflects-false r n = by-reflects (λ c. c ≡ false) r (λ h. absurd (n h)) (λ m. refl)
 
 -- a condition of the number and the place that were given
-moved : (C : ℕ → ℕ → Type 0) {m l number place : ℕ} → C m l → m ≡ number → l ≡ place → C number place
+pub moved : (C : ℕ → ℕ → Type 0) {m l number place : ℕ} → C m l → m ≡ number → l ≡ place → C number place
 moved C {m} {l} {number} {place} c e f = subst (λ x. C x place) e (subst (C m) f c)
 
 -- ---- opening
@@ -77,12 +77,12 @@ module _ (k capacity : ℕ) where
 
 module _ (w : Way) (p : Part) (text : List ℕ) where
   abbrev fits : Circuit → Bool
-  fits s = leb (numberIn w p s) (p .capacity - p .used)
+  fits s = leb (numberIn w p s) (available p)
 
-  fits-reflects : (s : Circuit) (n : ℕ) → Sound p → reading w text ≡ passed s → NumberBy w p s n → Reflects (fits s) (n ≤ p .capacity - p .used)
+  fits-reflects : (s : Circuit) (n : ℕ) → Sound p → reading w text ≡ passed s → NumberBy w p s n → Reflects (fits s) (n ≤ available p)
   fits-reflects s n h e l =
-      subst (λ m. Reflects (fits s) (m ≤ p .capacity - p .used)) (number-unique w p s (number-is w p (h .k-range .0) s (reading-right w text s e)) l)
-      (reflects-le (numberIn w p s) (p .capacity - p .used))
+      subst (λ m. Reflects (fits s) (m ≤ available p)) (number-unique w p s (number-is w p (h .k-range .0) s (reading-right w text s e)) l)
+      (reflects-le (numberIn w p s) (available p))
 
   -- the answer of a sound part to what is read, and by the last three tests
   read-answer : Sound p → {v : Checked Circuit} → reading w text ≡ v → answerOf w p (reading w text) ≡ Determined.taken w p v
@@ -117,7 +117,7 @@ module _ (w : Way) (p : Part) (text : List ℕ) where
   found (taken s h g f t room) e = absurd (not-refused e (t .answer))
 
   accepted-passes : {q : Part} {a : Answer} → AddCase w p text q a → a ≡ accepted →
-      (s : Circuit) × (n : ℕ) × Passes w p text s × NumberBy w p s n × (n ≤ p .capacity - p .used)
+      (s : Circuit) × (n : ℕ) × Passes w p text s × NumberBy w p s n × (n ≤ available p)
   accepted-passes (unsound n r) e = absurd (not-refused (r .1) e)
   accepted-passes (misread m l h g r) e = absurd (not-refused (r .1) e)
   accepted-passes (driven s h g d r) e = absurd (not-refused (r .1) e)

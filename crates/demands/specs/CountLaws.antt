@@ -1,18 +1,18 @@
 -- Demand 3: over every list of calls, from any part, the tables taken, their number, and the used count.
-use Prim.Native.Nat.{ℕ, _-_}
+use Prim.Native.Nat.{ℕ}
 use native.Mathlib.Omega.{arith}
-use mathlib.Core.Path.{_≡_, refl, _∙_, subst}
+use mathlib.Core.Path.{_≡_, refl, ap, _∙_, subst}
 use mathlib.Core.List.{List, _∷_, _++_}
 use Rattle.lists.specs.Trusted.Lists.{Every}
 use Rattle.lists.specs.ListLaws.{every-none, every-cons, every-head, every-left, every-right}
-use Rattle.part.specs.Trusted.Parts.{Shaped}
+use Rattle.part.specs.Trusted.Parts.{available, Shaped}
 use Rattle.part.specs.Trusted.Tries.{Try, CallResult}
 use Rattle.part.specs.AddLaws.{Kept, same-kept, kept-trans}
 use Rattle.part.specs.declared.Part.{Part}
-use Rattle.demands.specs.Trusted.Calls.{Call, Promise, Chain, done, call, final, SheetEntry, sheetEntries, acceptedIn, Link, here, next}
+use Rattle.demands.specs.Trusted.Calls.{Call, withheld, Promise, Chain, done, call, final, SheetEntry, sheetEntries, acceptedIn, Link, here, next}
 use Rattle.demands.specs.Trusted.Demands.{Total, left, Accounted, CallAccounted, Demand3}
-use Rattle.demands.specs.TryLaws.{Trying, CountGrown, none-grown, grown-append, try-accounted, line-kept, line-grown}
-use Rattle.demands.specs.CallLaws.{call-tries, call-tried, call-ahead, call-kept, call-grown}
+use Rattle.demands.specs.TryLaws.{Trying, CountGrown, none-grown, grown-append, try-accounted, line-kept, line-reserved, line-grown}
+use Rattle.demands.specs.CallLaws.{call-tries, call-tried, call-ahead, call-reserved, stands-kept, call-kept, call-grown}
 
 pub chain-kept : {p : Part} {cs : List Call} {rs : List CallResult} → Chain p cs rs → Shaped p → Kept p (final p rs)
 chain-kept {p} done shape = same-kept p shape p refl
@@ -47,16 +47,18 @@ since {p} (next {c = c} {r = r} l) (call h g) shape =
     record { kept = kept-trans k (z .kept); grown = grown-append (call-grown p shape c r h) (z .grown); promise = z .promise }
 
 call-accounted : (p : Part) (es : List SheetEntry) (o : Part) (c : Call) (r : CallResult) → Since p es o c r → CallAccounted p es o c r
-call-accounted p es o c r z = record { tried = call-tried o c r (z .promise); each = each }
+call-accounted p es o c r z = record { tried = call-tried o c r (z .promise); each = each; reservation = call-reserved o c r (z .promise) }
   where
-    each : (ahead : List Try) (t : Try) (rest : List Try) → r .tries ≡ ahead ++ t ∷ rest → (n : ℕ) × Total (es ++ sheetEntries ahead) n × (t .before .k ≡ p .k) × Accounted (left p n) t
+    each : (ahead : List Try) (t : Try) (rest : List Try) → r .tries ≡ ahead ++ t ∷ rest → (n : ℕ) × Total (es ++ sheetEntries ahead) n × (t .before .k ≡ p .k) × Accounted (left p n ((withheld c o) .count)) t
     each ahead t rest e =
         let l = call-ahead o c r (z .promise) ahead t rest e in
         let all : Every Trying (ahead ++ t ∷ rest) = subst (Every Trying) e (call-tries o c r (z .promise)) in
         let before : Every Trying ahead = every-left ahead (t ∷ rest) all in
-        let k = kept-trans (z .kept) (line-kept l before (z .kept .shaped)) in
-        let g = grown-append (z .grown) (line-grown l before (z .kept .shaped)) in
-        let f : t .before .capacity - t .before .used ≡ left p (g .sum) = omega (arith, g .count, k .same-capacity) in
+        let stands = stands-kept c o (z .kept .shaped) in
+        let k = kept-trans (z .kept) (kept-trans stands (line-kept l before (stands .shaped))) in
+        let g = grown-append (z .grown) (line-grown l before (stands .shaped)) in
+        let aside : t .before .reservation .count ≡ (withheld c o) .count = ap (λ x. x .count) (line-reserved l before) in
+        let f : available (t .before) ≡ left p (g .sum) ((withheld c o) .count) = omega (arith, g .count, k .same-capacity, aside) in
         (g .sum, g .total, k .same-k, subst (λ n. Accounted n t) f (try-accounted t (k .shaped) (every-head (every-right ahead (t ∷ rest) all))))
 
 -- DEMAND 3

@@ -1,6 +1,6 @@
 -- The answer of an add, computed: all that an add leaves free is which cover of those that its way allows is taken, and the order of its tables.
 -- Internal definitions: the laws are in DeterminedLaws.
-use Prim.Native.Nat.{ℕ, _-_}
+use Prim.Native.Nat.{ℕ}
 use mathlib.Core.Path.{_≡_}
 use mathlib.Core.Bool.{cond}
 use lib.Dec.{leb}
@@ -8,7 +8,7 @@ use Rattle.lists.specs.Trusted.Checked.{Checked, passed, refused as unread}
 use Rattle.plan.specs.Least.{least-tables}
 use Rattle.cover.specs.Trusted.CoverTables.{Circuit}
 use Rattle.table.specs.Trusted.Rules.{IsNet}
-use Rattle.part.specs.Trusted.Parts.{tablesOf}
+use Rattle.part.specs.Trusted.Parts.{tablesOf, available}
 use Rattle.part.specs.Trusted.Ways.{Way, least}
 use Rattle.part.specs.Trusted.SoundTest.{sound}
 use Rattle.part.specs.Trusted.Answers.{Answer, accepted, refused}
@@ -28,6 +28,7 @@ pub record Alike (p q : Part) : Type 0 where
   pub k : p .k ≡ q .k
   pub capacity : p .capacity ≡ q .capacity
   pub used : p .used ≡ q .used
+  pub reservation : p .reservation ≡ q .reservation
   pub sound : sound p ≡ sound q
   pub driven : (n : ℕ) → IsNet n → isDriven n (tablesOf p) ≡ isDriven n (tablesOf q)
   pub read : (n : ℕ) → IsNet n → isRead n (tablesOf p) ≡ isRead n (tablesOf q)
@@ -36,7 +37,7 @@ abbrev pub offered : Way → Part → Circuit → Answer
 offered w p s =
     cond (isDriven (s .out) (tablesOf p)) (refused 21 0)
     (cond (isRead (s .out) (tablesOf p)) (refused 22 0)
-    (cond (leb (numberIn w p s) (p .capacity - p .used)) accepted (refused 23 0)))
+    (cond (leb (numberIn w p s) (available p)) accepted (refused 23 0)))
 
 abbrev pub taken : Way → Part → Checked Circuit → Answer
 taken w p (passed s) = offered w p s

@@ -6,7 +6,7 @@ use native.Mathlib.Omega.{arith}
 use mathlib.Core.Path.{_≡_, refl, sym, ap, ap₂, _∙_, subst}
 use mathlib.Core.Logic.{_⊎_, inl, inr}
 use mathlib.Core.Bool.{true, cond, _||_}
-use mathlib.Core.List.{List, _∷_, _++_, map}
+use mathlib.Core.List.{List, [], _∷_, _++_, map}
 use lib.Dec.{T, leb, eqb}
 use lib.ListN.{length}
 use Rattle.lists.specs.Trusted.Tests.{elem, either}
@@ -16,10 +16,11 @@ use Rattle.tree.specs.Measures.{proper}
 use Rattle.tree.specs.Measures.{leaves}
 use Rattle.lists.specs.Trusted.Checked.{Checked, passed, refused as unread}
 use Rattle.plan.specs.Least.{least-tables, least-is}
+use Rattle.cover.specs.Trusted.Cover.{Least}
 use Rattle.cover.specs.Trusted.CoverTables.{Circuit, CoverTables, Fresh}
 use Rattle.table.specs.Trusted.Rules.{IsNet}
 use Rattle.table.specs.ResultLaws.{says-true}
-use Rattle.part.specs.Trusted.Parts.{tablesOf, Shaped}
+use Rattle.part.specs.Trusted.Parts.{tablesOf, available, withReservation, released, Shaped}
 use Rattle.part.specs.Trusted.Sound.{Sound}
 use Rattle.part.specs.Trusted.SoundTest.{sound}
 use Rattle.part.specs.SoundLaws.{sound-reflects}
@@ -29,16 +30,23 @@ use Rattle.part.specs.Trusted.Answers.{Answer, accepted, refused}
 use Rattle.part.specs.Trusted.Add.{isDriven, isRead, Refused, Accepted, Fill, Offer, Take, Add}
 use Rattle.part.specs.Trusted.Tries.{CallResult}
 use Rattle.part.specs.Trusted.Sets.{InTurn, all, next, stop, turnedAway}
+use Rattle.part.specs.Trusted.Reservations.{SetAside, Reserved}
+use Rattle.part.specs.ReserveLaws.{released-sound, aside-kept}
+use Rattle.part_records.specs.Trusted.Reservations.{unreserved}
+use Rattle.part_records.specs.declared.Reservation.{Reservation}
 use Rattle.part.specs.ExtendedLaws.{extended-tables}
 use Rattle.part.specs.ExtendLaws.{extended-sound}
 use Rattle.part.specs.Readable.{Readable}
 use Rattle.part.specs.WayLaws.{reading-right, number-unique, chosen-added, chosen-number}
 use Rattle.part.specs.AddLaws.{driven-reflects, read-reflects, AddCase, unsound, misread, driven, read, full, taken as took, add-case, kept, not-refused}
 use Rattle.demands.specs.LeafLaws.{reads-after, reads-still, drives-after, drives-still}
-use Rattle.demands.specs.Trusted.Calls.{Call, add, addSet, Promise, Chain, done, call, final}
+use Rattle.demands.specs.Trusted.Calls.{Call, add, addSet, reserve, commit, withdraw, Promise, Chain, done, call, final}
 use Rattle.demands.specs.TryLaws.{same-sheet}
 use Rattle.part.specs.SetLaws.{SetCase, unsound-part, unfit, in-turn, set-case}
-use Rattle.demands.specs.CallLaws.{call-kept}
+use Rattle.demands.specs.ReserveCases.{ReserveCase, unsound-reserve, open-reserve, tried-reserve, reserve-case}
+use Rattle.demands.specs.ReserveCases.{CommitCase, unsound-commit, closed-commit, other-commit, tried-commit, commit-case}
+use Rattle.demands.specs.ReserveCases.{WithdrawCase, unsound-withdraw, closed-withdraw, open-withdraw, withdraw-case}
+use Rattle.demands.specs.CallLaws.{stands-kept, call-kept}
 use Rattle.demands.specs.Determined.{leastNumber, numberIn, Alike, offered, taken, answerOf}
 use Rattle.part.specs.declared.Part.{Part}
 
@@ -51,13 +59,14 @@ number-is least p two s r =
     (least-is (p .k) two (g .0) (g .1) (subst (λ t. T (proper t)) (g .2) (r .proper)))
 
 pub alike-refl : (p : Part) → Alike p p
-alike-refl p = record { k = refl; capacity = refl; used = refl; sound = refl; driven = λ n h. refl; read = λ n h. refl }
+alike-refl p = record { k = refl; capacity = refl; used = refl; reservation = refl; sound = refl; driven = λ n h. refl; read = λ n h. refl }
 
 alike-sym : {p q : Part} → Alike p q → Alike q p
 alike-sym g = record {
   k = sym (g .k);
   capacity = sym (g .capacity);
   used = sym (g .used);
+  reservation = sym (g .reservation);
   sound = sym (g .sound);
   driven = λ n h. sym (g .driven n h);
   read = λ n h. sym (g .read n h);
@@ -68,6 +77,7 @@ record After (w : Way) (p : Part) (s : Circuit) (q : Part) : Type 0 where
   k : q .k ≡ p .k
   capacity : q .capacity ≡ p .capacity
   used : q .used ≡ p .used + numberIn w p s
+  reservation : q .reservation ≡ p .reservation
   sound : sound q ≡ true
   driven : (n : ℕ) → IsNet n → isDriven n (tablesOf q) ≡ (isDriven n (tablesOf p) || eqb (s .out) n)
   read : (n : ℕ) → IsNet n → isRead n (tablesOf q) ≡ (isRead n (tablesOf p) || elem n (leaves (s .tree)))
@@ -81,6 +91,7 @@ alike-after w p p′ q q′ s g a b = record {
   k = a .k ∙ g .k ∙ sym (b .k);
   capacity = a .capacity ∙ g .capacity ∙ sym (b .capacity);
   used = a .used ∙ ap₂ _+_ (g .used) (number-alike w p p′ s g) ∙ sym (b .used);
+  reservation = a .reservation ∙ g .reservation ∙ sym (b .reservation);
   sound = a .sound ∙ sym (b .sound);
   driven = λ n h. a .driven n h ∙ ap (λ t. t || eqb (s .out) n) (g .driven n h) ∙ sym (b .driven n h);
   read = λ n h. a .read n h ∙ ap (λ t. t || elem n (leaves (s .tree))) (g .read n h) ∙ sym (b .read n h);
@@ -89,10 +100,10 @@ alike-after w p p′ q q′ s g a b = record {
 -- ---- one add
 
 module _ (w : Way) (p : Part) (text : List ℕ) (q : Part) (a : Answer) where
-  fill-answer : (s : Circuit) → Fill w p s (numberIn w p s) q a → a ≡ cond (leb (numberIn w p s) (p .capacity - p .used)) accepted (refused 23 0)
+  fill-answer : (s : Circuit) → Fill w p s (numberIn w p s) q a → a ≡ cond (leb (numberIn w p s) (available p)) accepted (refused 23 0)
   fill-answer s =
       by-reflects (λ b. either b (Accepted w p s q a) (Refused p 23 0 q a) → a ≡ cond b accepted (refused 23 0))
-      (reflects-le (numberIn w p s) (p .capacity - p .used)) (λ l t. t .answer) (λ l r. r .1)
+      (reflects-le (numberIn w p s) (available p)) (λ l t. t .answer) (λ l r. r .1)
 
   offer-answer : Sound p → (s : Circuit) → reading w text ≡ passed s → Offer w p s q a → a ≡ offered w p s
   offer-answer h s e =
@@ -109,7 +120,7 @@ module _ (w : Way) (p : Part) (text : List ℕ) (q : Part) (a : Answer) where
       Others = either (isRead (s .out) (tablesOf p)) (Refused p 22 0 q a) Last
 
       last : Answer
-      last = cond (leb (numberIn w p s) (p .capacity - p .used)) accepted (refused 23 0)
+      last = cond (leb (numberIn w p s) (available p)) accepted (refused 23 0)
 
       others : Answer
       others = cond (isRead (s .out) (tablesOf p)) (refused 22 0) last
@@ -131,7 +142,7 @@ module _ (w : Way) where
   alike-offered : (p q : Part) (s : Circuit) → IsNet (s .out) → Alike p q → offered w p s ≡ offered w q s
   alike-offered p q s h g = λ i.
       cond (g .driven (s .out) h i) (refused 21 0)
-      (cond (g .read (s .out) h i) (refused 22 0) (cond (leb (number-alike w p q s g i) (g .capacity i - g .used i)) accepted (refused 23 0)))
+      (cond (g .read (s .out) h i) (refused 22 0) (cond (leb (number-alike w p q s g i) (g .capacity i - g .used i - (g .reservation i) .count)) accepted (refused 23 0)))
 
   alike-taken : (p q : Part) (text : List ℕ) (v : Checked Circuit) → reading w text ≡ v → Alike p q → taken w p v ≡ taken w q v
   alike-taken p q text (passed s) e g = let l = reading-right w text s e .legal .out-net in alike-offered p q s (omega arith) g
@@ -149,12 +160,13 @@ Takes w p text q a = (s : Circuit) × (reading w text ≡ passed s) × After w p
 
 module _ (w : Way) (p : Part) (shape : Shaped p) (text : List ℕ) where
   accepted-after : (s : Circuit) (q : Part) (a : Answer) → Sound p → reading w text ≡ passed s → Fresh s (tablesOf p) → (t : Accepted w p s q a) →
-      p .used + length (t .new) ≤ p .capacity → After w p s q
+      p .used + length (t .new) + p .reservation .count ≤ p .capacity → After w p s q
   accepted-after s q a h e f t room = record {
     k = ap (λ q. q .k) (t .part);
     capacity = ap (λ q. q .capacity) (t .part);
     used = ap (λ q. q .used) (t .part) ∙
         ap (λ n. p .used + n) (number-unique w p s (chosen-number w p s (t .new) (t .chosen)) (number-is w p (h .k-range .0) s (reading-right w text s e)));
+    reservation = ap (λ q. q .reservation) (t .part);
     sound = reflects-true (sound-reflects q)
         (subst Sound (sym (t .part)) (extended-sound p shape h (t .new) s (reading-right w text s e .legal) new-tables f room));
     driven = λ n l. reflects-same (driven-reflects n (tablesOf q)) (reflects-or (driven-reflects n (tablesOf p)) (reflects-eq (s .out) n))
@@ -241,12 +253,101 @@ set-alike p p′ f f′ g lengths text r r′ (in-turn s w t) (unsound-part n′
 set-alike p p′ f f′ g lengths text r r′ (in-turn s w t) (unfit s′ n′ e′) = absurd (n′ w)
 set-alike p p′ f f′ g lengths text r r′ (in-turn s w t) (in-turn s′ w′ t′) = turn-alike t t′ f f′ g g
 
+-- ---- reservations on parts that are alike
+
+count-alike : {p p′ : Part} → Alike p p′ → p .reservation .count ≡ p′ .reservation .count
+count-alike g = ap (λ x. x .count) (g .reservation)
+
+-- two parts that are alike, with another reservation each, and the same
+reserved-alike : {p p′ : Part} (x x′ : Reservation) → x ≡ x′ → Alike p p′ → sound (withReservation p x) ≡ sound (withReservation p′ x′) →
+    Alike (withReservation p x) (withReservation p′ x′)
+reserved-alike x x′ e g s = record { k = g .k; capacity = g .capacity; used = g .used; reservation = e; sound = s; driven = g .driven; read = g .read }
+
+released-alike : {p p′ : Part} → Sound p → Sound p′ → Alike p p′ → Alike (released p) (released p′)
+released-alike {p} {p′} h h′ g =
+    reserved-alike unreserved unreserved refl g (reflects-true (sound-reflects (released p)) (released-sound p h) ∙ sym (reflects-true (sound-reflects (released p′)) (released-sound p′ h′)))
+
+aside-alike : (p p′ : Part) → Shaped p → Shaped p′ → Sound p → Sound p′ → Alike p p′ → (text : List ℕ) (o o′ q q′ : Part) → Add least p text o accepted → Add least p′ text o′ accepted →
+    SetAside least p text q → SetAside least p′ text q′ → Alike q q′
+aside-alike p p′ f f′ s s′ g text o o′ q q′ h h′ x x′ =
+    let e = x .read in
+    let e′ = x′ .read in
+    let same : x .sheet ≡ x′ .sheet = cc in
+    let number : x .count ≡ x′ .count =
+    number-unique least p (x .sheet) (x .number) (subst (λ k. Least k (x .sheet .tree) (x′ .count)) (sym (g .k)) (subst (λ u. NumberBy least p′ u (x′ .count)) (sym same) (x′ .number))) in
+    let i : q ≡ withReservation p (record { count = x .count; net = x .sheet .out }) = x .part in
+    let i′ : q′ ≡ withReservation p′ (record { count = x′ .count; net = x′ .sheet .out }) = x′ .part in
+    let k = reflects-true (sound-reflects q) (aside-kept p f text o h q x .sound s) in
+    let k′ = reflects-true (sound-reflects q′) (aside-kept p′ f′ text o′ h′ q′ x′ .sound s′) in
+    subst (λ y. Alike y q′) (sym i) (subst (λ y. Alike (withReservation p (record { count = x .count; net = x .sheet .out })) y) (sym i′)
+    (reserved-alike (record { count = x .count; net = x .sheet .out }) (record { count = x′ .count; net = x′ .sheet .out })
+    (λ j. record { count = number j; net = (same j) .out }) g (ap sound (sym i) ∙ k ∙ sym k′ ∙ ap sound i′)))
+
+reserve-alike : (p p′ : Part) → Shaped p → Shaped p′ → Alike p p′ → (text : List ℕ) (r r′ : CallResult) → ReserveCase p text r → ReserveCase p′ text r′ → AlikeResults r r′
+reserve-alike p p′ f f′ g text r r′ (unsound-reserve n e) (unsound-reserve n′ e′) = away-alike p p′ 20 r r′ g e e′
+reserve-alike p p′ f f′ g text r r′ (unsound-reserve n e) (open-reserve s′ o′ e′) = absurd (n (sound-alike p′ p (alike-sym g) s′))
+reserve-alike p p′ f f′ g text r r′ (unsound-reserve n e) (tried-reserve s′ o′ x′ e′) = absurd (n (sound-alike p′ p (alike-sym g) s′))
+reserve-alike p p′ f f′ g text r r′ (open-reserve s o e) (unsound-reserve n′ e′) = absurd (n′ (sound-alike p p′ g s))
+reserve-alike p p′ f f′ g text r r′ (open-reserve s o e) (open-reserve s′ o′ e′) = away-alike p p′ 35 r r′ g e e′
+reserve-alike p p′ f f′ g text r r′ (open-reserve s o e) (tried-reserve s′ o′ x′ e′) = absurd (o (count-alike g ∙ o′))
+reserve-alike p p′ f f′ g text r r′ (tried-reserve s o x e) (unsound-reserve n′ e′) = absurd (n′ (sound-alike p p′ g s))
+reserve-alike p p′ f f′ g text r r′ (tried-reserve s o x e) (open-reserve s′ o′ e′) = absurd (o′ (sym (count-alike g) ∙ o))
+reserve-alike p p′ f f′ g text r r′ (tried-reserve s o x e) (tried-reserve s′ o′ x′ e′) =
+    let same = add-alike least p p′ f f′ g text (x .0 .0) (x′ .0 .0) (r .answer) (r′ .answer) (x .0 .1) (x′ .0 .1) .0 in
+    record { answer = same; position = ap (λ r. r .position) e ∙ sym (ap (λ r. r .position) e′); part = of (r .answer) refl (sym same) (x .0 .1) (x′ .0 .1) (x .1) (x′ .1) }
+  where
+    of : (a : Answer) {b b′ : Answer} → b ≡ a → b′ ≡ b → Add least p text (x .0 .0) b → Add least p′ text (x′ .0 .0) b′ → Reserved least p text b (r .part) →
+        Reserved least p′ text b′ (r′ .part) → Alike (r .part) (r′ .part)
+    of accepted i j h h′ y y′ =
+        aside-alike p p′ f f′ s s′ g text (x .0 .0) (x′ .0 .0) (r .part) (r′ .part) (subst (Add least p text (x .0 .0)) i h) (subst (Add least p′ text (x′ .0 .0)) (j ∙ i) h′)
+        (subst (λ a. Reserved least p text a (r .part)) i y) (subst (λ a. Reserved least p′ text a (r′ .part)) (j ∙ i) y′)
+    of (refused number place) i j h h′ y y′ =
+        let e = subst (λ a. Reserved least p text a (r .part)) i y in
+        let e′ = subst (λ a. Reserved least p′ text a (r′ .part)) (j ∙ i) y′ in
+        subst (λ q. Alike q (r′ .part)) (sym e) (subst (Alike p) (sym e′) g)
+
+commit-alike : (p p′ : Part) → Shaped p → Shaped p′ → Alike p p′ → (text : List ℕ) (r r′ : CallResult) → CommitCase p text r → CommitCase p′ text r′ → AlikeResults r r′
+commit-alike p p′ f f′ g text r r′ (unsound-commit n e) (unsound-commit n′ e′) = away-alike p p′ 20 r r′ g e e′
+commit-alike p p′ f f′ g text r r′ (unsound-commit n e) (closed-commit s′ o′ e′) = absurd (n (sound-alike p′ p (alike-sym g) s′))
+commit-alike p p′ f f′ g text r r′ (unsound-commit n e) (other-commit u′ s′ o′ i′ d′ e′) = absurd (n (sound-alike p′ p (alike-sym g) s′))
+commit-alike p p′ f f′ g text r r′ (unsound-commit n e) (tried-commit s′ o′ d′ t′) = absurd (n (sound-alike p′ p (alike-sym g) s′))
+commit-alike p p′ f f′ g text r r′ (closed-commit s o e) (unsound-commit n′ e′) = absurd (n′ (sound-alike p p′ g s))
+commit-alike p p′ f f′ g text r r′ (closed-commit s o e) (closed-commit s′ o′ e′) = away-alike p p′ 36 r r′ g e e′
+commit-alike p p′ f f′ g text r r′ (closed-commit s o e) (other-commit u′ s′ o′ i′ d′ e′) = away-alike p p′ 36 r r′ g e e′
+commit-alike p p′ f f′ g text r r′ (closed-commit s o e) (tried-commit s′ o′ d′ t′) = absurd (o′ (sym (count-alike g) ∙ o))
+commit-alike p p′ f f′ g text r r′ (other-commit u s o i d e) (unsound-commit n′ e′) = absurd (n′ (sound-alike p p′ g s))
+commit-alike p p′ f f′ g text r r′ (other-commit u s o i d e) (closed-commit s′ o′ e′) = away-alike p p′ 36 r r′ g e e′
+commit-alike p p′ f f′ g text r r′ (other-commit u s o i d e) (other-commit u′ s′ o′ i′ d′ e′) = away-alike p p′ 36 r r′ g e e′
+commit-alike p p′ f f′ g text r r′ (other-commit u s o i d e) (tried-commit s′ o′ d′ t′) = absurd (d (d′ u i ∙ sym (ap (λ x. x .net) (g .reservation))))
+commit-alike p p′ f f′ g text r r′ (tried-commit s o d t) (unsound-commit n′ e′) = absurd (n′ (sound-alike p p′ g s))
+commit-alike p p′ f f′ g text r r′ (tried-commit s o d t) (closed-commit s′ o′ e′) = absurd (o (count-alike g ∙ o′))
+commit-alike p p′ f f′ g text r r′ (tried-commit s o d t) (other-commit u′ s′ o′ i′ d′ e′) = absurd (d′ (d u′ i′ ∙ ap (λ x. x .net) (g .reservation)))
+commit-alike p p′ f f′ g text r r′ (tried-commit s o d t) (tried-commit s′ o′ d′ t′) =
+    turn-alike t t′ (stands-kept (commit text) p f .shaped) (stands-kept (commit text) p′ f′ .shaped) g (released-alike s s′ g)
+
+withdraw-alike : (p p′ : Part) → Alike p p′ → (r r′ : CallResult) → WithdrawCase p r → WithdrawCase p′ r′ → AlikeResults r r′
+withdraw-alike p p′ g r r′ (unsound-withdraw n e) (unsound-withdraw n′ e′) = away-alike p p′ 20 r r′ g e e′
+withdraw-alike p p′ g r r′ (unsound-withdraw n e) (closed-withdraw s′ o′ e′) = absurd (n (sound-alike p′ p (alike-sym g) s′))
+withdraw-alike p p′ g r r′ (unsound-withdraw n e) (open-withdraw s′ o′ e′) = absurd (n (sound-alike p′ p (alike-sym g) s′))
+withdraw-alike p p′ g r r′ (closed-withdraw s o e) (unsound-withdraw n′ e′) = absurd (n′ (sound-alike p p′ g s))
+withdraw-alike p p′ g r r′ (closed-withdraw s o e) (closed-withdraw s′ o′ e′) = away-alike p p′ 36 r r′ g e e′
+withdraw-alike p p′ g r r′ (closed-withdraw s o e) (open-withdraw s′ o′ e′) = absurd (o′ (sym (count-alike g) ∙ o))
+withdraw-alike p p′ g r r′ (open-withdraw s o e) (unsound-withdraw n′ e′) = absurd (n′ (sound-alike p p′ g s))
+withdraw-alike p p′ g r r′ (open-withdraw s o e) (closed-withdraw s′ o′ e′) = absurd (o (count-alike g ∙ o′))
+withdraw-alike p p′ g r r′ (open-withdraw s o e) (open-withdraw s′ o′ e′) =
+    subst (λ x. AlikeResults x r′) (sym e) (subst (λ x. AlikeResults (record { part = released p; answer = accepted; position = 0; tries = [] }) x) (sym e′)
+    (record { answer = refl; position = refl; part = released-alike s s′ g }))
+
 call-alike : (p p′ : Part) → Shaped p → Shaped p′ → Alike p p′ → (c : Call) (r r′ : CallResult) → Promise p c r → Promise p′ c r′ → AlikeResults r r′
 call-alike p p′ f f′ g (add w text) r r′ h h′ =
     let z = add-alike w p p′ f f′ g text (r .part) (r′ .part) (r .answer) (r′ .answer) (h .0) (h′ .0) in
     record { answer = z .0; position = ap (λ r. r .position) (h .1) ∙ sym (ap (λ r. r .position) (h′ .1)); part = z .1 }
 call-alike p p′ f f′ g (addSet lengths text) r r′ h h′ =
     set-alike p p′ f f′ g lengths text r r′ (set-case p lengths text r h) (set-case p′ lengths text r′ h′)
+call-alike p p′ f f′ g (reserve text) r r′ h h′ = reserve-alike p p′ f f′ g text r r′ (reserve-case p text r h) (reserve-case p′ text r′ h′)
+call-alike p p′ f f′ g (commit text) r r′ h h′ = commit-alike p p′ f f′ g text r r′ (commit-case p text r h) (commit-case p′ text r′ h′)
+call-alike p p′ f f′ g withdraw r r′ h h′ =
+    withdraw-alike p p′ g r r′ (subst (WithdrawCase p) (sym h) (withdraw-case p)) (subst (WithdrawCase p′) (sym h′) (withdraw-case p′))
 
 -- what is seen of a result but for the part
 abbrev pub seen : CallResult → Answer × ℕ

@@ -1,4 +1,5 @@
 pub mod Trusted
+pub mod ReserveCases
 pub mod TryLaws
 pub mod CallLaws
 pub mod CountLaws
@@ -6,10 +7,11 @@ pub mod ValueLaws
 pub mod LeafLaws
 pub mod Determined
 pub mod DeterminedLaws
+pub mod ConditionLaws
 pub mod PossibleLaws
 pub mod FreeLaws
-pub mod ConditionLaws
 pub mod SetLaws
+pub mod ReserveLaws
 pub mod Theorems
 pub mod ChainExample
 pub mod AnswerExamples

@@ -3,7 +3,7 @@
 use Prim.Native.Nat.{ℕ, zero, suc, _+_, _-_, _≤_, _<_}
 use native.Mathlib.Omega.{arith}
 use mathlib.Core.Path.{_≡_, refl, sym, ap, ap₂, _∙_, subst}
-use mathlib.Core.Bool.{Bool, false}
+use mathlib.Core.Bool.{Bool, true, false}
 use mathlib.Core.List.{List, [], _∷_, _++_, append-nil}
 use lib.ListN.{length, length-append}
 use Rattle.lists.specs.Trusted.Lists.{Every, Permuted, Inserted, here, there}
@@ -25,7 +25,7 @@ use Rattle.cover.specs.Trusted.CoverTables.{Circuit, CoverTables}
 use Rattle.cover.specs.Legal.{Legal}
 use Rattle.set_lengths.specs.Trusted.Lengths.{isWhole, cut}
 use Rattle.set_lengths.specs.LengthLaws.{whole-reflects}
-use Rattle.part.specs.Trusted.Parts.{tablesOf}
+use Rattle.part.specs.Trusted.Parts.{tablesOf, available, withReservation, released}
 use Rattle.part.specs.Trusted.Sound.{Sound}
 use Rattle.part.specs.SoundLaws.{sound-reflects}
 use Rattle.part.specs.Readable.{Readable}
@@ -35,10 +35,13 @@ use Rattle.part.specs.Trusted.Answers.{Answer, accepted, refused}
 use Rattle.part.specs.Trusted.Add.{extended, isRead, Refused, Accepted, Fill, Offer, Take, Add}
 use Rattle.part.specs.Trusted.Tries.{CallResult}
 use Rattle.part.specs.Trusted.Sets.{InTurn, all, next, stop, turnedAway, AddSet}
+use Rattle.part.specs.Trusted.Reservations.{isOpen, Reserves, reservingSheet, Reserve, isOther, Committed, Commit, withdrawn}
 use Rattle.part.specs.AddLaws.{driven-reflects, read-reflects}
-use Rattle.demands.specs.Trusted.Calls.{Call, add, addSet, oneSheet, Promise, Chain, call}
+use Rattle.part.specs.ReserveLaws.{open-reflects}
+use Rattle.demands.specs.Trusted.Calls.{Call, add, addSet, reserve, commit, withdraw, oneSheet, Promise, Chain, call}
 use Rattle.demands.specs.Determined.{numberIn}
 use Rattle.demands.specs.DeterminedLaws.{number-is}
+use Rattle.demands.specs.ConditionLaws.{add-told}
 use Rattle.part.specs.declared.Part.{Part}
 use Rattle.demands.specs.Trusted.Calls as calls
 
@@ -276,7 +279,7 @@ module _ (w : Way) (p : Part) (text : List ℕ) where
       filled : (q : Part) × (a : Answer) × Fill w p s n q a
       filled =
           by-reflects (λ b. (q : Part) × (a : Answer) × either b (Accepted w p s q a) (Refused p 23 0 q a))
-          (reflects-le n (p .capacity - p .used)) (λ l. takes) (λ l. (p, refused 23 0, (refl, refl)))
+          (reflects-le n (available p)) (λ l. takes) (λ l. (p, refused 23 0, (refl, refl)))
 
       last : (q : Part) × (a : Answer) × Last q a
       last = (filled .0, filled .1, (n, number, filled .2))
@@ -311,9 +314,46 @@ set-possible p lengths text =
     (λ w. turn-possible p 1 (cut lengths text) p) (λ n. (turnedAway p 33, refl)))
     (λ n. (turnedAway p 20, refl))
 
+-- EVERY PROMISE OF A RESERVATION can be kept
+reserves-possible : (p : Part) (text : List ℕ) → (q : Part) × (a : Answer) × Reserves least p text q a
+reserves-possible p text = let (o, a, x) = add-possible least p text in of o a x
+  where
+    of : (o : Part) (a : Answer) → Add least p text o a → (q : Part) × (b : Answer) × Reserves least p text q b
+    of o accepted x =
+        let (s, n, g, l, m) = add-told least p text o accepted x .accepts .0 refl in
+        (withReservation p (record { count = n; net = s .out }), accepted, ((o, x), record { sheet = s; read = g .read; count = n; number = l; part = refl }))
+    of o (refused number place) x = (p, refused number place, ((o, x), refl))
+
+reserve-possible : (p : Part) (text : List ℕ) → (r : CallResult) × Reserve p text r
+unfolding Reserve
+reserve-possible p text =
+    by-reflects (λ b. (r : CallResult) × either b (either (isOpen p) (r ≡ turnedAway p 35) (Tried r)) (r ≡ turnedAway p 20)) (sound-reflects p)
+    (λ s. by-reflects (λ b. (r : CallResult) × either b (r ≡ turnedAway p 35) (Tried r)) (open-reflects p) (λ o. (turnedAway p 35, refl))
+    (λ o. let (q, a, x) = reserves-possible p text in (reservingSheet least text p q a, (x, refl))))
+    (λ n. (turnedAway p 20, refl))
+  where
+    Tried : CallResult → Type 0
+    Tried r = Reserves least p text (r .part) (r .answer) × (r ≡ reservingSheet least text p (r .part) (r .answer))
+
+-- and of a commit
+commit-possible : (p : Part) (text : List ℕ) → (r : CallResult) × Commit p text r
+unfolding Commit
+commit-possible p text =
+    by-reflects (λ b. (r : CallResult) × either b (either (isOpen p) (Committed p text r) (r ≡ turnedAway p 36)) (r ≡ turnedAway p 20)) (sound-reflects p)
+    (λ s. by-reflects (λ b. (r : CallResult) × either b (Committed p text r) (r ≡ turnedAway p 36)) (open-reflects p) (λ o. committed (isOther p (reading least text)))
+    (λ o. (turnedAway p 36, refl)))
+    (λ n. (turnedAway p 20, refl))
+  where
+    committed : (b : Bool) → (r : CallResult) × either b (r ≡ turnedAway p 36) (InTurn p 0 (text ∷ []) (released p) r)
+    committed true = (turnedAway p 36, refl)
+    committed false = turn-possible p 0 (text ∷ []) (released p)
+
 call-possible : (p : Part) (c : Call) → (r : CallResult) × Promise p c r
 call-possible p (add w text) = let (q, a, x) = add-possible w p text in (oneSheet w text p q a, (x, refl))
 call-possible p (addSet lengths text) = set-possible p lengths text
+call-possible p (reserve text) = reserve-possible p text
+call-possible p (commit text) = commit-possible p text
+call-possible p withdraw = (withdrawn p, refl)
 
 -- and so those of every list of calls
 pub chain-possible : (p : Part) (cs : List Call) → (rs : List CallResult) × Chain p cs rs

@@ -26,14 +26,16 @@ use Rattle.demands.specs.Trusted.Demands.{Demand1, lastPart, Demand2, To
 use Rattle.part.specs.OpenLaws.{opened-empty, opened-shaped, opened-sound}
 use Rattle.demands.specs.ConditionLaws.{opening-told, add-told, line-told, list-told}
 use Rattle.demands.specs.SetLaws.{set-told}
-use Rattle.demands.specs.CallLaws.{call-tries, call-line, call-kept, unsound-call, ownCall, line-chain}
+use Rattle.demands.specs.CallLaws.{set-tries, call-line, call-kept, unsound-call, ownCall, line-chain}
+use Rattle.part.specs.SetLaws.{set-case}
+use Rattle.demands.specs.ReserveLaws.{reserve-told, commit-told, withdraw-told, reservation-fits}
 use Rattle.demands.specs.CountLaws.{chain-kept, counted}
 use Rattle.demands.specs.ValueLaws.{sound-narrow, opened-served}
 use Rattle.demands.specs.FreeLaws.{values-by-free-nets}
 use Rattle.listing.specs.Trusted.Listing.{listOf}
 use Rattle.list_reading.specs.Trusted.ReadList.{readResult}
 use Rattle.list_reading.specs.ListingLaws.{list-says-all, same-lines}
-use Rattle.list_reading.specs.ReadLaws.{list-exactly}
+use Rattle.list_reading.specs.ReadLaws.{list-read}
 use Rattle.list_reading.specs.ToldLaws.{reading-told}
 use Rattle.demands.specs.DeterminedLaws.{alike-refl, seen, answers-determined}
 use Rattle.demands.specs.PossibleLaws.{chain-possible}
@@ -41,7 +43,17 @@ use Rattle.demands.specs.PossibleLaws.{chain-possible}
 -- ---- the demands
 
 pub demand-1 : Demand1
-demand-1 = record { opening = opening-told; adding = add-told; sets = set-told; line = line-told; list = list-told; reading = reading-told }
+demand-1 = record {
+  opening = opening-told;
+  adding = add-told;
+  sets = set-told;
+  reserving = reserve-told;
+  committing = commit-told;
+  withdrawing = withdraw-told;
+  line = line-told;
+  list = list-told;
+  reading = reading-told;
+}
 
 pub demand-2 : (k capacity : ℕ) → (opened k capacity) .answer ≡ accepted → (cs : List Call) (rs : List CallResult) →
     Chain ((opened k capacity) .part) cs rs → Demand2 k capacity cs rs
@@ -54,7 +66,7 @@ demand-2 k capacity a cs rs h =
       free = values-by-free-nets last s;
       each = opened-served k capacity a cs rs h;
       sound = s;
-      back = ap readResult (list-exactly (listOf last) last (g .shaped) .1 (s, refl));
+      back = ap readResult (list-read last (g .shaped) s);
       list = λ q f i. list-says-all last q (g .shaped) f s i;
       lines = λ q f i. same-lines last q (g .shaped) f s i;
     }
@@ -108,4 +120,4 @@ promises-possible = chain-possible
 -- the sheets of a set that were tried, each as an add of its own, are a list of calls with the same parts and answers (02, #106: "as if those
 -- before it had been added")
 pub set-adds : (p : Part) (lengths text : List ℕ) (r : CallResult) → AddSet p lengths text r → Chain p (map (λ t. add (t .way) (t .text)) (r .tries)) (map ownCall (r .tries))
-set-adds p lengths text r h = line-chain (call-line p (addSet lengths text) r h) (call-tries p (addSet lengths text) r h)
+set-adds p lengths text r h = line-chain (call-line p (addSet lengths text) r h) (set-tries p lengths text r (set-case p lengths text r h))

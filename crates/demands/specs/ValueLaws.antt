@@ -24,14 +24,14 @@ use Rattle.part.specs.Trusted.Sound.{Sound}
 use Rattle.part.specs.Trusted.Ways.{reading}
 use Rattle.part.specs.WayLaws.{reading-right, reading-drawn, chosen-added}
 use Rattle.part.specs.Trusted.Answers.{accepted, refused}
-use Rattle.part.specs.Trusted.Tries.{Try, CallResult}
+use Rattle.part.specs.Trusted.Tries.{adding, Try, CallResult}
 use Rattle.part.specs.Trusted.Add.{opened}
 use Rattle.part.specs.AddLaws.{not-refused}
 use Rattle.part.specs.OpenLaws.{opened-shaped, opened-empty}
 use Rattle.demands.specs.Trusted.Calls.{Call, Promise, Chain, done, call, final, SheetEntry, entered, sheetEntries, ifAccepted, acceptedBy, acceptedIn, Link, here, next}
-use Rattle.demands.specs.Trusted.Demands.{OnEachOther, no-try, next-try, TriedSheets, before-any, every, up-to, valuesIn, lastPart, Served, CallServed}
-use Rattle.demands.specs.TryLaws.{Trying, entriesOf, try-kept, try-taken}
-use Rattle.demands.specs.CallLaws.{call-tries, call-tried, call-kept}
+use Rattle.demands.specs.Trusted.Demands.{OnEachOther, no-try, next-try, TriedSheets, before-any, every, up-to, sets-aside, valuesIn, lastPart, Served, CallServed}
+use Rattle.demands.specs.TryLaws.{Adds, Trying, adds, entriesOf, try-kept, try-taken}
+use Rattle.demands.specs.CallLaws.{call-tries, call-tried, stands-kept, call-same-tables, call-kept}
 use Rattle.part.specs.declared.Part.{Part}
 
 -- ---- inputs
@@ -96,11 +96,12 @@ serves-none k p q e = record {
 
 -- ---- one sheet, and then others
 
-module _ (t : Try) (shape : Shaped (t .before)) (h : Trying t) (a : t .answer ≡ accepted) where
+module _ (t : Try) (shape : Shaped (t .before)) (u : t .purpose ≡ adding) (h : Adds t) (a : t .answer ≡ accepted) where
   serves-cons : (q : Part) (ts : List Try) → Serves (t .before .k) (t .after) q ts (sheetEntries ts) → Serves (t .before .k) (t .before) q (t ∷ ts) (sheetEntries (t ∷ ts))
   serves-cons q ts v =
       let (s, new, p, k) = try-taken t shape h a in
-      let e : entriesOf t ≡ record { way = t .way; part = t .before; sheet = s } ∷ [] = ap (entered (t .way) (t .before)) (k .read) in
+      let e : entriesOf t ≡ record { way = t .way; part = t .before; sheet = s } ∷ [] = 
+      ap (λ x. entered x (t .way) (t .before) (reading (t .way) (t .text))) u ∙ ap (entered adding (t .way) (t .before)) (k .read) in
       record {
         grows = grows-trans (record { more = new; tables = k .tables }) (v .grows);
         made = λ ss g.
@@ -126,16 +127,17 @@ module _ (t : Try) (shape : Shaped (t .before)) (h : Trying t) (a : t .answer �
 
 line-serves : {p q : Part} {ts : List Try} → OnEachOther p ts q → Every Trying ts → Shaped p → Serves (p .k) p q ts (sheetEntries ts)
 line-serves {p} no-try h shape = serves-none (p .k) p p refl
-line-serves {q = q} (next-try {t = t} {ts = ts} a l) h shape =
-    let k = try-kept t shape (every-head h) in
-    serves-cons t shape (every-head h) a q ts (subst (λ n. Serves n (t .after) q ts (sheetEntries ts)) (k .same-k) (line-serves l (every-tail h) (k .shaped)))
+line-serves {q = q} (next-try {t = t} {ts = ts} u a l) h shape =
+    let g = adds t u (every-head h) in
+    let k = try-kept t shape g in
+    serves-cons t shape u g a q ts (subst (λ n. Serves n (t .after) q ts (sheetEntries ts)) (k .same-k) (line-serves l (every-tail h) (k .shaped)))
 
 -- ---- a call: what it brings to the part, and of each of its sheets where it turns nothing down
 
 record CallServes (k : ℕ) (p : Part) (r : CallResult) : Type 0 where
   grows : Grows p (r .part)
   made : (ss : List Circuit) → History codeBase k (tablesOf p) ss → Made k (r .part) ss (acceptedBy r)
-  each : r .answer ≡ accepted → Every (λ t. Stands t (r .part) (acceptedBy r)) (r .tries)
+  each : r .answer ≡ accepted → Every (λ t. t .purpose ≡ adding → Stands t (r .part) (acceptedBy r)) (r .tries)
 
 call-serves : (o : Part) → Shaped o → (c : Call) (r : CallResult) → Promise o c r → CallServes (o .k) o r
 call-serves o shape c r h = of (call-tried o c r h)
@@ -153,14 +155,23 @@ call-serves o shape c r h = of (call-tried o c r h)
     of : TriedSheets o c r → CallServes (o .k) o r
     of (before-any n f e) = none-served n 0 (ap (λ r. r .answer) e) (ap (λ r. r .part) e)
     of (every e l a) =
-        let s = line-serves l (call-tries o c r h) shape in
+        let s = line-serves l (call-tries o c r h) (stands-kept c o shape .shaped) in
         let n : sheetEntries (r .tries) ≡ acceptedBy r = ap (λ a. ifAccepted a (sheetEntries (r .tries))) (sym a) in
         record {
-          grows = s .grows;
+          grows = record { more = s .grows .more; tables = s .grows .tables };
           made = subst (λ es. (ss : List Circuit) → History codeBase (o .k) (tablesOf o) ss → Made (o .k) (r .part) ss es) n (s .made);
-          each = λ i. subst (λ es. Every (λ t. Stands t (r .part) es) (r .tries)) n (s .each);
+          each = λ i t m u. subst (λ es. Every (λ t. Stands t (r .part) es) (r .tries)) n (s .each) t m;
         }
     of (up-to ahead t rest m n e s l i j f) = none-served m n (j ∙ i) f
+    of (sets-aside text i e) =
+        let z = call-same-tables o shape c r h text e in
+        record {
+          grows = record { more = []; tables = z ∙ sym (append-nil (tablesOf o)) };
+          made = subst (λ es. (ss : List Circuit) → History codeBase (o .k) (tablesOf o) ss → Made (o .k) (r .part) ss es) (sym (ap acceptedBy e))
+              (λ ss g. record { sheets = ss; history = subst (λ ts. History codeBase (o .k) ts ss) (sym z) g; old = λ s m. m; new = every-none _ });
+          each = λ a. subst (Every (λ t. t .purpose ≡ adding → Stands t (r .part) (acceptedBy r))) (sym (ap (λ r. r .tries) e))
+              (every-cons (λ u. let x : _≡_ {A = ℕ} 0 1 = cc in absurd (omega arith)) (every-none _));
+        }
 
 -- ---- a chain of calls
 
@@ -183,14 +194,14 @@ chain-made {p} (call {c = c} {r = r} {rs = rs} h t) shape ss g =
     }
 
 link-stands : {p o : Part} {cs : List Call} {rs : List CallResult} {es : List SheetEntry} {d : Call} {r : CallResult} → Link p cs rs es o d r → Chain p cs rs →
-    Shaped p → r .answer ≡ accepted → Every (λ t. Stands t (final p rs) (acceptedIn rs)) (r .tries)
-link-stands {p} (here {d = d} {t = r} {rs = rs}) (call h g) shape a t m =
+    Shaped p → r .answer ≡ accepted → Every (λ t. t .purpose ≡ adding → Stands t (final p rs) (acceptedIn rs)) (r .tries)
+link-stands {p} (here {d = d} {t = r} {rs = rs}) (call h g) shape a t m u =
     stands-on t (r .part) (final (r .part) rs) (acceptedBy r) (acceptedBy r ++ acceptedIn rs) (chain-grows g (call-kept p shape d r h .shaped))
-    (λ e i. Memᴰ·append-left (acceptedIn rs) i) (call-serves p shape d r h .each a t m)
-link-stands {p} (next {c = c} {r = r} {rs = rs} l) (call h g) shape a t m =
+    (λ e i. Memᴰ·append-left (acceptedIn rs) i) (call-serves p shape d r h .each a t m u)
+link-stands {p} (next {c = c} {r = r} {rs = rs} l) (call h g) shape a t m u =
     let last = final (r .part) rs in
     stands-on t last last (acceptedIn rs) (acceptedBy r ++ acceptedIn rs) (same-grows last last refl) (λ e i. Memᴰ·append-right (acceptedBy r) i)
-    (link-stands l g (call-kept p shape c r h .shaped) a t m)
+    (link-stands l g (call-kept p shape c r h .shaped) a t m u)
 
 module _ (p : Part) (shape : Shaped p) (history : History codeBase (p .k) (tablesOf p) []) (cs : List Call) (rs : List CallResult) (chain : Chain p cs rs) where
   made : Made (p .k) (final p rs) [] (acceptedIn rs)
@@ -213,7 +224,7 @@ module _ (p : Part) (shape : Shaped p) (history : History codeBase (p .k) (table
       )
 
   served : (es : List SheetEntry) (o : Part) (c : Call) (r : CallResult) → Link p cs rs es o c r → CallServed (final p rs) r
-  served es o c r l a t m = stands-served t (link-stands l chain shape a t m)
+  served es o c r l a t m u = stands-served t (link-stands l chain shape a t m u)
 
 -- DEMAND 2: every list of calls from an opening
 pub opened-served : (k capacity : ℕ) → (opened k capacity) .answer ≡ accepted → (cs : List Call) (rs : List CallResult) →

@@ -1,5 +1,5 @@
--- A number can be read off its field, and so a part off its lines: two sound parts with the same lines are the same part. No line says a
--- level, but the rules fix the levels by the rest.
+-- A number can be read off its field, and so a part off its lines: two sound parts with the same lines are the same part but for what
+-- is reserved. No line says a level, but the rules fix the levels by the rest.
 use Prim.Native.Nat.{ℕ, zero, suc, _^_, _≤_, _<_}
 use native.Mathlib.Nat.{pow-le-pow-right}
 use native.Mathlib.Omega.{arith}
@@ -21,7 +21,8 @@ use Rattle.table.specs.Trusted.Records.{reads, tableOf, blank}
 use Rattle.table.specs.Trusted.Rules.{AllZero, Blank, NamesTable, Padded, places}
 use Rattle.table.specs.RuleLaws.{old-place, record-placed}
 use Rattle.list_layout.specs.Taken.{atLevel}
-use Rattle.part.specs.Trusted.Parts.{inUse, tablesOf, Shaped}
+use Rattle.part_records.specs.Trusted.Reservations.{unreserved}
+use Rattle.part.specs.Trusted.Parts.{inUse, tablesOf, released, Shaped}
 use Rattle.part.specs.Trusted.Sound.{Sound}
 use Rattle.part.specs.SoundLaws.{used-count}
 use Rattle.list_line.specs.Trusted.TableLine.{tableLine}
@@ -160,8 +161,8 @@ blank-same r s f g =
 
 module _ (p q : Part) (fp : Shaped p) (fq : Shaped q) (hp : Sound p) (hq : Sound q) where
   same-part : p .k ≡ q .k → p .capacity ≡ q .capacity → p .used ≡ q .used →
-      ((t : ℕ) → t < p .used → SameBut (getD (p .tables) t blank) (getD (q .tables) t blank)) → p ≡ q
-  same-part a b c d = λ i. record { k = a i; capacity = b i; used = c i; tables = tables i }
+      ((t : ℕ) → t < p .used → SameBut (getD (p .tables) t blank) (getD (q .tables) t blank)) → released p ≡ released q
+  same-part a b c d = λ i. record { k = a i; capacity = b i; used = c i; reservation = unreserved; tables = tables i }
     where
       count : length (inUse p) ≡ length (inUse q)
       count = used-count p fp hp ∙ c ∙ sym (used-count q fq hq)
@@ -210,8 +211,8 @@ module _ (p q : Part) (fp : Shaped p) (fq : Shaped q) (hp : Sound p) (hq : Sound
       table-line-only (suc t) (getD (p .tables) t blank) (getD (q .tables) t blank) xs ys
       (omega (arith, l, hp .used-fits, hp .capacity-range .1)) (small-at p fp hp t l) (small-at q fq hq t m) e
 
-  -- TWO SOUND PARTS WITH THE SAME LINES are the same part
-  pub same-lines : ((t : ℕ) → t ≤ p .used → lineOf p t ≡ lineOf q t) → p ≡ q
+  -- TWO SOUND PARTS WITH THE SAME LINES are the same part but for what is reserved
+  pub same-lines : ((t : ℕ) → t ≤ p .used → lineOf p t ≡ lineOf q t) → released p ≡ released q
   same-lines e =
       let a = top-only [] [] (ap (λ l. l ++ []) (e 0 (omega arith))) in
       same-part (a .0) (a .1) (a .2) (λ t l. line-only t [] [] l (omega (arith, l, a .2)) (ap (λ l. l ++ []) (e (suc t) l)) .0)
@@ -224,8 +225,8 @@ module _ (p q : Part) (fp : Shaped p) (fq : Shaped q) (hp : Sound p) (hq : Sound
       let a = line-only t (gather (lineOf p) (map suc ts)) (gather (lineOf q) (map suc ts)) (h .0) (h .1) e in
       every-cons (a .0) (lines-only ts (every-tail f) (a .1))
 
-  -- TWO SOUND PARTS WITH THE SAME LIST are the same part
-  pub list-says-all : listOf p ≡ listOf q → p ≡ q
+  -- TWO SOUND PARTS WITH THE SAME LIST are the same part but for what is reserved
+  pub list-says-all : listOf p ≡ listOf q → released p ≡ released q
   list-says-all e =
       let f : (r : Part) → listOf r ≡ lineOf r 0 ++ gather (lineOf r) (map suc (upto (r .used))) = λ r. ap (λ ts. lineOf r 0 ++ gather (lineOf r) ts) (from-one (r .used)) in
       let a = top-only (gather (lineOf p) (map suc (upto (p .used)))) (gather (lineOf q) (map suc (upto (q .used)))) (sym (f p) ∙ e ∙ f q) in

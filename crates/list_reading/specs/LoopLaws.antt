@@ -26,6 +26,7 @@ use Rattle.list_layout.specs.declared.TopRead.{TopRead}
 use Rattle.list_layout.specs.Trusted.Layout.{takeTable}
 use Rattle.list_layout.specs.Taken.{atLevel, TopTaken, TableTaken}
 use Rattle.list_layout.specs.NarrowLaws.{points-held, kept-same}
+use Rattle.part_records.specs.Trusted.Reservations.{unreserved}
 use Rattle.part.specs.Trusted.Parts.{blanks}
 use Rattle.part.specs.Trusted.Answers.{empty, refused as turnedAway}
 use Rattle.part.specs.declared.Part.{Part}
@@ -158,10 +159,10 @@ module _ (text : List ℕ) (k capacity used : ℕ) where
         rest-is ∙ require-off 31 (suc used) _ (nil-reflects (drop at text)) (λ e. omega (arith, length-drop at text, ap length e))
         ∙ ap (refused 31) (sym (add-one used))
 
-    pub rest-all : length text ≤ at → restRead k capacity used (drop 19 text) ≡ passed (record { k = k; capacity = capacity; used = used; tables = tables })
+    pub rest-all : length text ≤ at → restRead k capacity used (drop 19 text) ≡ passed (record { k = k; capacity = capacity; used = used; reservation = unreserved; tables = tables })
     rest-all l =
         rest-is ∙ require-on 31 (suc used) _ (nil-reflects (drop at text)) (drop-of-length-le text {i = at} l)
-        ∙ ap (λ ts. passed (record { k = k; capacity = capacity; used = used; tables = ts }))
+        ∙ ap (λ ts. passed (record { k = k; capacity = capacity; used = used; reservation = unreserved; tables = ts }))
         (ap (λ ts. take used tables ++ ts) (sym (h .rest)) ∙ take-append-drop used tables)
 
 -- ---- line 0

@@ -10,6 +10,7 @@ use Rattle.part.specs.declared.Part.{Part}
 use Rattle.table.specs.Trusted.Limits.{inputRoom}
 use Rattle.table.specs.Trusted.Records.{tableOf, recordsAfter, blank}
 use Rattle.table.specs.Trusted.RecordTest.{Verdict, none, bad, refused, tested}
+use Rattle.part_records.specs.Trusted.Reservations.{unreserved}
 use Rattle.part.specs.Trusted.Parts.{blanks}
 use Rattle.part.specs.Trusted.SoundTest.{sound}
 use Rattle.part.specs.Trusted.Add.{opened}
@@ -31,7 +32,7 @@ follow : recordsAfter (map tableOf (one ∷ [])) (map tableOf (two ∷ made 0 22
 follow = refl
 
 abbrev pub part : Part
-part = record { k = 4; capacity = 8; used = 2; tables = one ∷ two ∷ drop 2 blanks }
+part = record { k = 4; capacity = 8; used = 2; reservation = unreserved; tables = one ∷ two ∷ drop 2 blanks }
 
 -- its lines, byte by byte
 abbrev line-0 : List ℕ
@@ -57,11 +58,11 @@ unfolding sound blanks
 is-sound = refl
 
 -- the same with used 1 has a record past the used count that is not zero, and with used 3 one of zeros in use
-short : sound (record { k = 4; capacity = 8; used = 1; tables = one ∷ two ∷ drop 2 blanks }) ≡ false
+short : sound (record { k = 4; capacity = 8; used = 1; reservation = unreserved; tables = one ∷ two ∷ drop 2 blanks }) ≡ false
 unfolding sound blanks
 short = refl
 
-long : sound (record { k = 4; capacity = 8; used = 3; tables = one ∷ two ∷ drop 2 blanks }) ≡ false
+long : sound (record { k = 4; capacity = 8; used = 3; reservation = unreserved; tables = one ∷ two ∷ drop 2 blanks }) ≡ false
 unfolding sound blanks
 long = refl
 

@@ -24,6 +24,8 @@ use Rattle.table.specs.declared.Table.{Table}
 use Rattle.list_line.specs.Trusted.TableLine.{tableLine}
 use Rattle.list_layout.specs.Trusted.Layout.{takeTop, takeTable}
 use Rattle.list_layout.specs.Trusted.LineSays.{FieldFits, LineSays}
+use Rattle.part_records.specs.Trusted.Reservations.{unreserved}
+use Rattle.part_records.specs.ReservationLaws.{none-reservable}
 use Rattle.part.specs.Trusted.Parts.{blanks, inUse, Shaped}
 use Rattle.part.specs.Trusted.Sound.{Sound}
 use Rattle.part.specs.Trusted.Answers.{empty}
@@ -127,14 +129,14 @@ module _ (p : Part) where
 
 -- what a reading says of its text
 abbrev pub ListSays : List ℕ → Checked Part → Type 0
-ListSays text (passed p) = Shaped p × Sound p × (text ≡ listOf p)
+ListSays text (passed p) = Shaped p × Sound p × (p .reservation ≡ unreserved) × (text ≡ listOf p)
 ListSays text (refused number place) = ListCondition text number place
 
 -- the part that is read, where nothing is left over
 abbrev pub finish : (k capacity used : ℕ) → List Table × List ℕ → Checked Part
 finish k capacity used (tables, left) = do
   _ ← require (isNil left) 31 (suc used)
-  passed (record { k = k; capacity = capacity; used = used; tables = tables ++ drop used blanks })
+  passed (record { k = k; capacity = capacity; used = used; reservation = unreserved; tables = tables ++ drop used blanks })
 
 pub zeros-shaped : Shaped (empty 0 0)
 zeros-shaped = opened-shaped 0 0
@@ -147,11 +149,11 @@ module _ (text : List ℕ) (k : ℕ) where
   end-says : (rs : List Table) (rest : List ℕ) (g : GoodLines text k (length rs) rs rest) → ListSays text (finish k (g .capacity) (length rs) (rs, rest))
   end-says rs rest g =
       by-require 31 (suc (length rs)) _ (nil-reflects rest) (ListSays text)
-      (λ e. (shaped, sound, g .top .line ∙ ap₂ lines (sym (take-append-seam rs (drop (length rs) blanks))) e ∙ listed))
+      (λ e. (shaped, sound, refl, g .top .line ∙ ap₂ lines (sym (take-append-seam rs (drop (length rs) blanks))) e ∙ listed))
       (λ n. left-over k rs rest g n)
     where
       p : Part
-      p = record { k = k; capacity = g .capacity; used = length rs; tables = rs ++ drop (length rs) blanks }
+      p = record { k = k; capacity = g .capacity; used = length rs; reservation = unreserved; tables = rs ++ drop (length rs) blanks }
 
       shaped : Shaped p
       shaped = record {
@@ -166,6 +168,7 @@ module _ (text : List ℕ) (k : ℕ) where
         used-fits = g .used-fits;
         rest-blank = rw drop-append-seam (every-drop (length rs) blanks blanks-blank);
         rules = rw take-append-seam (g .rules);
+        reservation = none-reservable (g .capacity - length rs);
       }
 
       lines : List Table → List ℕ → List ℕ

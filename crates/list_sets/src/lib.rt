@@ -60,6 +60,8 @@ fn tell_sheet(a: Adding, position: u8) -> SetOutcome
         Adding::OutputDriven => refused(position, 21, 0),
         Adding::OutputRead => refused(position, 22, 0),
         Adding::Full => refused(position, 23, 0),
+        Adding::AlreadyReserved => refused(position, 35, 0),
+        Adding::NotReserved => refused(position, 36, 0),
     }
 }
 

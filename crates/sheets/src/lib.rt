@@ -45,6 +45,14 @@ fn tell_adding(a: Adding) -> Told
             number: 23,
             line: 0,
         },
+        Adding::AlreadyReserved => Told {
+            number: 35,
+            line: 0,
+        },
+        Adding::NotReserved => Told {
+            number: 36,
+            line: 0,
+        },
     }
 }
 

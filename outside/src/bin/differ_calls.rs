@@ -4,8 +4,8 @@
 //!
 //! `own` tests the independent implementation by what is known of each call from its making; `linked` the archive linked in (feature
 //! `linked`), against the independent implementation too. A sequence is known by its seed and index. A list of accepted sheets is checked,
-//! not compared. Between the calls the reserved sheet is tried at a commit, which must not give 23. A run in which a kind of calls, a refusal
-//! or an accepted call does not occur fails; 14 is tried with each accepted call that writes a list.
+//! not compared. Between the calls the reserved sheet is tried at a commit, which must not give 23. A run in which a kind of calls, a
+//! refusal or an accepted call does not occur fails; 14 is tried with each accepted call that writes a list.
 
 use std::process::ExitCode;
 

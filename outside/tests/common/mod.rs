@@ -4,6 +4,7 @@
 pub mod nested;
 pub mod reservations;
 pub mod sets;
+pub mod ways;
 
 use outside::refusal::Refusal;
 use outside::sheet::{read_only, Sheet};

@@ -29,8 +29,8 @@ pub fn check_by_hand(perform: &Perform) {
     }
 }
 
-/// The output is exactly long enough, one byte too short, or empty; all other refusals come before 14, and no room is needed where no list is
-/// written.
+/// The output is exactly long enough, one byte too short, or empty; all other refusals come before 14, and no room is needed where no list
+/// is written.
 pub fn check_short_outputs(perform: &Perform) {
     let answer = |call: &Call, length| perform(empty(2, 3).as_bytes(), of(2, 30), call, &mut vec![0; length]);
     let (fits, set_fits) = (commit(&chain(30, 1)), set(&[chain(31, 1)]));

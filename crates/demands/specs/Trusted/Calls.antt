@@ -7,11 +7,15 @@ use Rattle.lists.specs.Trusted.Lists.{gather}
 use Rattle.lists.specs.Trusted.Checked.{Checked, passed, refused as unread}
 use Rattle.cover.specs.Trusted.CoverTables.{Circuit}
 use Rattle.set_lengths.specs.Trusted.Lengths.{cut}
+use Rattle.part_records.specs.Trusted.Reservations.{unreserved}
+use Rattle.part_records.specs.declared.Reservation.{Reservation}
+use Rattle.part.specs.Trusted.Parts.{withReservation}
 use Rattle.part.specs.Trusted.Ways.{Way, least, reading}
 use Rattle.part.specs.Trusted.Answers.{Answer, accepted, refused}
 use Rattle.part.specs.Trusted.Add.{Add}
-use Rattle.part.specs.Trusted.Tries.{Try, CallResult}
+use Rattle.part.specs.Trusted.Tries.{Purpose, adding, reserving, Try, CallResult}
 use Rattle.part.specs.Trusted.Sets.{AddSet}
+use Rattle.part.specs.Trusted.Reservations.{Reserve, Commit, withdrawn}
 use Rattle.part.specs.declared.Part.{Part}
 
 -- a call that takes a part and hands one back
@@ -20,20 +24,43 @@ pub data Call : Type 0 where
   add : Way → List ℕ → Call
   -- a set of sheets (02, #106)
   addSet : (lengths text : List ℕ) → Call
+  -- tables set aside for a sheet, and the two that close it (02, #109)
+  reserve : List ℕ → Call
+  commit : List ℕ → Call
+  withdraw : Call
 
--- its sheets: the way of each, and its text
-abbrev pub sheetsOf : Call → List (Way × List ℕ)
-sheetsOf (add w text) = (w, text) ∷ []
-sheetsOf (addSet lengths text) = map (λ t. (least, t)) (cut lengths text)
+-- its sheets: what each is looked at for, its way, and its text
+abbrev pub sheetsOf : Call → List (Purpose × Way × List ℕ)
+sheetsOf (add w text) = (adding, w, text) ∷ []
+sheetsOf (addSet lengths text) = map (λ t. (adding, least, t)) (cut lengths text)
+sheetsOf (reserve text) = (reserving, least, text) ∷ []
+sheetsOf (commit text) = (adding, least, text) ∷ []
+sheetsOf withdraw = []
+
+-- what is set aside from them: a commit "may use the tables set aside, and closes the hold", a withdrawal "closes it too", and all other adding
+-- "finds only what is neither used nor set aside"
+abbrev pub withheld : Call → Part → Reservation
+withheld (add w text) o = o .reservation
+withheld (addSet lengths text) o = o .reservation
+withheld (reserve text) o = o .reservation
+withheld (commit text) o = unreserved
+withheld withdraw o = unreserved
+
+-- the part that the first of them stands on
+abbrev pub standsOn : Call → Part → Part
+standsOn c o = withReservation o (withheld c o)
 
 -- what an add on the part p gives: its one sheet was tried
 abbrev pub oneSheet : Way → List ℕ → Part → Part → Answer → CallResult
-oneSheet w text p q a = record { part = q; answer = a; position = 0; tries = record { way = w; text = text; before = p; after = q; answer = a } ∷ [] }
+oneSheet w text p q a = record { part = q; answer = a; position = 0; tries = record { purpose = adding; way = w; text = text; before = p; after = q; answer = a } ∷ [] }
 
 -- what the call itself promises
 abbrev pub Promise : Part → Call → CallResult → Type 0
 Promise p (add w text) r = Add w p text (r .part) (r .answer) × (r ≡ oneSheet w text p (r .part) (r .answer))
 Promise p (addSet lengths text) r = AddSet p lengths text r
+Promise p (reserve text) r = Reserve p text r
+Promise p (commit text) r = Commit p text r
+Promise p withdraw r = r ≡ withdrawn p
 
 -- the results of the calls, from the part p on
 pub data Chain : Part → List Call → List CallResult → Type 0 where
@@ -53,13 +80,14 @@ pub record SheetEntry : Type 0 where
   pub part : Part
   pub sheet : Circuit
 
--- the sheet that is read, if one is
-abbrev pub entered : Way → Part → Checked Circuit → List SheetEntry
-entered w p (passed s) = record { way = w; part = p; sheet = s } ∷ []
-entered w p (unread number place) = []
+-- the sheet that is read, if one is; "a held sheet is among a part's accepted sheets only through its accepted commit"
+abbrev pub entered : Purpose → Way → Part → Checked Circuit → List SheetEntry
+entered adding w p (passed s) = record { way = w; part = p; sheet = s } ∷ []
+entered adding w p (unread number place) = []
+entered reserving w p v = []
 
 abbrev pub sheetEntries : List Try → List SheetEntry
-sheetEntries = gather (λ t. entered (t .way) (t .before) (reading (t .way) (t .text)))
+sheetEntries = gather (λ t. entered (t .purpose) (t .way) (t .before) (reading (t .way) (t .text)))
 
 -- "A sheet is accepted where the call that it stands in turns nothing down"
 abbrev pub ifAccepted : Answer → List SheetEntry → List SheetEntry

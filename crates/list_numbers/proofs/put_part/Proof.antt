@@ -17,7 +17,7 @@ use Rattle.list_numbers.proofs.put_part.Tie as tie
 -- how many numbers the part has
 count : (s : tie.Start) → length (partNumbers (s .args .p)) ≡ 3 + 10 * s .args .p .used
 count s =
-    let t = s .good .0 .1 .1 .1 .1 .1 .0 in
+    let t = s .good .0 .1 .1 .1 .1 .1 .1 .0 in
     part-numbers (s .args .p) (shaped (s .args .p) (t .0) (t .1 .0 .1) (t .1 .1)) (s .pre)
 
 cast-if1 : tie.Need-cast-if1

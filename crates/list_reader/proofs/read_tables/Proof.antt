@@ -9,6 +9,7 @@ use Rattle.table.specs.LevelTestLaws.{levels-small}
 use Rattle.list_layout.specs.Taken.{atLevel}
 use Rattle.part.specs.Trusted.Parts.{blanks}
 use Rattle.part.specs.Trusted.Answers.{accepted}
+use Rattle.part_records.specs.Trusted.Reservations.{unreserved}
 use Rattle.list_reading.specs.Trusted.ReadList.{readResult}
 use Rattle.list_reading.specs.LoopLaws.{LinesSoFar, handed-refused, lines-none, line-bad, rule-bad, line-good, rest-refused, rest-over, rest-all}
 use borrow.Author.Needs.{needs}
@@ -17,7 +18,7 @@ use Rattle.list_reader.proofs.read_tables.Tie as tie
 
 abbrev Inv-loop : tie.InvT-loop
 Inv-loop text k capacity used part₀ prefix₀ levels₀ at₀ t₀ part prefix levels at t =
-    (part .k ≡ k) × (part .capacity ≡ capacity) × LinesSoFar text k used (part .tables) prefix levels at t
+    (part .k ≡ k) × (part .capacity ≡ capacity) × (part .reservation ≡ unreserved) × LinesSoFar text k used (part .tables) prefix levels at t
 
 abbrev μ-loop : tie.MeasureT-loop
 μ-loop text k capacity used part₀ prefix₀ levels₀ at₀ t₀ part prefix levels at t = used - t
@@ -33,8 +34,8 @@ unfolding noLevels
 loop-holds c =
     let a = c .before .before .before .args in
     let h = c .before .before .before .pre in
-    subst (λ p. (p .k ≡ a .k) × (p .capacity ≡ a .capacity) × LinesSoFar (a .text .now) (a .k) (a .used) (p .tables) (c .empty-prefix .result) noLevels 19 0) (sym (c .before .empty .ensures))
-    (refl, refl, subst (λ s. LinesSoFar (a .text .now) (a .k) (a .used) blanks s noLevels 19 0) (sym (c .empty-prefix .ensures)) (lines-none (a .text .now) (a .k) (a .used) (h .0) (h .1)))
+    subst (λ p. (p .k ≡ a .k) × (p .capacity ≡ a .capacity) × (p .reservation ≡ unreserved) × LinesSoFar (a .text .now) (a .k) (a .used) (p .tables) (c .empty-prefix .result) noLevels 19 0) (sym (c .before .empty .ensures))
+    (refl, refl, refl, subst (λ s. LinesSoFar (a .text .now) (a .k) (a .used) blanks s noLevels 19 0) (sym (c .empty-prefix .ensures)) (lines-none (a .text .now) (a .k) (a .used) (h .0) (h .1)))
 
 add-line : tie.Need-add-line Inv-loop μ-loop
 add-line c = search needs
@@ -52,7 +53,7 @@ returns c =
     let a = l .before .before .before .before .args in
     handed-refused (c .refused .ensures) refl
     (rest-refused (a .text .now) (a .k) (a .capacity) (a .used)
-    (line-bad (a .text .now) (a .k) (a .used) (l .loop .inv .2) (omega arith) (m .read-table .result) (m .read-table .ensures) (not-true (m .read-table .result .laid) (c .before .if1 .taken))))
+    (line-bad (a .text .now) (a .k) (a .used) (l .loop .inv .3) (omega arith) (m .read-table .result) (m .read-table .ensures) (not-true (m .read-table .result .laid) (c .before .if1 .taken))))
 
 keeps-points-requires : tie.Need-keeps-points-requires Inv-loop μ-loop
 keeps-points-requires c κs = search needs
@@ -72,7 +73,7 @@ returns-2 c =
     let a = l .before .before .before .before .args in
     handed-refused (c .refused2 .ensures) refl
     (rest-refused (a .text .now) (a .k) (a .capacity) (a .used)
-    (rule-bad (a .text .now) (a .k) (a .used) (l .loop .inv .2) (omega arith) (m .read-table .result) (m .read-table .ensures) (laid q)
+    (rule-bad (a .text .now) (a .k) (a .used) (l .loop .inv .3) (omega arith) (m .read-table .result) (m .read-table .ensures) (laid q)
     (sym (q .keeps-points .ensures) ∙ not-true (q .keeps-points .result) (c .before .if2 .taken))))
 
 after-requires : tie.Need-after-requires Inv-loop μ-loop
@@ -88,7 +89,7 @@ next-level-requires : tie.Need-next-level-requires Inv-loop μ-loop
 next-level-requires c κs =
     let i = c .before .before .before .before .before .before .before .before .before in
     let l = i .before .loop in
-    let h = l .inv .2 in
+    let h = l .inv .3 in
     (omega (arith, i .loop-test .taken, h .room), levels-small (l .levels) _ (h .kept .by-code))
 
 cast-r : tie.Need-cast-r Inv-loop μ-loop
@@ -113,8 +114,9 @@ loop-again c =
     let n = c .before .next-level in (
       l .loop .inv .0,
       l .loop .inv .1,
+      l .loop .inv .2,
       subst (λ s. LinesSoFar (a .text .now) (a .k) (a .used) (set (l .loop .part .tables) (l .loop .t) (atLevel (n .result) (m .read-table .result .table))) s (n .last .0) (m .read-table .result .end) (l .loop .t + 1)) (sym (c .before .before .before .before .after .ensures))
-          (line-good (a .text .now) (a .k) (a .used) (l .loop .inv .2) (omega arith) (m .read-table .result) (m .read-table .ensures) (laid q)
+          (line-good (a .text .now) (a .k) (a .used) (l .loop .inv .3) (omega arith) (m .read-table .result) (m .read-table .ensures) (laid q)
           (sym (q .keeps-points .ensures) ∙ not-false (q .keeps-points .result) (e .if2 .left)) (n .ensures .0) (n .ensures .1)),
     )
 
@@ -130,9 +132,9 @@ all-passed : (c : tie.After-loop Inv-loop μ-loop) → let l = c .before in let 
 all-passed c =
     let l = c .before in
     let a = l .before .before .before .before .args in
-    let n = l .loop .inv .2 .count in
+    let n = l .loop .inv .3 .count in
     let e : l .loop .t ≡ a .used = omega (arith, n) in
-    subst (LinesSoFar (a .text .now) (a .k) (a .used) (l .loop .part .tables) (l .loop .prefix) (l .loop .levels) (l .loop .at)) e (l .loop .inv .2)
+    subst (LinesSoFar (a .text .now) (a .k) (a .used) (l .loop .part .tables) (l .loop .prefix) (l .loop .levels) (l .loop .at)) e (l .loop .inv .3)
 
 returns-3 : tie.Need-returns-3 Inv-loop μ-loop
 returns-3 c =
@@ -146,7 +148,7 @@ returns-4 c =
     let l = c .before .before in
     let a = l .before .before .before .before .args in
     let i = l .loop .inv in
-    ap₂ (λ m n. record { part = record { k = m; capacity = n; used = a .used; tables = l .loop .part .tables }; answer = accepted }) (i .0) (i .1)
+    (λ j. record { part = record { k = i .0 j; capacity = i .1 j; used = a .used; reservation = i .2 j; tables = l .loop .part .tables }; answer = accepted })
     ∙ sym (ap readResult (rest-all (a .text .now) (a .k) (a .capacity) (a .used) (all-passed (c .before)) (omega arith)))
 
 pub read-tables-spec : {M : Type 1} → statement M

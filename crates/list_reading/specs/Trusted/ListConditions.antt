@@ -13,6 +13,7 @@ use Rattle.table.specs.Trusted.Rules.{Rules}
 use Rattle.table.specs.declared.Table.{Table}
 use Rattle.list_line.specs.Trusted.TableLine.{tableLine}
 use Rattle.list_layout.specs.Trusted.LineSays.{FieldFits, LineSays}
+use Rattle.part_records.specs.Trusted.Reservations.{unreserved}
 use Rattle.part.specs.Trusted.Parts.{Shaped}
 use Rattle.part.specs.Trusted.Sound.{Sound}
 use Rattle.part.specs.Trusted.Answers.{accepted, refused, Result, empty}
@@ -55,9 +56,9 @@ pub data ListCondition (text : List ℕ) : (number place : ℕ) → Type 0 where
   left-over : (k : ℕ) (rs : List Table) (rest : List ℕ) → GoodLines text k (length rs) rs rest → rest ≢ [] → ListCondition text 31 (suc (length rs))
 
 -- each refusal is given exactly where its condition holds, with a part of all zeros; accepted is exactly what the writer makes of a sound
--- part, and that part is handed back
+-- part, and that part is handed back, with nothing reserved
 pub record ListTold (text : List ℕ) (r : Result) : Type 0 where
   pub refuses : (number place : ℕ) → (r .answer ≡ refused number place) ↔ ListCondition text number place
-  pub accepts : (p : Part) → Shaped p → ((r .part ≡ p) × (r .answer ≡ accepted)) ↔ (Sound p × (text ≡ listOf p))
+  pub accepts : (p : Part) → Shaped p → ((r .part ≡ p) × (r .answer ≡ accepted)) ↔ (Sound p × (p .reservation ≡ unreserved) × (text ≡ listOf p))
   pub shaped : Shaped (r .part)
   pub zeros : (number place : ℕ) → r .answer ≡ refused number place → r .part ≡ empty 0 0

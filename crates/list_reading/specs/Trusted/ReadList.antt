@@ -1,4 +1,5 @@
--- READING A LIST BACK: 02, #101, in its order, and #103: the reader works the levels out. Lines are counted from 0. Definitions only.
+-- READING A LIST BACK: 02, #101, in its order, #103: the reader works the levels out, and #109: "A list shows no hold; read back, none is
+-- open". Lines are counted from 0. Definitions only.
 use Prim.Native.Nat.{ℕ, zero, suc}
 use mathlib.Core.Bool.{Bool, true, false}
 use mathlib.Core.List.{List, [], _∷_, _++_}
@@ -11,6 +12,7 @@ use Rattle.table.specs.Trusted.Records.{levelled}
 use Rattle.table.specs.Trusted.RecordTest.{keeps}
 use Rattle.table.specs.declared.Table.{Table}
 use Rattle.list_layout.specs.Trusted.Layout.{takeTop, takeTable}
+use Rattle.part_records.specs.Trusted.Reservations.{unreserved}
 use Rattle.part.specs.Trusted.Parts.{blanks}
 use Rattle.part.specs.Trusted.Answers.{Result, empty, accepted, refused as turnedAway}
 use Rattle.part.specs.declared.Part.{Part}
@@ -37,7 +39,7 @@ readList text = do
   _ ← require (leb used capacity) 32 0
   (tables, left) ← readTables k used [] more
   _ ← require (isNil left) 31 (suc used)
-  passed (record { k = k; capacity = capacity; used = used; tables = tables ++ drop used blanks })
+  passed (record { k = k; capacity = capacity; used = used; reservation = unreserved; tables = tables ++ drop used blanks })
 
 -- what a reading hands back: the part, or a part of all zeros
 abbrev pub readResult : Checked Part → Result

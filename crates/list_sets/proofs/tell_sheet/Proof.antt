@@ -47,6 +47,18 @@ enum-told-5 c = search needs
 refused-requires-5 : tie.Need-refused-requires-5
 refused-requires-5 c κs = search needs
 
+enum-told-6 : tie.Need-enum-told-6
+enum-told-6 c = search needs
+
+refused-requires-6 : tie.Need-refused-requires-6
+refused-requires-6 c κs = search needs
+
+enum-told-7 : tie.Need-enum-told-7
+enum-told-7 c = search needs
+
+refused-requires-7 : tie.Need-refused-requires-7
+refused-requires-7 c κs = search needs
+
 returns : tie.Need-returns
 returns c = told (c .before .before) (c .enum-told .given .1)
 
@@ -68,6 +80,12 @@ returns-5 c = c .refused4 .ensures ∙ told (c .before .before .before) (c .befo
 returns-6 : tie.Need-returns-6
 returns-6 c = c .refused5 .ensures ∙ told (c .before .before .before) (c .before .enum-told5 .given .1)
 
+returns-7 : tie.Need-returns-7
+returns-7 c = c .refused6 .ensures ∙ told (c .before .before .before) (c .before .enum-told6 .given .1)
+
+returns-8 : tie.Need-returns-8
+returns-8 c = c .refused7 .ensures ∙ told (c .before .before .before) (c .before .enum-told7 .given .1)
+
 pub tell-sheet-spec : {M : Type 1} → statement M
 tell-sheet-spec =
     tie.close
@@ -84,9 +102,15 @@ tell-sheet-spec =
     refused-requires-4
     enum-told-5
     refused-requires-5
+    enum-told-6
+    refused-requires-6
+    enum-told-7
+    refused-requires-7
     returns
     returns-2
     returns-3
     returns-4
     returns-5
-    returns-6)
+    returns-6
+    returns-7
+    returns-8)

@@ -25,7 +25,7 @@ cast-used c = search needs
 
 loop-holds : tie.Need-loop-holds Inv-loop μ-loop
 loop-holds c =
-    let t = c .good .0 .1 .1 .1 .1 .1 .0 in
+    let t = c .good .0 .1 .1 .1 .1 .1 .1 .0 in
     (omega arith, shaped (c .args .t1) (t .0) (t .1 .0 .1) (t .1 .1) .records, refl, omega arith)
 
 mul-r : tie.Need-mul-r Inv-loop μ-loop

@@ -89,7 +89,7 @@ record-at : (k : tie.Start) → k .args .line ≤ k .args .t1 .used → (k .args
     getD (k .args .t1 .tables) (k .args .line - 1) past ≡ getD (k .args .t1 .tables) (k .args .line - 1) blank
 record-at k l n s =
     let p = k .args .t1 in
-    let t = k .good .0 .1 .1 .1 .1 .1 .0 in
+    let t = k .good .0 .1 .1 .1 .1 .1 .1 .0 in
     getD-any (p .tables) (k .args .line - 1) past blank
     (omega (arith, l, n, used-room p s, shaped p (t .0) (t .1 .0 .1) (t .1 .1) .records))
 

@@ -46,7 +46,7 @@ loop-holds : tie.Need-loop-holds Inv-loop μ-loop
 unfolding noLevels
 loop-holds c =
     let a = c .before .args in
-    let t = c .before .good .0 .1 .1 .1 .1 .1 .0 in
+    let t = c .before .good .0 .1 .1 .1 .1 .1 .1 .0 in
     let none : [] ≡ tablesOf (a .opened) = ap (λ n. map tableOf (take n (a .opened .tables))) (sym (c .before .pre .1)) in
     (sheets-start (a .input .now) (a .opened) (a .start) (shaped (a .opened) (t .0) (t .1 .0 .1) (t .1 .1)) (c .before .pre .0), subst (LevelsStand noLevels) none levels-none)
 

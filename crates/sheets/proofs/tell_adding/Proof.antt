@@ -26,6 +26,12 @@ enum-told-4 c = search needs
 enum-told-5 : tie.Need-enum-told-5
 enum-told-5 c = search needs
 
+enum-told-6 : tie.Need-enum-told-6
+enum-told-6 c = search needs
+
+enum-told-7 : tie.Need-enum-told-7
+enum-told-7 c = search needs
+
 returns : tie.Need-returns
 returns c = search needs
 
@@ -46,6 +52,12 @@ returns-5 c = ap addingAnswer (sym (c .enum-told4 .given .1))
 returns-6 : tie.Need-returns-6
 returns-6 c = ap addingAnswer (sym (c .enum-told5 .given .1))
 
+returns-7 : tie.Need-returns-7
+returns-7 c = ap addingAnswer (sym (c .enum-told6 .given .1))
+
+returns-8 : tie.Need-returns-8
+returns-8 c = ap addingAnswer (sym (c .enum-told7 .given .1))
+
 pub tell-adding-spec : {M : Type 1} → statement M
 tell-adding-spec =
     tie.close
@@ -57,9 +69,13 @@ tell-adding-spec =
     enum-told-3
     enum-told-4
     enum-told-5
+    enum-told-6
+    enum-told-7
     returns
     returns-2
     returns-3
     returns-4
     returns-5
-    returns-6)
+    returns-6
+    returns-7
+    returns-8)
