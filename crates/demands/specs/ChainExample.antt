@@ -1,5 +1,5 @@
 -- The two adds of 01's example, "List", one after the other on the part that an opening gave, and the two sheets as a set: the promises can
--- be kept, and the part that they leave behind is the one whose list 01 prints (Examples). And sets that are turned down.
+-- be kept, and the part that they leave behind is the one whose list 01 prints (Examples). And sets that are turned down, and reservations.
 use Prim.Native.Nat.{ℕ, _≤_}
 use native.Mathlib.Omega.{arith}
 use mathlib.Core.Path.{_≡_, refl}
@@ -17,7 +17,8 @@ use Rattle.cover.specs.Trusted.Tables.{LookupTable}
 use Rattle.cover.specs.Trusted.CoverTables.{Circuit, LeastCoverTables}
 use Rattle.sheet.specs.Checks.{bytes}
 use Rattle.table.specs.ResultLaws.{says-true}
-use Rattle.part.specs.Trusted.Parts.{blanks, tablesOf}
+use Rattle.part_records.specs.declared.Reservation.{Reservation}
+use Rattle.part.specs.Trusted.Parts.{blanks, tablesOf, withReservation, released}
 use Rattle.part.specs.Trusted.Sound.{Sound}
 use Rattle.part.specs.Trusted.Nets.{Driven}
 use Rattle.part.specs.SoundLaws.{sound-reflects}
@@ -29,6 +30,7 @@ use Rattle.part.specs.Trusted.Ways.{least}
 use Rattle.part.specs.Trusted.Answers.{accepted, refused}
 use Rattle.part.specs.Trusted.Tries.{adding, Try, CallResult}
 use Rattle.part.specs.Trusted.Sets.{member, InTurn, turnedAway, AddSet}
+use Rattle.part.specs.Trusted.Reservations.{reservingSheet, Reserve, Commit, withdrawn}
 use Rattle.part.specs.Trusted.Add.{opened, extended, Add}
 use Rattle.demands.specs.Trusted.Calls.{add, addSet, oneSheet, final, Chain, call}
 use Rattle.list_reading.specs.PartExamples.{part}
@@ -236,3 +238,84 @@ set-empty = refl
 unsound-first : AddSet ((opened 7 8) .part) [] [] (turnedAway ((opened 7 8) .part) 20)
 unfolding AddSet sound blanks
 unsound-first = refl
+
+-- ---- reservations (02, #109): the one table of a part is set aside for the first sheet
+
+abbrev held : Part
+held = withReservation small (record { count = 1; net = 20 })
+
+reserve-accepted : Reserve small first-text (reservingSheet least first-text small held accepted)
+unfolding Reserve sound blanks
+reserve-accepted = (((filled, fills), record { sheet = first; read = first-read; count = 1; number = least-1; part = refl }), refl)
+
+-- an add and a set find no table besides, and another reservation is turned away
+none-besides : Add least held second-text held (refused 23 0)
+unfolding Add sound blanks
+none-besides = rw second-read (1, least-2, (refl, refl))
+
+set-besides : (ts : List Try) × AddSet held (38 ∷ []) second-text (record { part = held; answer = refused 23 0; position = 1; tries = ts })
+unfolding AddSet sound blanks
+set-besides = (_, InTurn.stop none-besides)
+
+reserve-again : Reserve held second-text (turnedAway held 35)
+unfolding Reserve sound blanks
+reserve-again = refl
+
+-- the commit of the first sheet uses the table and closes the reservation; one of the second sheet is for another net; a line too few is the
+-- sheet's own refusal, and comes first
+commit-accepted : (ts : List Try) × Commit held first-text (record { part = filled; answer = accepted; position = 0; tries = ts })
+unfolding Commit sound blanks
+commit-accepted = (member first-text small filled accepted ∷ [], rw first-read (InTurn.next fills InTurn.all))
+
+commit-other : Commit held second-text (turnedAway held 36)
+unfolding Commit sound blanks
+commit-other = rw second-read refl
+
+one-line : readOf (take 13 second-text) ≡ unread 1 2
+unfolding readOf _>>=_ require given
+one-line = refl
+
+cut-refused : Add least small (take 13 second-text) small (refused 1 2)
+unfolding Add sound blanks
+cut-refused = rw one-line (refl, refl)
+
+commit-cut : (ts : List Try) × Commit held (take 13 second-text) (record { part = held; answer = refused 1 2; position = 0; tries = ts })
+unfolding Commit sound blanks
+commit-cut = (member (take 13 second-text) small small (refused 1 2) ∷ [], rw one-line (InTurn.stop cut-refused))
+
+-- with the net driven in between, the commit gets 21 and keeps the reservation
+abbrev driven-since : Part
+driven-since = withReservation filled (record { count = 1; net = 20 })
+
+abbrev roomy : Part
+roomy = record { k = 4; capacity = 2; used = 1; reservation = record { count = 1; net = 20 }; tables = filled .tables }
+
+driven-by-then : Add least (released roomy) first-text (released roomy) (refused 21 0)
+unfolding Add sound blanks
+driven-by-then = rw first-read (refl, refl)
+
+commit-driven : (ts : List Try) × Commit roomy first-text (record { part = roomy; answer = refused 21 0; position = 0; tries = ts })
+unfolding Commit sound blanks
+commit-driven = (member first-text (released roomy) (released roomy) (refused 21 0) ∷ [], rw first-read (InTurn.stop driven-by-then))
+
+-- withdrawn, the part is as it was before; and with none open nothing can be closed
+withdraw-closes : withdrawn held ≡ record { part = small; answer = accepted; position = 0; tries = [] }
+unfolding withdrawn sound blanks
+withdraw-closes = refl
+
+none-to-close : (withdrawn small ≡ turnedAway small 36) × Commit small first-text (turnedAway small 36)
+unfolding withdrawn Commit sound blanks
+none-to-close = (refl, refl)
+
+-- what may be reserved where one table is left, and where none is: as many as are left; both numbers zero or none; a net from 1 to 9999
+reservations :
+    map (λ (r : Reservation). sound (withReservation small r))
+    (record { count = 0; net = 0 } ∷ record { count = 1; net = 1 } ∷ record { count = 1; net = 9999 } ∷ record { count = 2; net = 1 } ∷ record { count = 1; net = 0 }
+    ∷ record { count = 0; net = 1 } ∷ record { count = 1; net = 10000 } ∷ [])
+    ≡ true ∷ true ∷ true ∷ false ∷ false ∷ false ∷ false ∷ []
+unfolding sound blanks
+reservations = refl
+
+full-reserved : sound driven-since ≡ false
+unfolding sound blanks
+full-reserved = refl

@@ -1,11 +1,13 @@
 -- THE THREE DEMANDS HOLD: `demand-1`, `demand-2` and `demand-3`; and what else is proved of lists of calls. `Part::add` ensures, of every
--- part p and text, `Add least p text (r .part) (addingAnswer (r .answer))` of its result r, and `Part::add_set` likewise `AddSet`, for some
--- tries; so calls of the code, each given the part that the one before handed back, are a `Chain` (`called`, `set-called`). `Shaped` says of a
+-- part p and text, `Add least p text (r .part) (addingAnswer (r .answer))` of its result r, and `Part::add_set`, `reserve` and `commit` likewise
+-- `AddSet`, `Reserve` and `Commit`, for some tries, and `withdraw` gives `withdrawn`; so calls of the code, each given the part that the one
+-- before handed back, are a `Chain` (`called`, `set-called`, `reserve-called`, `commit-called`, `withdraw-called`). `Shaped` says of a
 -- part what its type does.
 use Prim.Native.Nat.{ℕ, _≤_}
 use native.Mathlib.Omega.{arith}
 use mathlib.Core.Path.{_≡_, refl, sym, ap, _∙_, subst}
-use mathlib.Core.List.{List, _∷_, map}
+use mathlib.Core.Logic.{_≢_}
+use mathlib.Core.List.{List, [], _∷_, map}
 use lib.ListN.{length}
 use Rattle.lists.specs.Trusted.Lists.{Every}
 use Rattle.lists.specs.ListLaws.{every-none, every-cons}
@@ -14,15 +16,17 @@ use Rattle.part.specs.Trusted.Sound.{Sound}
 use Rattle.part.specs.Trusted.Ways.{least}
 use Rattle.part.specs.Trusted.Answers.{accepted, refused}
 use Rattle.part.specs.Trusted.Add.{opened, Add}
-use Rattle.part.specs.Trusted.AddAnswers.{addingAnswer}
+use Rattle.part.specs.Trusted.AddAnswers.{addingAnswer, addingResult}
 use Rattle.part.specs.Trusted.Tries.{Try, CallResult}
 use Rattle.part.specs.Trusted.Sets.{AddSet}
+use Rattle.part.specs.Trusted.Reservations.{Reserve, Commit, withdrawn}
 use Rattle.part.specs.Trusted.SetAnswers.{setResult}
 use Rattle.part.specs.declared.Part.{Part}
 use Rattle.part.specs.declared.Added.{Added}
+use Rattle.part.specs.declared.Adding.the-variants.{Accepted, Full}
 use Rattle.part.specs.declared.SetAdded.{SetAdded}
-use Rattle.demands.specs.Trusted.Calls.{Call, add, addSet, oneSheet, Chain, done, call, acceptedIn}
-use Rattle.demands.specs.Trusted.Demands.{Demand1, lastPart, Demand2, Total, Demand3}
+use Rattle.demands.specs.Trusted.Calls.{Call, add, addSet, reserve, commit, withdraw, oneSheet, Chain, done, call, final, acceptedIn}
+use Rattle.demands.specs.Trusted.Demands.{Demand1, lastPart, Demand2, Total, Demand3, StillOpen, Guaranteed}
 use Rattle.part.specs.OpenLaws.{opened-empty, opened-shaped, opened-sound}
 use Rattle.demands.specs.ConditionLaws.{opening-told, add-told, line-told, list-told}
 use Rattle.demands.specs.SetLaws.{set-told}
@@ -85,6 +89,29 @@ called p text r h t = call {c = add least text} (h, refl) t
 pub set-called : (p : Part) (lengths text : List ℕ) (r : SetAdded) (ts : List Try) → AddSet p lengths text (setResult r ts) → {cs : List Call} {rs : List CallResult} →
     Chain (r .part) cs rs → Chain p (addSet lengths text ∷ cs) (setResult r ts ∷ rs)
 set-called p lengths text r ts h t = call h t
+
+-- and so are a reservation, a commit and a withdrawal
+pub reserve-called : (p : Part) (text : List ℕ) (r : Added) (ts : List Try) → Reserve p text (addingResult r ts) → {cs : List Call} {rs : List CallResult} →
+    Chain (r .part) cs rs → Chain p (reserve text ∷ cs) (addingResult r ts ∷ rs)
+reserve-called p text r ts h t = call h t
+
+pub commit-called : (p : Part) (text : List ℕ) (r : Added) (ts : List Try) → Commit p text (addingResult r ts) → {cs : List Call} {rs : List CallResult} →
+    Chain (r .part) cs rs → Chain p (commit text ∷ cs) (addingResult r ts ∷ rs)
+commit-called p text r ts h t = call h t
+
+pub withdraw-called : (p : Part) (r : Added) → addingResult r [] ≡ withdrawn p → {cs : List Call} {rs : List CallResult} → Chain (r .part) cs rs →
+    Chain p (withdraw ∷ cs) (addingResult r [] ∷ rs)
+withdraw-called p r h t = call h t
+
+-- THE GUARANTEE OF A RESERVATION, and the same at the code's calls: `Part::reserve` gave h, and `Part::commit` on the last part r
+pub guaranteed : (p : Part) → Shaped p → (text : List ℕ) → Guaranteed p text
+guaranteed = reservation-fits
+
+pub reserved-commit : (p : Part) → Shaped p → (text : List ℕ) (h : Added) (ts : List Try) → Reserve p text (addingResult h ts) → h .answer ≡ Accepted →
+    (cs : List Call) (rs : List CallResult) → Chain (h .part) cs rs → StillOpen cs rs → (r : Added) (us : List Try) →
+    Commit (final (h .part) rs) text (addingResult r us) → r .answer ≢ Full
+reserved-commit p shape text h ts promise a cs rs chain still r us committed e =
+    guaranteed p shape text (addingResult h ts) promise (ap addingAnswer a) cs rs chain still (addingResult r us) committed 0 (ap addingAnswer e)
 
 -- from an opening, the used count is the sum of the least numbers of the accepted sheets
 pub opened-used : (k capacity : ℕ) → (opened k capacity) .answer ≡ accepted → (cs : List Call) (rs : List CallResult) →
