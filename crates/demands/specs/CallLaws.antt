@@ -12,9 +12,9 @@ use Rattle.part.specs.Trusted.Sound.{Sound}
 use Rattle.part.specs.Trusted.Ways.{Way, least}
 use Rattle.part.specs.Trusted.Answers.{Answer, accepted, refused}
 use Rattle.part_records.specs.Trusted.Reservations.{unreserved}
-use Rattle.part.specs.Trusted.Tries.{Purpose, adding, reserving, Try, CallResult}
+use Rattle.part.specs.Trusted.Tries.{Purpose, adding, Try, CallResult}
 use Rattle.part.specs.Trusted.Sets.{member, InTurn, all, next, stop, turnedAway}
-use Rattle.part.specs.Trusted.Reservations.{Reserved, Reserves, reservingSheet, withdrawn}
+use Rattle.part.specs.Trusted.Reservations.{Reserved, Reserves, reservingTry, reservingSheet, withdrawn}
 use Rattle.part.specs.AddLaws.{Kept, AddCase, unsound, misread, driven, read, full, taken, add-case, same-kept, kept-trans, add-reserved, not-refused, refused-stays}
 use Rattle.part.specs.ReserveLaws.{released-sound, aside-kept}
 use Rattle.part.specs.SetLaws.{SetCase, unsound-part, unfit, in-turn, set-case}
@@ -167,7 +167,7 @@ reserve-tries o text r (open-reserve s n e) = before-any 35 (λ z. omega arith) 
 reserve-tries o text r (tried-reserve s n g e) = of (r .answer) refl (g .1)
   where
     t : Try
-    t = record { purpose = reserving; way = least; text = text; before = o; after = r .part; answer = r .answer }
+    t = reservingTry least text o (r .part) (r .answer)
 
     tries : r .tries ≡ t ∷ []
     tries = ap (λ r. r .tries) e
@@ -223,7 +223,7 @@ tried-line o c r (every e l a) = all-line l
 tried-line o c r (up-to ahead t rest number place e s l i j k) = subst (InLine (standsOn c o)) (sym e) (last-line t l)
 tried-line o c r (sets-aside text i e) =
     subst (λ d. InLine (standsOn d o) (r .tries)) (sym i)
-    (subst (InLine o) (sym (ap (λ r. r .tries) e)) (last {t = record { purpose = reserving; way = least; text = text; before = o; after = r .part; answer = accepted }}))
+    (subst (InLine o) (sym (ap (λ r. r .tries) e)) (last {t = reservingTry least text o (r .part) accepted}))
 
 not-none : {A : Type 0} (y : A) (xs ys : List A) → [] ≡ xs ++ y ∷ ys → ⊥
 not-none y [] ys e = let i : _≡_ {A = ℕ} 0 1 = cc in omega arith

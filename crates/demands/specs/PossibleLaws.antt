@@ -1,6 +1,6 @@
 -- Every promise of a call can be kept: for each part and each call there is a result that keeps it.
 -- The tables of any cover can be numbered so that each stands after those that it reads: gates below come first, the root's last.
-use Prim.Native.Nat.{ℕ, zero, suc, _+_, _-_, _≤_, _<_}
+use Prim.Native.Nat.{ℕ, zero, suc, _+_, _≤_, _<_}
 use native.Mathlib.Omega.{arith}
 use mathlib.Core.Path.{_≡_, refl, sym, ap, ap₂, _∙_, subst}
 use mathlib.Core.Bool.{Bool, true, false}

@@ -1,26 +1,24 @@
 -- The cases of a reservation, of a commit and of a withdrawal: what each found, and what it gave.
 use Prim.Native.Nat.{ℕ, zero, suc}
 use native.Mathlib.Omega.{arith}
-use mathlib.Core.Path.{_≡_, refl, sym, ap, subst}
+use mathlib.Core.Path.{_≡_, refl, subst}
 use mathlib.Core.Logic.{_≢_}
-use mathlib.Core.Bool.{Bool, true, false, cond}
+use mathlib.Core.Bool.{cond}
 use mathlib.Core.List.{List, [], _∷_}
-use lib.Dec.{eqb}
-use Rattle.lists.specs.Trusted.Tests.{Reflects, either}
+use Rattle.lists.specs.Trusted.Tests.{either}
 use Rattle.lists.specs.TestLaws.{reflects-eq, reflects-not, by-reflects, by-either}
 use Rattle.lists.specs.Trusted.Checked.{Checked, passed, refused as unread}
 use Rattle.cover.specs.Trusted.CoverTables.{Circuit}
 use Rattle.part_records.specs.Trusted.Reservations.{unreserved}
-use Rattle.part.specs.Trusted.Parts.{released, Shaped}
+use Rattle.part.specs.Trusted.Parts.{released}
 use Rattle.part.specs.Trusted.Sound.{Sound}
-use Rattle.part.specs.Trusted.SoundTest.{sound}
 use Rattle.part.specs.SoundLaws.{sound-reflects}
 use Rattle.part.specs.Trusted.Ways.{least, reading}
-use Rattle.part.specs.Trusted.Answers.{Answer, accepted, refused}
+use Rattle.part.specs.Trusted.Answers.{accepted, refused}
 use Rattle.part.specs.Trusted.Add.{Add}
 use Rattle.part.specs.Trusted.Tries.{CallResult}
 use Rattle.part.specs.Trusted.Sets.{InTurn, all, next, stop, turnedAway}
-use Rattle.part.specs.Trusted.Reservations.{isOpen, Reserves, reservingSheet, Reserve, isOther, Committed, Commit, withdrawn}
+use Rattle.part.specs.Trusted.Reservations.{isOpen, Reserves, reservingSheet, Reserve, isOther, Commit, withdrawn}
 use Rattle.part.specs.ReserveLaws.{open-reflects}
 use Rattle.part.specs.declared.Part.{Part}
 

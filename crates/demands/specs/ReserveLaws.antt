@@ -18,10 +18,9 @@ use Rattle.part.specs.Trusted.Tries.{CallResult}
 use Rattle.part.specs.Trusted.Sets.{turnedAway}
 use Rattle.part.specs.Trusted.Reservations.{SetAside, Reserved, Reserve, Commit, withdrawn}
 use Rattle.part.specs.AddLaws.{Kept, AddCase, unsound, misread, driven, read, full, taken, add-case, not-refused}
-use Rattle.part.specs.ReserveLaws.{released-sound}
 use Rattle.part.specs.declared.Part.{Part}
 use Rattle.demands.specs.Trusted.Calls.{Call, add, addSet, reserve, commit, withdraw, Promise, Chain, done, call, final}
-use Rattle.demands.specs.Trusted.Demands.{Passes, AddCondition, ReserveCondition, reserve-on-unsound, open-already, as-an-add, ReserveTold}
+use Rattle.demands.specs.Trusted.Demands.{Passes, ReserveCondition, reserve-on-unsound, open-already, as-an-add, ReserveTold}
 use Rattle.demands.specs.Trusted.Demands.{CommitCondition, commit-on-unsound, none-open, other-net, of-the-sheet, CommitTold}
 use Rattle.demands.specs.Trusted.Demands.{WithdrawCondition, withdraw-on-unsound, nothing-open, WithdrawTold, ReservedAfter, LeavesOpen, StillOpen, Guaranteed}
 use Rattle.demands.specs.ReserveCases.{ReserveCase, unsound-reserve, open-reserve, tried-reserve, reserve-case}

@@ -36,7 +36,6 @@ use Rattle.demands.specs.ReserveLaws.{reserve-told, commit-told, withdra
 use Rattle.demands.specs.CountLaws.{chain-kept, counted}
 use Rattle.demands.specs.ValueLaws.{sound-narrow, opened-served}
 use Rattle.demands.specs.FreeLaws.{values-by-free-nets}
-use Rattle.listing.specs.Trusted.Listing.{listOf}
 use Rattle.list_reading.specs.Trusted.ReadList.{readResult}
 use Rattle.list_reading.specs.ListingLaws.{list-says-all, same-lines}
 use Rattle.list_reading.specs.ReadLaws.{list-read}

@@ -100,7 +100,7 @@ module _ (t : Try) (shape : Shaped (t .before)) (u : t .purpose ≡ adding) (h :
   serves-cons : (q : Part) (ts : List Try) → Serves (t .before .k) (t .after) q ts (sheetEntries ts) → Serves (t .before .k) (t .before) q (t ∷ ts) (sheetEntries (t ∷ ts))
   serves-cons q ts v =
       let (s, new, p, k) = try-taken t shape h a in
-      let e : entriesOf t ≡ record { way = t .way; part = t .before; sheet = s } ∷ [] = 
+      let e : entriesOf t ≡ record { way = t .way; part = t .before; sheet = s } ∷ [] =
       ap (λ x. entered x (t .way) (t .before) (reading (t .way) (t .text))) u ∙ ap (entered adding (t .way) (t .before)) (k .read) in
       record {
         grows = grows-trans (record { more = new; tables = k .tables }) (v .grows);

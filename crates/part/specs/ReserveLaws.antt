@@ -1,18 +1,17 @@
 -- Reserving, committing and withdrawing: what the functions hand over keeps the promise; the cases of each; and that each keeps soundness, the
 -- shape, K and the capacity.
 use Prim.Native.Nat.{ℕ, _+_, _-_, _≤_, _<_}
-use native.Mathlib.Nat.{add-sub-cancel-left}
 use native.Mathlib.Omega.{arith}
-use mathlib.Core.Path.{_≡_, refl, sym, ap, _∙_, subst}
+use mathlib.Core.Path.{_≡_, refl, sym, ap, subst}
 use mathlib.Core.Logic.{_≢_}
-use mathlib.Core.Bool.{Bool, true, false, cond, not}
+use mathlib.Core.Bool.{true, false, not}
 use mathlib.Core.List.{List, [], _∷_}
 use borrow.Author.Tests.{ne-eqb}
 use lib.Dec.{eqb}
 use lib.ListN.{length}
 use Rattle.lists.specs.Trusted.Tests.{Reflects}
-use Rattle.lists.specs.TestLaws.{reflects-eq, reflects-not, reflects-true, by-either}
-use Rattle.lists.specs.Trusted.Checked.{Checked, passed, refused as unread, _>>=_}
+use Rattle.lists.specs.TestLaws.{reflects-eq, reflects-not, reflects-true}
+use Rattle.lists.specs.Trusted.Checked.{passed, refused as unread, _>>=_}
 use Rattle.tree.specs.Trusted.Limits.{codeBase}
 use Rattle.cover.specs.Trusted.CoverTables.{Circuit}
 use Rattle.sheet.specs.Trusted.Sheet.{DrawnSheet}
@@ -22,15 +21,14 @@ use Rattle.part_records.specs.ReservationLaws.{none-reservable}
 use Rattle.part.specs.Trusted.Parts.{withReservation, released, Shaped}
 use Rattle.part.specs.Trusted.Sound.{Sound}
 use Rattle.part.specs.Trusted.SoundTest.{sound}
-use Rattle.part.specs.SoundLaws.{sound-reflects}
 use Rattle.part.specs.Trusted.Reading.{readOf}
-use Rattle.part.specs.Trusted.Ways.{Way, least, reading, NumberBy}
+use Rattle.part.specs.Trusted.Ways.{least, NumberBy}
 use Rattle.part.specs.WayLaws.{reading-right, number-unique, some-tables, chosen-number}
 use Rattle.part.specs.Trusted.Answers.{Answer, accepted, refused}
 use Rattle.part.specs.Trusted.Add.{Offer, Add}
 use Rattle.part.specs.Trusted.Tries.{CallResult}
-use Rattle.part.specs.Trusted.Sets.{member, InTurn, all, next, stop, turnedAway}
-use Rattle.part.specs.Trusted.Reservations.{isOpen, SetAside, Reserved, Reserves, reservingSheet, Reserve, isOther, Committed, Commit, withdrawn}
+use Rattle.part.specs.Trusted.Sets.{member, all, next, stop, turnedAway}
+use Rattle.part.specs.Trusted.Reservations.{isOpen, SetAside, Reserves, reservingSheet, Reserve, isOther, Committed, Commit, withdrawn}
 use Rattle.part.specs.AddLaws.{Kept, AddCase, unsound, misread, driven, read, full, taken, add-case, not-refused}
 use Rattle.part.specs.StoringLaws.{add-misread, add-offered}
 use Rattle.part.specs.declared.Part.{Part}

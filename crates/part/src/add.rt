@@ -122,7 +122,14 @@ impl Part {
         let reservation = self.reservation;
         let tables = self.tables;
         let mut levels = [0u16; CODE_ROOM];
-        if !part_records::sound(self.k, self.capacity, self.used, reservation, tables, &mut levels) {
+        if !part_records::sound(
+            self.k,
+            self.capacity,
+            self.used,
+            reservation,
+            tables,
+            &mut levels,
+        ) {
             return self.refused(Adding::Unsound);
         }
         self.take(text, &mut levels)

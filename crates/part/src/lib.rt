@@ -117,6 +117,13 @@ impl Part {
         let reservation = self.reservation;
         let tables = self.tables;
         let mut levels = [0u16; CODE_ROOM];
-        part_records::sound(self.k, self.capacity, self.used, reservation, tables, &mut levels)
+        part_records::sound(
+            self.k,
+            self.capacity,
+            self.used,
+            reservation,
+            tables,
+            &mut levels,
+        )
     }
 }

@@ -61,7 +61,14 @@ impl Part {
         let reservation = self.reservation;
         let tables = self.tables;
         let mut levels = [0u16; CODE_ROOM];
-        if !part_records::sound(self.k, self.capacity, self.used, reservation, tables, &mut levels) {
+        if !part_records::sound(
+            self.k,
+            self.capacity,
+            self.used,
+            reservation,
+            tables,
+            &mut levels,
+        ) {
             return self.refused(Adding::Unsound);
         }
         if reservation.count != 0 {
@@ -87,9 +94,9 @@ impl Part {
             return self.refused(Adding::NotReserved);
         }
         let added = self.released().offer(sheet, levels);
-        let answer = added.answer;
-        let Adding::Accepted = answer else {
-            return self.refused(answer);
+        let why = added.answer;
+        let Adding::Accepted = why else {
+            return self.refused(why);
         };
         added
     }
@@ -103,7 +110,14 @@ impl Part {
         let reservation = self.reservation;
         let tables = self.tables;
         let mut levels = [0u16; CODE_ROOM];
-        if !part_records::sound(self.k, self.capacity, self.used, reservation, tables, &mut levels) {
+        if !part_records::sound(
+            self.k,
+            self.capacity,
+            self.used,
+            reservation,
+            tables,
+            &mut levels,
+        ) {
             return self.refused(Adding::Unsound);
         }
         if reservation.count == 0 {
@@ -119,8 +133,8 @@ impl Part {
         if !self.sound() {
             return self.refused(Adding::Unsound);
         }
-        let reservation = self.reservation;
-        if reservation.count == 0 {
+        let open = self.reservation;
+        if open.count == 0 {
             return self.refused(Adding::NotReserved);
         }
         self.released().refused(Adding::Accepted)

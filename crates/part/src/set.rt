@@ -58,7 +58,14 @@ impl Part {
         let reservation = self.reservation;
         let tables = self.tables;
         let mut levels = [0u16; CODE_ROOM];
-        let sound = part_records::sound(self.k, self.capacity, self.used, reservation, tables, &mut levels);
+        let sound = part_records::sound(
+            self.k,
+            self.capacity,
+            self.used,
+            reservation,
+            tables,
+            &mut levels,
+        );
         let whole = set_lengths::whole(lengths, text.len());
         if !sound {
             return self.with_answer(SetAdding::Unsound);

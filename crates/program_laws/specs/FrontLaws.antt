@@ -26,7 +26,7 @@ use Rattle.part.specs.Trusted.Parts.{Shaped}
 use Rattle.part.specs.Trusted.Sound.{Sound}
 use Rattle.part.specs.Trusted.Ways.{least}
 use Rattle.part.specs.Trusted.Answers.{Answer, accepted, refused}
-use Rattle.part.specs.Trusted.Tries.{Try}
+use Rattle.part.specs.Trusted.Tries.{adding, Try}
 use Rattle.part.specs.Trusted.Add.{Add}
 use Rattle.part.specs.Trusted.Reading.{readOf}
 use Rattle.part.specs.AddLaws.{kept, add-case}
@@ -58,8 +58,8 @@ record Took (p : Part) (text : List ℕ) (q : Part) : Type 0 where
 
 took : (p : Part) → Shaped p → Sound p → (text : List ℕ) (q : Part) → Add least p text q accepted → Took p text q
 took p shape sound text q a =
-    let u : Try = record { way = least; text = text; before = p; after = q; answer = accepted } in
-    let (s, new, t) = try-accounted u shape a .taken refl in
+    let u : Try = record { purpose = adding; way = least; text = text; before = p; after = q; answer = accepted } in
+    let (s, new, t) = try-accounted u shape a .brings refl in
     let (d, e, i) = covered-back text s (t .read) in
     let b = least-bounds (p .k) (t .number) .1 in
     let k : (p .k - 1) * length new ≤ 5 * length new = mul-le-mul-right (length new) (omega (arith, sound .k-range)) in

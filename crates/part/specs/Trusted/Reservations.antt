@@ -41,9 +41,11 @@ abbrev pub Reserves : Way → Part → List ℕ → Part → Answer → Type 0
 Reserves w p text q a = ((o : Part) × Add w p text o a) × Reserved w p text a q
 
 -- what it gives: its one sheet was tried
+abbrev pub reservingTry : Way → List ℕ → Part → Part → Answer → Try
+reservingTry w text p q a = record { purpose = reserving; way = w; text = text; before = p; after = q; answer = a }
+
 abbrev pub reservingSheet : Way → List ℕ → Part → Part → Answer → CallResult
-reservingSheet w text p q a =
-    record { part = q; answer = a; position = 0; tries = record { purpose = reserving; way = w; text = text; before = p; after = q; answer = a } ∷ [] }
+reservingSheet w text p q a = record { part = q; answer = a; position = 0; tries = reservingTry w text p q a ∷ [] }
 
 -- THE PROMISE OF A RESERVATION: "35, a hold while one is open", "right after 20"
 unfoldable pub Reserve : Part → List ℕ → CallResult → Type 0

@@ -11,5 +11,5 @@ use Rattle.part.specs.Trusted.Parts.{inUse}
 
 unfoldable pub sound : Part → Bool
 sound p =
-    isNone (tested (p .k) (p .capacity) (inUse p)) 
+    isNone (tested (p .k) (p .capacity) (inUse p))
     && (leb (p .used) (p .capacity) && (all isBlank (drop (p .used) (p .tables)) && isReservable (p .capacity - p .used) (p .reservation)))

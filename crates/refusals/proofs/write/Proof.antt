@@ -13,7 +13,7 @@ returns : tie.Need-returns
 unfolding indexOf indexAfter
 returns c =
     let a = c .before .before .before .before .before .before .args in
-    c .before .before .put-line .ensures ∙ ap (λ t. frontWrite t (a .out .now)) (line-is (textFrom 0 refusals) refusals 34 (a .number) (tt, tt, refl))
+    c .before .before .put-line .ensures ∙ ap (λ t. frontWrite t (a .out .now)) (line-is (textFrom 0 refusals) refusals 37 (a .number) (tt, tt, refl))
 
 pub write-spec : {M : Type 1} → statement M
 write-spec = tie.close (tie.spec (λ c. search needs) (λ c κs. search needs) (λ c. search needs) returns)

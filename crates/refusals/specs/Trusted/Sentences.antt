@@ -1,5 +1,6 @@
 -- What each refusal's number means, in plain words, and what asking for it does.
--- 01, "Turned down because of the input" and "Turned down because of the part"; 02, #101, for 31 and 32, and #106, for 33. Definitions only.
+-- 01, "Turned down because of the input" and "Turned down because of the part"; 02, #101, for 31 and 32, #106, for 33, and #109, for
+-- 35 and 36. Definitions only.
 use Prim.Native.Nat.{ℕ}
 use Prim.Native.Char.{code}
 use Prim.Native.String.{String, [] as none, _∷_ as _then_}
@@ -36,7 +37,9 @@ refusals =
     23 means "the sheet needs more tables than the part has left" ∷
     31 means "a line of the list is missing, left over, or not laid out as the list has it" ∷
     32 means "a rule of a sound part is broken at this line of the list, or the used count is above the capacity" ∷
-    33 means "a set of no sheets or of more than 16, or its lengths do not add up to its text's" ∷ []
+    33 means "a set of no sheets or of more than 16, or its lengths do not add up to its text's" ∷
+    35 means "a reservation is already open" ∷
+    36 means "no reservation is open, or it is for another output net" ∷ []
 
 -- the bytes of a text: the codes of its characters, which are all ASCII
 abbrev pub bytesOf : String → List ℕ

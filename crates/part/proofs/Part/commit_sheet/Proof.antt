@@ -19,8 +19,6 @@ use Rattle.part.specs.Storing.{circuitOf}
 use Rattle.part.specs.StoringLaws.{reading-is}
 use Rattle.part.specs.SetLaws.{refusal}
 use Rattle.part.specs.ReserveLaws.{released-sound, commitSheet, commit-misread, commit-other, commit-refused, commit-accepted}
-use Rattle.part.specs.declared.Part.{Part}
-use Rattle.part.specs.declared.Added.{Added}
 use Rattle.part.proofs.Part.commit_sheet.Statement.{statement}
 use Rattle.part.proofs.Part.commit_sheet.Tie as tie
 
@@ -106,9 +104,11 @@ returns-3 c =
     let q = t .offer .result .part in
     let o = Offer least (released (a .self)) (circuitOf (r .read .result .sheet)) q in
     let (number, place, i) = refusal (t .offer .result .answer) (λ e. miss (1 ∷ 2 ∷ 3 ∷ 4 ∷ 5 ∷ 6 ∷ 7 ∷ []) 0 tt (rw e at (m .match2 .keys2))) in
-    subst (λ r. (ts : List Try) × Committed (a .self) (a .text .now) (addingResult r ts)) (sym (c .refused3 .ensures))
-    (_, subst (λ x. Committed (a .self) (a .text .now) (commitSheet (a .self) (a .text .now) (a .self) q x)) (sym i)
-    (commit-refused (a .self) (a .text .now) (s .pre .0) (drawnSheet (r .read .result .sheet)) (sheet-read e) (t .before .before .before .if1 .left) q number place (subst o i (sheet-offered t))))
+    subst (λ r. (ts : List Try) × Committed (a .self) (a .text .now) (addingResult r ts)) (sym (c .refused3 .ensures)) (
+      _,
+      subst (λ x. Committed (a .self) (a .text .now) (commitSheet (a .self) (a .text .now) (a .self) q x)) (sym i)
+          (commit-refused (a .self) (a .text .now) (s .pre .0) (drawnSheet (r .read .result .sheet)) (sheet-read e) (t .before .before .before .if1 .left) q number place (subst o i (sheet-offered t))),
+    )
 
 same-length-2 : tie.Need-same-length-2
 same-length-2 c = search needs
@@ -122,9 +122,11 @@ returns-4 c =
     let a = s .args in
     let q = t .offer .result .part in
     let o = Offer least (released (a .self)) (circuitOf (r .read .result .sheet)) q in
-    let i = c .enum-told2 .given .1 in
-    (_, subst (λ x. Committed (a .self) (a .text .now) (commitSheet (a .self) (a .text .now) q q (addingAnswer x))) (sym i)
-    (commit-accepted (a .self) (a .text .now) (s .pre .0) (drawnSheet (r .read .result .sheet)) (sheet-read e) (t .before .before .before .if1 .left) q (subst (λ x. o (addingAnswer x)) i (sheet-offered t))))
+    let i = c .enum-told2 .given .1 in (
+      _,
+      subst (λ x. Committed (a .self) (a .text .now) (commitSheet (a .self) (a .text .now) q q (addingAnswer x))) (sym i)
+          (commit-accepted (a .self) (a .text .now) (s .pre .0) (drawnSheet (r .read .result .sheet)) (sheet-read e) (t .before .before .before .if1 .left) q (subst (λ x. o (addingAnswer x)) i (sheet-offered t))),
+    )
 
 pub commit-sheet-spec : {M : Type 1} → statement M
 commit-sheet-spec =
