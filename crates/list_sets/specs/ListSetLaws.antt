@@ -1,78 +1,100 @@
--- What the functions hand over keeps the promise: of a list, of a set on its part, and of the list that is written.
+-- What the functions hand over keeps the promise: of a list, of a call on its part, and of the list that is written.
 use Prim.Native.Nat.{ℕ, _+_}
 use native.Mathlib.Omega.{arith}
-use mathlib.Core.Path.{_≡_, refl, sym, ap, _∙_}
+use mathlib.Core.Path.{_≡_, refl, sym, ap, _∙_, subst}
 use mathlib.Core.Logic.{_≢_}
-use mathlib.Core.Bool.{true, false}
+use mathlib.Core.Bool.{true}
 use mathlib.Core.List.{List}
 use borrow.Author.Tests.{le-leb, lt-leb}
 use lib.ListN.{length}
 use Rattle.lists.specs.Cases.{by-leb}
 use Rattle.lists.specs.Trusted.Checked.{Checked, passed, refused as unread}
 use Rattle.lists.specs.Trusted.Tests.{either}
+use Rattle.part_records.specs.declared.Reservation.{Reservation}
+use Rattle.part.specs.Trusted.Parts.{withReservation, Shaped}
 use Rattle.part.specs.Trusted.Sound.{Sound}
 use Rattle.part.specs.Trusted.Answers.{Answer, accepted, refused}
 use Rattle.part.specs.Trusted.Tries.{CallResult}
 use Rattle.part.specs.Trusted.Sets.{AddSet}
 use Rattle.part.specs.AddLaws.{not-refused}
-use Rattle.part.specs.SetLaws.{set-kept}
+use Rattle.part.specs.SetLaws.{SetCase, unsound-part, unfit, in-turn, set-case, set-kept}
 use Rattle.part.specs.declared.Part.{Part}
 use Rattle.list_line.specs.Trusted.Writes.{WriteOutcome, pasted}
-use Rattle.listing.specs.Trusted.Listing.{listOf}
 use Rattle.listing.specs.Lines.{turnedDown}
 use Rattle.listing.specs.LineLaws.{fitted-out, fitted-in}
 use Rattle.list_reading.specs.Trusted.ReadList.{readList, readResult}
 use Rattle.list_reading.specs.Trusted.ListAnswers.{listAnswer, listResult}
-use Rattle.list_reading.specs.ReadLaws.{read-shaped, list-exactly}
+use Rattle.list_reading.specs.ReadLaws.{read-shaped}
 use Rattle.list_reading.specs.declared.ListRead.{ListRead}
 use Rattle.list_numbers.specs.Answered.{answerCode}
 use Rattle.list_numbers.specs.NumbersLaws.{code-accepted}
 use Rattle.printing.specs.Contracts.{printedResult, WrittenAs}
 use Rattle.printing.specs.declared.Printed.{Printed}
 use Rattle.printing.specs.declared.Printed.the-variants.{Wrote, NoRoom}
-use Rattle.list_sets.specs.Trusted.ListSets.{setCode, Unwritten, PutInFront, AfterSet, AfterList}
-use Rattle.list_sets.specs.Told.{toldOf}
-use Rattle.list_sets.specs.declared.SetOutcome.{SetOutcome}
+use Rattle.list_sets.specs.Trusted.ListSets.{setCode, Unwritten, PutInFront, AfterCall, AfterList}
+use Rattle.list_sets.specs.Told.{ReadBeside, toldOf, PutOutcome}
+use Rattle.list_sets.specs.declared.PartRead.{PartRead}
+use Rattle.list_sets.specs.declared.CallOutcome.{CallOutcome}
 
 -- ---- the list
 
-module _ (r : ListRead) where
-  -- a code that is not 0 is that of a refusal
-  pub list-refused : (c : Checked Part) → listResult r ≡ readResult c → answerCode (listAnswer (r .answer)) ≢ 0 → (lengths text old : List ℕ) →
-      AfterList c lengths text old (answerCode (listAnswer (r .answer))) old
-  list-refused (passed p) e d lengths text old = absurd (d (ap (λ o. answerCode (o .answer)) e))
-  list-refused (unread number line) e d lengths text old = (omega (arith, ap (λ o. answerCode (o .answer)) e), refl)
+pub read-beside : (r : ListRead) (c : Checked Part) → listResult r ≡ readResult c → (reservation : Reservation) →
+    ReadBeside c reservation (record { part = withReservation (r .part) reservation; code = answerCode (listAnswer (r .answer)) })
+read-beside r (passed p) e reservation = ap (λ o. record { part = withReservation (o .part) reservation; code = answerCode (o .answer) }) e
+read-beside r (unread number line) e reservation =
+    (omega (arith, ap (λ o. answerCode (o .answer)) e), λ z. not-refused (ap (λ o. o .answer) e) (code-accepted (r .answer) z))
 
-  pub list-accepted : (c : Checked Part) → listResult r ≡ readResult c → answerCode (listAnswer (r .answer)) ≡ 0 → c ≡ passed (r .part)
-  list-accepted (passed p) e z = ap (λ o. passed (o .part)) (sym e)
-  list-accepted (unread number line) e z = absurd (not-refused (ap (λ o. o .answer) e) (code-accepted (r .answer) z))
+module _ (reservation : Reservation) (r : PartRead) where
+  -- a code that is not 0 is that of the list's refusal
+  pub by-unread : (P : Checked Part → Type 0) (c : Checked Part) → ReadBeside c reservation r → r .code ≢ 0 →
+      ((number line : ℕ) → r .code ≡ setCode 0 number line → P (unread number line)) → P c
+  by-unread P (passed p) b d f = absurd (d (ap (λ o. o .code) b))
+  by-unread P (unread number line) b d f = f number line (b .0)
 
--- ---- the set
+  -- with the code 0 there is a part
+  pub by-passed : (P : Checked Part → Type 0) (c : Checked Part) → ReadBeside c reservation r → r .code ≡ 0 →
+      ((p : Part) → r .part ≡ withReservation p reservation → P (passed p)) → P c
+  by-passed P (passed p) b z f = f p (ap (λ o. o .part) b)
+  by-passed P (unread number line) b z f = absurd (b .1 z)
 
-module _ (r : CallResult) (old : List ℕ) (t : SetOutcome) (e : t ≡ toldOf (r .position) (r .answer)) where
-  -- the result with another answer
-  abbrev answering : Answer → CallResult
-  answering a = record { part = r .part; answer = a; position = r .position; tries = r .tries }
+  module _ (Gives : Part → CallResult → Type 0) (c : Checked Part) (h : ReadBeside c reservation r) (old : List ℕ) where
+    pub list-unread : r .code ≢ 0 → AfterList Gives c reservation old (r .code) old
+    list-unread d = by-unread (λ c. AfterList Gives c reservation old (r .code) old) c h d (λ number line e. (e, refl))
 
-  pub after-refused : t .accepted ≡ false → AfterSet r old (t .code) old
-  after-refused f = of (r .answer) e
+    pub list-passed : r .code ≡ 0 → (x : CallResult) → Gives (r .part) x → (code : ℕ) (bytes : List ℕ) → AfterCall x old code bytes →
+        AfterList Gives c reservation old code bytes
+    list-passed z x g code bytes a = by-passed (λ c. AfterList Gives c reservation old code bytes) c h z (λ p e. (x, subst (λ q. Gives q x) e g, a))
+
+  -- the part of a list has its shape
+  pub beside-shaped : (list : List ℕ) → ReadBeside (readList list) reservation r → r .code ≡ 0 → Shaped (r .part)
+  beside-shaped list h z = by-passed (λ c. readList list ≡ c → Shaped (r .part)) (readList list) h z of refl
     where
-      of : (a : Answer) → t ≡ toldOf (r .position) a → AfterSet (answering a) old (t .code) old
-      of accepted i = let z : _≡_ {A = ℕ} 0 1 = cc in absurd (omega arith)
-      of (refused number place) i = (ap (λ x. x .code) i, refl)
+      of : (p : Part) → r .part ≡ withReservation p reservation → readList list ≡ passed p → Shaped (r .part)
+      of p e i = let s = read-shaped list i in subst Shaped (sym e) (record { records = s .records; inputs = s .inputs })
 
-  pub after-accepted : t .accepted ≡ true → (code : ℕ) (bytes : List ℕ) → PutInFront (listOf (r .part)) old code bytes → AfterSet r old code bytes
-  after-accepted f code bytes h = of (r .answer) e
-    where
-      of : (a : Answer) → t ≡ toldOf (r .position) a → AfterSet (answering a) old code bytes
-      of accepted i = h
-      of (refused number place) i = let z : _≡_ {A = ℕ} 0 1 = cc in absurd (omega arith)
+-- ---- the call
 
--- what a set on a list's part gives is sound
-pub added-sound : (list : List ℕ) (p : Part) → readList list ≡ passed p → (lengths text : List ℕ) (r : CallResult) → AddSet p lengths text r → Sound (r .part)
-added-sound list p e lengths text r a =
-    let shape = read-shaped list e in
-    set-kept p shape lengths text r a .sound (list-exactly list p shape .0 e .0)
+-- an outcome that is accepted is told of an accepted answer
+pub told-of-accepted : (t : CallOutcome) (position : ℕ) (a : Answer) → t ≡ toldOf position a → t .accepted ≡ true → a ≡ accepted
+told-of-accepted t position accepted e h = refl
+told-of-accepted t position (refused number place) e h = let z : _≡_ {A = ℕ} 0 1 = cc in absurd (omega arith)
+
+pub after-call : (r : CallResult) (t : CallOutcome) → t ≡ toldOf (r .position) (r .answer) → (old : List ℕ) (code : ℕ) (bytes : List ℕ) →
+    PutOutcome t (r .part) old code bytes → AfterCall r old code bytes
+after-call r t e old code bytes h = of (r .answer) e
+  where
+    of : (a : Answer) → t ≡ toldOf (r .position) a → AfterCall (record { part = r .part; answer = a; position = r .position; tries = r .tries }) old code bytes
+    of accepted i = subst (λ t. PutOutcome t (r .part) old code bytes) i h
+    of (refused number place) i = subst (λ t. PutOutcome t (r .part) old code bytes) i h
+
+-- an accepted set leaves a sound part, since it got one
+pub added-sound : (p : Part) → Shaped p → (lengths text : List ℕ) (r : CallResult) → AddSet p lengths text r → r .answer ≡ accepted → Sound (r .part)
+added-sound p shape lengths text r a e = set-kept p shape lengths text r a .sound (of (set-case p lengths text r a))
+  where
+    of : SetCase p lengths text r → Sound p
+    of (unsound-part n i) = absurd (not-refused (ap (λ c. c .answer) i) e)
+    of (unfit s n i) = s
+    of (in-turn s w t) = s
 
 -- ---- the new list
 

@@ -1,13 +1,18 @@
-// The mapper, and the reader of its lists, for programs in other languages: `rt staticlib pailinstant` writes the archive.
+// The mapper, the reader of its lists, and sets and reservations on them, for programs in other languages: `rt staticlib pailinstant` writes the archive.
 ghost use mathlib.Core.Path.{_≡_};
 ghost use Rattle.refusals.specs.Trusted.Sentences.{refusalText, frontWrite};
+ghost use Rattle.part_records.specs.Trusted.Reservations.{unreserved};
 ghost use Rattle.list_reading.specs.Trusted.ReadList.{readList};
 ghost use Rattle.list_numbers.specs.Trusted.Numbers.{listCode, numbersRead};
 ghost use Rattle.list_sets.specs.Trusted.ListSets.{AddedToList};
+ghost use Rattle.list_reservations.specs.Trusted.ListReservations.{ReservedOnList, CommittedToList, WithdrawnFromList};
 ghost use Rattle.pailinstant.specs.Calls.{PrintedInto};
 use list_numbers::answer_code;
 use list_numbers::hand_over;
 use list_reader::read_list;
+use list_reservations::commit_to_list;
+use list_reservations::reserve_on_list;
+use list_reservations::withdraw_from_list;
 use list_sets::add_to_list;
 use printing::Printed;
 use program::run;
@@ -63,7 +68,56 @@ pub extern "C" fn pailinstant_add_set(
     lengths: &[u32],
     output: &mut [u8],
 ) -> u64
-    ensures { λ r. ⌜ AddedToList (now (list .entry)) (now (lengths .entry)) (now (text .entry)) (now (output .entry)) r (now (output .exit)) ⌝ }
+    ensures { λ r. ⌜ AddedToList (now (list .entry)) unreserved (now (lengths .entry)) (now (text .entry)) (now (output .entry)) r (now (output .exit)) ⌝ }
 {
-    add_to_list(list, text, lengths, output)
+    add_to_list(list, 0, 0, text, lengths, output)
+}
+
+// The same, beside a reservation: the number of tables set aside and the net that they are for, which a list does not show, both 0 where
+// nothing is reserved. The sheets find only the tables that are neither used nor set aside.
+#[no_mangle]
+pub extern "C" fn pailinstant_add_set_beside(
+    list: &[u8],
+    reserved: u16,
+    net: u16,
+    text: &[u8],
+    lengths: &[u32],
+    output: &mut [u8],
+) -> u64
+    ensures { λ r. ⌜ AddedToList (now (list .entry)) (record { count = reserved; net = net }) (now (lengths .entry)) (now (text .entry)) (now (output .entry)) r (now (output .exit)) ⌝ }
+{
+    add_to_list(list, reserved, net, text, lengths, output)
+}
+
+// Sets tables of the part of a list aside for a sheet, and takes none. Gives 2^48 times their number, and the sheet's output net. Else gives
+// the refusal's code, 65536 times its number, and the place; 35 is for a reservation that is open.
+#[no_mangle]
+pub extern "C" fn pailinstant_reserve(list: &[u8], reserved: u16, net: u16, text: &[u8]) -> u64
+    ensures { λ r. ⌜ ReservedOnList (now (list .entry)) (record { count = reserved; net = net }) (now (text .entry)) r ⌝ }
+{
+    reserve_on_list(list, reserved, net, text)
+}
+
+// Adds the sheet that tables are set aside for to the part of a list, and closes the reservation. Gives the new list at the front of the
+// buffer, and its count of bytes. Else gives the refusal's code, as above, and leaves the buffer as it is; 36 is for no reservation, or
+// another output net, and 14 for a buffer that is too short.
+#[no_mangle]
+pub extern "C" fn pailinstant_commit(
+    list: &[u8],
+    reserved: u16,
+    net: u16,
+    text: &[u8],
+    output: &mut [u8],
+) -> u64
+    ensures { λ r. ⌜ CommittedToList (now (list .entry)) (record { count = reserved; net = net }) (now (text .entry)) (now (output .entry)) r (now (output .exit)) ⌝ }
+{
+    commit_to_list(list, reserved, net, text, output)
+}
+
+// Closes the reservation, and gives 0. Else gives the refusal's code, as above; 36 is for no reservation.
+#[no_mangle]
+pub extern "C" fn pailinstant_withdraw(list: &[u8], reserved: u16, net: u16) -> u64
+    ensures { λ r. ⌜ WithdrawnFromList (now (list .entry)) (record { count = reserved; net = net }) r ⌝ }
+{
+    withdraw_from_list(list, reserved, net)
 }

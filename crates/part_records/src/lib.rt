@@ -1,4 +1,4 @@
-// The records of a part: the test of its soundness, and what its tables do with a net.
+// The records of a part: the test of its soundness and of what it may have reserved, and what its tables do with a net.
 ghost use mathlib.Core.Path.{_≡_};
 ghost use mathlib.Core.List.{[], map};
 ghost use mathlib.Core.Bool.{true, _&&_};

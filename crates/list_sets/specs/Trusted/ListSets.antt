@@ -1,5 +1,5 @@
 -- A set of sheets added to the text of a list: the list is read, the set is added to its part, and the new part's list is written. 02, #101
--- and #106, and 01's 14 for the buffer. Definitions only.
+-- and #106, and 01's 14 for the buffer; "A list shows no hold" (#109), so the reservation stands beside it. Definitions only.
 use Prim.Native.Nat.{ℕ, _+_, _*_}
 use mathlib.Core.Path.{_≡_}
 use mathlib.Core.List.{List}
@@ -7,6 +7,8 @@ use lib.Dec.{leb}
 use lib.ListN.{length}
 use Rattle.lists.specs.Trusted.Checked.{Checked, passed, refused as unread}
 use Rattle.lists.specs.Trusted.Tests.{either}
+use Rattle.part_records.specs.declared.Reservation.{Reservation}
+use Rattle.part.specs.Trusted.Parts.{withReservation}
 use Rattle.part.specs.Trusted.Answers.{accepted, refused}
 use Rattle.part.specs.Trusted.Tries.{CallResult}
 use Rattle.part.specs.Trusted.Sets.{AddSet}
@@ -29,16 +31,16 @@ abbrev pub PutInFront : (list old : List ℕ) (code : ℕ) (bytes : List ℕ) �
 PutInFront list old code bytes =
     either (leb (length list) (length old)) ((code ≡ length list) × (bytes ≡ pasted old 0 list)) (Unwritten 0 14 0 old code bytes)
 
--- after the set: its refusal, or the new part's list
-abbrev pub AfterSet : CallResult → (old : List ℕ) (code : ℕ) (bytes : List ℕ) → Type 0
-AfterSet r old code bytes =
+-- after a call that adds sheets: its refusal, or the new part's list
+abbrev pub AfterCall : CallResult → (old : List ℕ) (code : ℕ) (bytes : List ℕ) → Type 0
+AfterCall r old code bytes =
     elim (r .answer) [ accepted ↦ PutInFront (listOf (r .part)) old code bytes | refused number place ↦ Unwritten (r .position) number place old code bytes ]
 
--- after the reading: the list's refusal, or the set on its part
-abbrev pub AfterList : Checked Part → (lengths text old : List ℕ) (code : ℕ) (bytes : List ℕ) → Type 0
-AfterList (passed p) lengths text old code bytes = (r : CallResult) × AddSet p lengths text r × AfterSet r old code bytes
-AfterList (unread number line) lengths text old code bytes = Unwritten 0 number line old code bytes
+-- after the reading: the list's refusal, or a call on its part with the reservation; `Gives p r`: on the part p the call may give r
+abbrev pub AfterList : (Gives : Part → CallResult → Type 0) → Checked Part → Reservation → (old : List ℕ) (code : ℕ) (bytes : List ℕ) → Type 0
+AfterList Gives (passed p) reservation old code bytes = (r : CallResult) × Gives (withReservation p reservation) r × AfterCall r old code bytes
+AfterList Gives (unread number line) reservation old code bytes = Unwritten 0 number line old code bytes
 
 -- THE PROMISE OF ADDING A SET TO A LIST: the code, and the buffer's bytes after it
-abbrev pub AddedToList : (list lengths text old : List ℕ) (code : ℕ) (bytes : List ℕ) → Type 0
-AddedToList list = AfterList (readList list)
+abbrev pub AddedToList : (list : List ℕ) → Reservation → (lengths text old : List ℕ) (code : ℕ) (bytes : List ℕ) → Type 0
+AddedToList list reservation lengths text = AfterList (λ p r. AddSet p lengths text r) (readList list) reservation

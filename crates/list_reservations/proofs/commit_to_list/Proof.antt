@@ -1,0 +1,84 @@
+use denote.Ref.{now}
+use Rattle.part_records.specs.declared.Reservation.{Reservation}
+use Rattle.part.specs.Trusted.AddAnswers.{addingResult}
+use Rattle.part.specs.Trusted.Tries.{CallResult}
+use Rattle.part.specs.Trusted.Reservations.{Commit}
+use Rattle.part.specs.declared.Part.{Part}
+use Rattle.list_reading.specs.Trusted.ReadList.{readList}
+use Rattle.list_sets.specs.ListSetLaws.{list-unread, list-passed, beside-shaped, told-of-accepted, after-call}
+use Rattle.list_reservations.specs.ListReservationLaws.{commit-list-sound}
+use borrow.Author.Needs.{needs}
+use Rattle.list_reservations.proofs.commit_to_list.Statement.{statement}
+use Rattle.list_reservations.proofs.commit_to_list.Tie as tie
+
+-- ---- what is known on the way
+
+abbrev start : tie.After-read-reserved → tie.Start
+start c = c .before .before .before .before
+
+abbrev reservation : tie.After-read-reserved → Reservation
+reservation c = let a = start c .args in record { count = a .reserved; net = a .net }
+
+-- committing may give this
+abbrev Gives : tie.After-read-reserved → Part → CallResult → Type 0
+Gives c p r = Commit p (now (start c .args .text)) r
+
+-- what it gave, with the sheets that were tried
+abbrev committed : tie.After-commit → CallResult
+committed c = addingResult (c .commit .result) (c .commit .ensures .0)
+
+-- ---- the needs
+
+read-reserved-requires : tie.Need-read-reserved-requires
+read-reserved-requires c κs = search needs
+
+returns : tie.Need-returns
+returns c =
+    let r = c .before .before in
+    let a = start r .args in
+    list-unread (reservation r) (r .read-reserved .result) (Gives r) (readList (now (a .list))) (r .read-reserved .ensures) (now (a .output)) (c .if1 .taken)
+
+commit-requires : tie.Need-commit-requires
+commit-requires c κs = search needs
+
+tell-sheet-requires : tie.Need-tell-sheet-requires
+tell-sheet-requires c κs = search needs
+
+put-outcome-requires : tie.Need-put-outcome-requires
+put-outcome-requires c κs e =
+    let t = c .before .before in
+    let s = t .before in
+    let l = s .before .before in
+    let r = l .before .before in
+    let a = start r .args in
+    let shape = beside-shaped (reservation r) (r .read-reserved .result) (now (a .list)) (r .read-reserved .ensures) (l .if1 .left) in
+    commit-list-sound (r .read-reserved .result .part) shape (now (a .text)) (committed s) (s .commit .ensures .1)
+    (told-of-accepted (t .tell-sheet .result) 0 (committed s .answer) (t .tell-sheet .ensures) e)
+
+same-length : tie.Need-same-length
+same-length c = search needs
+
+returns-2 : tie.Need-returns-2
+returns-2 c =
+    let o = c .before .before in
+    let t = o .before .before .before in
+    let s = t .before in
+    let l = s .before .before in
+    let r = l .before .before in
+    let a = start r .args in
+    let p = o .put-outcome in
+    let after = after-call (committed s) (t .tell-sheet .result) (t .tell-sheet .ensures) (now (a .output)) (p .result) (p .last .1 .1 .0) (p .ensures) in
+    list-passed (reservation r) (r .read-reserved .result) (Gives r) (readList (now (a .list))) (r .read-reserved .ensures) (now (a .output)) (l .if1 .left)
+    (committed s) (s .commit .ensures .1) (p .result) (p .last .1 .1 .0) after
+
+pub commit-to-list-spec : {M : Type 1} → statement M
+commit-to-list-spec =
+    tie.close
+    (tie.spec
+    read-reserved-requires
+    returns
+    commit-requires
+    tell-sheet-requires
+    put-outcome-requires
+    same-length
+    returns-2)

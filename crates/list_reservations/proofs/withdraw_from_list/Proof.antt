@@ -1,0 +1,44 @@
+use mathlib.Core.Path.{_≡_}
+use mathlib.Core.List.{[]}
+use denote.Ref.{now}
+use Rattle.part_records.specs.declared.Reservation.{Reservation}
+use Rattle.part.specs.Trusted.AddAnswers.{addingResult}
+use Rattle.part.specs.Trusted.Reservations.{withdrawn}
+use Rattle.list_reading.specs.Trusted.ReadList.{readList}
+use Rattle.list_reservations.specs.ListReservationLaws.{code-unread, code-passed}
+use borrow.Author.Needs.{needs}
+use Rattle.list_reservations.proofs.withdraw_from_list.Statement.{statement}
+use Rattle.list_reservations.proofs.withdraw_from_list.Tie as tie
+
+abbrev start : tie.After-read-reserved → tie.Start
+start c = c .before .before
+
+abbrev reservation : tie.After-read-reserved → Reservation
+reservation c = let a = start c .args in record { count = a .reserved; net = a .net }
+
+read-reserved-requires : tie.Need-read-reserved-requires
+read-reserved-requires c κs = search needs
+
+returns : tie.Need-returns
+returns c =
+    let r = c .before .before in
+    code-unread (λ p x. x ≡ withdrawn p) (reservation r) (r .read-reserved .result) (readList (now (start r .args .list))) (r .read-reserved .ensures) (c .if1 .taken)
+
+withdraw-requires : tie.Need-withdraw-requires
+withdraw-requires c κs = search needs
+
+outcome-code-requires : tie.Need-outcome-code-requires
+outcome-code-requires c κs = search needs
+
+returns-2 : tie.Need-returns-2
+returns-2 c =
+    let s = c .before in
+    let l = s .before .before in
+    let r = l .before .before in
+    code-passed (λ p x. x ≡ withdrawn p) (reservation r) (r .read-reserved .result) (readList (now (start r .args .list))) (r .read-reserved .ensures) (l .if1 .left)
+    (addingResult (s .withdraw .result) []) (s .withdraw .ensures) (c .outcome-code .result) (c .outcome-code .ensures)
+
+pub withdraw-from-list-spec : {M : Type 1} → statement M
+withdraw-from-list-spec =
+    tie.close
+    (tie.spec read-reserved-requires returns withdraw-requires outcome-code-requires returns-2)

@@ -1,0 +1,3 @@
+pub mod Trusted
+pub mod ListReservationLaws
+pub mod Examples
