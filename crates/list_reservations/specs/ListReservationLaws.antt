@@ -22,19 +22,18 @@ use Rattle.part.specs.ReserveLaws.{open-reflects, released-sound}
 use Rattle.part.specs.declared.Part.{Part}
 use Rattle.list_sets.specs.Told.{ReadBeside, toldOf}
 use Rattle.list_sets.specs.ListSetLaws.{by-unread, by-passed, told-of-accepted}
-use Rattle.list_sets.specs.declared.PartRead.{PartRead}
 use Rattle.list_sets.specs.declared.CallOutcome.{CallOutcome}
 use Rattle.list_reservations.specs.Trusted.ListReservations.{reservationCode, outcomeCode, CodeAfterList}
 
 -- ---- the list
 
-module _ (Gives : Part → CallResult → Type 0) (reservation : Reservation) (r : PartRead) (c : Checked Part) (h : ReadBeside c reservation r) where
-  pub code-unread : r .code ≢ 0 → CodeAfterList Gives c reservation (r .code)
-  code-unread d = by-unread reservation r (λ c. CodeAfterList Gives c reservation (r .code)) c h d (λ number line e. e)
+module _ (Gives : Part → CallResult → Type 0) (reservation : Reservation) (q : Part) (read : ℕ) (c : Checked Part) (h : ReadBeside c reservation q read) where
+  pub code-unread : read ≢ 0 → CodeAfterList Gives c reservation read
+  code-unread d = by-unread reservation q read (λ c. CodeAfterList Gives c reservation read) c h d (λ number line e. e)
 
-  pub code-passed : r .code ≡ 0 → (x : CallResult) → Gives (r .part) x → (code : ℕ) → code ≡ outcomeCode (x .answer) (x .part) →
+  pub code-passed : read ≡ 0 → (x : CallResult) → Gives q x → (code : ℕ) → code ≡ outcomeCode (x .answer) (x .part) →
       CodeAfterList Gives c reservation code
-  code-passed z x g code e = by-passed reservation r (λ c. CodeAfterList Gives c reservation code) c h z (λ p i. (x, subst (λ q. Gives q x) i g, e))
+  code-passed z x g code e = by-passed reservation q read (λ c. CodeAfterList Gives c reservation code) c h z (λ p i. (x, subst (λ q. Gives q x) i g, e))
 
 -- ---- the call
 

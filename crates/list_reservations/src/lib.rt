@@ -4,6 +4,7 @@
 ghost use mathlib.Core.Path.{_≡_};
 ghost use Rattle.part.specs.Trusted.AddAnswers.{addingAnswer};
 ghost use Rattle.list_reservations.specs.Trusted.ListReservations.{outcomeCode, ReservedOnList, CommittedToList, WithdrawnFromList};
+use list_numbers::answer_code;
 use list_sets::put_outcome;
 use list_sets::read_reserved;
 use list_sets::tell_sheet;
@@ -32,11 +33,12 @@ pub fn reserve_on_list(list: &[u8], reserved: u16, net: u16, text: &[u8]) -> u64
     ensures { λ r. ⌜ ReservedOnList (now (list .entry)) (record { count = reserved; net = net }) (now (text .entry)) r ⌝ }
 {
     let read = read_reserved(list, reserved, net);
-    if read.code != 0 {
-        return read.code;
+    let answer = read.answer;
+    let code = answer_code(answer);
+    if code != 0 {
+        return code as u64;
     }
-    let part = read.part;
-    outcome_code(part.reserve(text))
+    outcome_code(read.part.reserve(text))
 }
 
 // Adds the sheet that tables of a list's part are set aside for, and closes the reservation. The new list stands at the front of the buffer,
@@ -46,15 +48,15 @@ pub fn commit_to_list(list: &[u8], reserved: u16, net: u16, text: &[u8], output:
     ensures { λ r. ⌜ CommittedToList (now (list .entry)) (record { count = reserved; net = net }) (now (text .entry)) (now (output .entry)) r (now (output .exit)) ⌝ }
 {
     let read = read_reserved(list, reserved, net);
-    if read.code != 0 {
-        return read.code;
+    let answer = read.answer;
+    let code = answer_code(answer);
+    if code != 0 {
+        return code as u64;
     }
-    let part = read.part;
-    let committed = part.commit(text);
+    let committed = read.part.commit(text);
     let answer = committed.answer;
     let told = tell_sheet(answer, 0);
-    let part = committed.part;
-    put_outcome(told, part, output)
+    put_outcome(told, committed.part, output)
 }
 
 // Closes the reservation. The result is 0, or the refusal's code: the list's come first, then 20, and 36 where no reservation is open.
@@ -62,9 +64,10 @@ pub fn withdraw_from_list(list: &[u8], reserved: u16, net: u16) -> u64
     ensures { λ r. ⌜ WithdrawnFromList (now (list .entry)) (record { count = reserved; net = net }) r ⌝ }
 {
     let read = read_reserved(list, reserved, net);
-    if read.code != 0 {
-        return read.code;
+    let answer = read.answer;
+    let code = answer_code(answer);
+    if code != 0 {
+        return code as u64;
     }
-    let part = read.part;
-    outcome_code(part.withdraw())
+    outcome_code(read.part.withdraw())
 }

@@ -33,43 +33,42 @@ use Rattle.printing.specs.declared.Printed.{Printed}
 use Rattle.printing.specs.declared.Printed.the-variants.{Wrote, NoRoom}
 use Rattle.list_sets.specs.Trusted.ListSets.{setCode, Unwritten, PutInFront, AfterCall, AfterList}
 use Rattle.list_sets.specs.Told.{ReadBeside, toldOf, PutOutcome}
-use Rattle.list_sets.specs.declared.PartRead.{PartRead}
 use Rattle.list_sets.specs.declared.CallOutcome.{CallOutcome}
 
 -- ---- the list
 
 pub read-beside : (r : ListRead) (c : Checked Part) → listResult r ≡ readResult c → (reservation : Reservation) →
-    ReadBeside c reservation (record { part = withReservation (r .part) reservation; code = answerCode (listAnswer (r .answer)) })
-read-beside r (passed p) e reservation = ap (λ o. record { part = withReservation (o .part) reservation; code = answerCode (o .answer) }) e
+    ReadBeside c reservation (withReservation (r .part) reservation) (answerCode (listAnswer (r .answer)))
+read-beside r (passed p) e reservation = (ap (λ o. withReservation (o .part) reservation) e, ap (λ o. answerCode (o .answer)) e)
 read-beside r (unread number line) e reservation =
     (omega (arith, ap (λ o. answerCode (o .answer)) e), λ z. not-refused (ap (λ o. o .answer) e) (code-accepted (r .answer) z))
 
-module _ (reservation : Reservation) (r : PartRead) where
+module _ (reservation : Reservation) (q : Part) (read : ℕ) where
   -- a code that is not 0 is that of the list's refusal
-  pub by-unread : (P : Checked Part → Type 0) (c : Checked Part) → ReadBeside c reservation r → r .code ≢ 0 →
-      ((number line : ℕ) → r .code ≡ setCode 0 number line → P (unread number line)) → P c
-  by-unread P (passed p) b d f = absurd (d (ap (λ o. o .code) b))
+  pub by-unread : (P : Checked Part → Type 0) (c : Checked Part) → ReadBeside c reservation q read → read ≢ 0 →
+      ((number line : ℕ) → read ≡ setCode 0 number line → P (unread number line)) → P c
+  by-unread P (passed p) b d f = absurd (d (b .1))
   by-unread P (unread number line) b d f = f number line (b .0)
 
   -- with the code 0 there is a part
-  pub by-passed : (P : Checked Part → Type 0) (c : Checked Part) → ReadBeside c reservation r → r .code ≡ 0 →
-      ((p : Part) → r .part ≡ withReservation p reservation → P (passed p)) → P c
-  by-passed P (passed p) b z f = f p (ap (λ o. o .part) b)
+  pub by-passed : (P : Checked Part → Type 0) (c : Checked Part) → ReadBeside c reservation q read → read ≡ 0 →
+      ((p : Part) → q ≡ withReservation p reservation → P (passed p)) → P c
+  by-passed P (passed p) b z f = f p (b .0)
   by-passed P (unread number line) b z f = absurd (b .1 z)
 
-  module _ (Gives : Part → CallResult → Type 0) (c : Checked Part) (h : ReadBeside c reservation r) (old : List ℕ) where
-    pub list-unread : r .code ≢ 0 → AfterList Gives c reservation old (r .code) old
-    list-unread d = by-unread (λ c. AfterList Gives c reservation old (r .code) old) c h d (λ number line e. (e, refl))
+  module _ (Gives : Part → CallResult → Type 0) (c : Checked Part) (h : ReadBeside c reservation q read) (old : List ℕ) where
+    pub list-unread : read ≢ 0 → AfterList Gives c reservation old read old
+    list-unread d = by-unread (λ c. AfterList Gives c reservation old read old) c h d (λ number line e. (e, refl))
 
-    pub list-passed : r .code ≡ 0 → (x : CallResult) → Gives (r .part) x → (code : ℕ) (bytes : List ℕ) → AfterCall x old code bytes →
+    pub list-passed : read ≡ 0 → (x : CallResult) → Gives q x → (code : ℕ) (bytes : List ℕ) → AfterCall x old code bytes →
         AfterList Gives c reservation old code bytes
     list-passed z x g code bytes a = by-passed (λ c. AfterList Gives c reservation old code bytes) c h z (λ p e. (x, subst (λ q. Gives q x) e g, a))
 
   -- the part of a list has its shape
-  pub beside-shaped : (list : List ℕ) → ReadBeside (readList list) reservation r → r .code ≡ 0 → Shaped (r .part)
-  beside-shaped list h z = by-passed (λ c. readList list ≡ c → Shaped (r .part)) (readList list) h z of refl
+  pub beside-shaped : (list : List ℕ) → ReadBeside (readList list) reservation q read → read ≡ 0 → Shaped q
+  beside-shaped list h z = by-passed (λ c. readList list ≡ c → Shaped q) (readList list) h z of refl
     where
-      of : (p : Part) → r .part ≡ withReservation p reservation → readList list ≡ passed p → Shaped (r .part)
+      of : (p : Part) → q ≡ withReservation p reservation → readList list ≡ passed p → Shaped q
       of p e i = let s = read-shaped list i in subst Shaped (sym e) (record { records = s .records; inputs = s .inputs })
 
 -- ---- the call

@@ -12,13 +12,12 @@ use Rattle.part.specs.Trusted.Answers.{Answer, accepted, refused}
 use Rattle.part.specs.declared.Part.{Part}
 use Rattle.listing.specs.Trusted.Listing.{listOf}
 use Rattle.list_sets.specs.Trusted.ListSets.{setCode, PutInFront}
-use Rattle.list_sets.specs.declared.PartRead.{PartRead}
 use Rattle.list_sets.specs.declared.CallOutcome.{CallOutcome}
 
 -- a reading's part with the reservation, and 0; or the code of its refusal
-abbrev pub ReadBeside : Checked Part → Reservation → PartRead → Type 0
-ReadBeside (passed p) reservation r = r ≡ record { part = withReservation p reservation; code = 0 }
-ReadBeside (unread number line) reservation r = (r .code ≡ setCode 0 number line) × (r .code ≢ 0)
+abbrev pub ReadBeside : Checked Part → Reservation → Part → (code : ℕ) → Type 0
+ReadBeside (passed p) reservation q code = (q ≡ withReservation p reservation) × (code ≡ 0)
+ReadBeside (unread number line) reservation q code = (code ≡ setCode 0 number line) × (code ≢ 0)
 
 -- an answer, with the sheet's position in the set
 abbrev pub toldOf : (position : ℕ) → Answer → CallOutcome

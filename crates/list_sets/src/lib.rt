@@ -7,14 +7,16 @@ ghost use Rattle.part.specs.Trusted.AddAnswers.{addingAnswer};
 ghost use Rattle.part.specs.Trusted.SetAnswers.{setAnswer, setPosition};
 ghost use Rattle.listing.specs.Trusted.Listing.{listOf};
 ghost use Rattle.list_reading.specs.Trusted.ReadList.{readList};
+ghost use Rattle.list_reading.specs.Trusted.ListAnswers.{listAnswer};
+ghost use Rattle.list_numbers.specs.Answered.{answerCode};
 ghost use Rattle.list_sets.specs.Trusted.ListSets.{setCode, PutInFront, AddedToList};
 ghost use Rattle.list_sets.specs.Told.{ReadBeside, toldOf, PutOutcome};
 use list_numbers::answer_code;
 use list_reader::read_list;
+use list_reading::ListRead;
 use part::Adding;
 use part::Part;
 use part::SetAdding;
-use part_records::Reservation;
 use printing::Printed;
 use printing::print_list;
 
@@ -26,12 +28,6 @@ const NUMBER: u64 = 65536;
 // A buffer that is too short is refused with 14.
 const NO_ROOM: u8 = 14;
 
-// The part of a list with its reservation, and the code of the list's refusal, 0 where it has none.
-pub struct PartRead {
-    pub part: Part,
-    pub code: u64,
-}
-
 // Whether a call was accepted, and the code of its refusal, 0 where it has none.
 pub struct CallOutcome {
     pub accepted: bool,
@@ -39,22 +35,13 @@ pub struct CallOutcome {
 }
 
 // Reads a list, and gives its part the reservation: the number of tables set aside, and the net that they are for.
-pub fn read_reserved(list: &[u8], reserved: u16, net: u16) -> PartRead
-    ensures { λ r. ⌜ ReadBeside (readList (now (list .entry))) (record { count = reserved; net = net }) r ⌝ }
+pub fn read_reserved(list: &[u8], reserved: u16, net: u16) -> ListRead
+    ensures { λ r. ⌜ ReadBeside (readList (now (list .entry))) (record { count = reserved; net = net }) (r .part) (answerCode (listAnswer (r .answer))) ⌝ }
 {
-    let read = read_list(list);
-    let answer = read.answer;
-    let code = answer_code(answer);
-    let mut part = read.part;
-    let reservation = Reservation {
-        count: reserved,
-        net,
-    };
-    part.reservation = reservation;
-    PartRead {
-        part,
-        code: code as u64,
-    }
+    let mut read = read_list(list);
+    read.part.reservation.count = reserved;
+    read.part.reservation.net = net;
+    read
 }
 
 // The code of a refusal.
@@ -146,13 +133,13 @@ pub fn add_to_list(
     ensures { λ r. ⌜ AddedToList (now (list .entry)) (record { count = reserved; net = net }) (now (lengths .entry)) (now (text .entry)) (now (output .entry)) r (now (output .exit)) ⌝ }
 {
     let read = read_reserved(list, reserved, net);
-    if read.code != 0 {
-        return read.code;
+    let answer = read.answer;
+    let code = answer_code(answer);
+    if code != 0 {
+        return code as u64;
     }
-    let part = read.part;
-    let added = part.add_set(text, lengths);
+    let added = read.part.add_set(text, lengths);
     let answer = added.answer;
     let told = tell_set(answer);
-    let part = added.part;
-    put_outcome(told, part, output)
+    put_outcome(told, added.part, output)
 }

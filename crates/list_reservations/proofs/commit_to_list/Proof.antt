@@ -1,3 +1,4 @@
+use mathlib.Core.Path.{_≡_, sym, _∙_, subst}
 use denote.Ref.{now}
 use Rattle.part_records.specs.declared.Reservation.{Reservation}
 use Rattle.part.specs.Trusted.AddAnswers.{addingResult}
@@ -5,6 +6,9 @@ use Rattle.part.specs.Trusted.Tries.{CallResult}
 use Rattle.part.specs.Trusted.Reservations.{Commit}
 use Rattle.part.specs.declared.Part.{Part}
 use Rattle.list_reading.specs.Trusted.ReadList.{readList}
+use Rattle.list_reading.specs.Trusted.ListAnswers.{listAnswer}
+use Rattle.list_numbers.specs.Answered.{answerCode}
+use Rattle.list_sets.specs.Trusted.ListSets.{AfterList}
 use Rattle.list_sets.specs.ListSetLaws.{list-unread, list-passed, beside-shaped, told-of-accepted, after-call}
 use Rattle.list_reservations.specs.ListReservationLaws.{commit-list-sound}
 use borrow.Author.Needs.{needs}
@@ -27,16 +31,28 @@ Gives c p r = Commit p (now (start c .args .text)) r
 abbrev committed : tie.After-commit → CallResult
 committed c = addingResult (c .commit .result) (c .commit .ensures .0)
 
+-- the list was accepted
+code-zero : (c : tie.Else1) → answerCode (listAnswer (c .before .before .read-reserved .result .answer)) ≡ 0
+code-zero c = sym (c .before .answer-code .ensures) ∙ c .if1 .left
+
 -- ---- the needs
 
 read-reserved-requires : tie.Need-read-reserved-requires
 read-reserved-requires c κs = search needs
 
+answer-code-requires : tie.Need-answer-code-requires
+answer-code-requires c κs = search needs
+
+cast-result : tie.Need-cast-result
+cast-result c = search needs
+
 returns : tie.Need-returns
 returns c =
+    let n = c .before .answer-code .ensures in
     let r = c .before .before in
     let a = start r .args in
-    list-unread (reservation r) (r .read-reserved .result) (Gives r) (readList (now (a .list))) (r .read-reserved .ensures) (now (a .output)) (c .if1 .taken)
+    subst (λ n. AfterList (Gives r) (readList (now (a .list))) (reservation r) (now (a .output)) n (now (a .output))) (sym n)
+    (list-unread (reservation r) (r .read-reserved .result .part) _ (Gives r) (readList (now (a .list))) (r .read-reserved .ensures) (now (a .output)) (λ z. c .if1 .taken (n ∙ z)))
 
 commit-requires : tie.Need-commit-requires
 commit-requires c κs = search needs
@@ -46,12 +62,12 @@ tell-sheet-requires c κs = search needs
 
 put-outcome-requires : tie.Need-put-outcome-requires
 put-outcome-requires c κs e =
-    let t = c .before .before in
+    let t = c .before in
     let s = t .before in
-    let l = s .before .before in
+    let l = s .before in
     let r = l .before .before in
     let a = start r .args in
-    let shape = beside-shaped (reservation r) (r .read-reserved .result) (now (a .list)) (r .read-reserved .ensures) (l .if1 .left) in
+    let shape = beside-shaped (reservation r) (r .read-reserved .result .part) _ (now (a .list)) (r .read-reserved .ensures) (code-zero l) in
     commit-list-sound (r .read-reserved .result .part) shape (now (a .text)) (committed s) (s .commit .ensures .1)
     (told-of-accepted (t .tell-sheet .result) 0 (committed s .answer) (t .tell-sheet .ensures) e)
 
@@ -61,14 +77,14 @@ same-length c = search needs
 returns-2 : tie.Need-returns-2
 returns-2 c =
     let o = c .before .before in
-    let t = o .before .before .before in
+    let t = o .before .before in
     let s = t .before in
-    let l = s .before .before in
+    let l = s .before in
     let r = l .before .before in
     let a = start r .args in
     let p = o .put-outcome in
     let after = after-call (committed s) (t .tell-sheet .result) (t .tell-sheet .ensures) (now (a .output)) (p .result) (p .last .1 .1 .0) (p .ensures) in
-    list-passed (reservation r) (r .read-reserved .result) (Gives r) (readList (now (a .list))) (r .read-reserved .ensures) (now (a .output)) (l .if1 .left)
+    list-passed (reservation r) (r .read-reserved .result .part) _ (Gives r) (readList (now (a .list))) (r .read-reserved .ensures) (now (a .output)) (code-zero l)
     (committed s) (s .commit .ensures .1) (p .result) (p .last .1 .1 .0) after
 
 pub commit-to-list-spec : {M : Type 1} → statement M
@@ -76,6 +92,8 @@ commit-to-list-spec =
     tie.close
     (tie.spec
     read-reserved-requires
+    answer-code-requires
+    cast-result
     returns
     commit-requires
     tell-sheet-requires
