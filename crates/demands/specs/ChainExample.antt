@@ -2,7 +2,8 @@
 -- be kept, and the part that they leave behind is the one whose list 01 prints (Examples). And sets that are turned down, and reservations.
 use Prim.Native.Nat.{ℕ, _≤_}
 use native.Mathlib.Omega.{arith}
-use mathlib.Core.Path.{_≡_, refl}
+use mathlib.Core.Path.{_≡_, refl, ap}
+use mathlib.Core.Logic.{_≢_}
 use mathlib.Core.Bool.{true, false}
 use mathlib.Core.List.{List, [], _∷_, _++_, map, List·Memᴰ·head}
 use lib.ListN.{take, replicate}
@@ -22,7 +23,7 @@ use Rattle.part.specs.Trusted.Parts.{blanks, tablesOf, withReservation, release
 use Rattle.part.specs.Trusted.Sound.{Sound}
 use Rattle.part.specs.Trusted.Nets.{Driven}
 use Rattle.part.specs.SoundLaws.{sound-reflects}
-use Rattle.part.specs.OpenLaws.{opened-sound}
+use Rattle.part.specs.OpenLaws.{opened-shaped, opened-sound}
 use Rattle.part.specs.Trusted.SoundTest.{sound}
 use Rattle.part.specs.Trusted.Reading.{readOf}
 use Rattle.set_lengths.specs.Trusted.Lengths.{isWhole}
@@ -32,12 +33,13 @@ use Rattle.part.specs.Trusted.Tries.{adding, Try, CallResult}
 use Rattle.part.specs.Trusted.Sets.{member, InTurn, turnedAway, AddSet}
 use Rattle.part.specs.Trusted.Reservations.{reservingSheet, Reserve, Commit, withdrawn}
 use Rattle.part.specs.Trusted.Add.{opened, extended, Add}
-use Rattle.demands.specs.Trusted.Calls.{add, addSet, oneSheet, final, Chain, call}
+use Rattle.demands.specs.Trusted.Calls.{add, addSet, withdraw, oneSheet, final, Chain, call}
 use Rattle.list_reading.specs.PartExamples.{part}
 use Rattle.part.specs.declared.Part.{Part}
+use Rattle.demands.specs.Theorems.{guaranteed}
 use Rattle.demands.specs.Trusted.Calls as calls
 use Rattle.demands.specs.Trusted.Demands as Demands
-use Rattle.demands.specs.Trusted.Demands.{Total, more, out-driven, none-added, one-added, SetCondition, of-sheet, no-try, next-try, TriedSheets, up-to}
+use Rattle.demands.specs.Trusted.Demands.{StillOpen, Total, more, out-driven, none-added, one-added, SetCondition, of-sheet, no-try, next-try, TriedSheets, up-to}
 
 -- net 20 = (1 or 2) and (3 or 4), and net 21 = not (20 and not 5)
 abbrev first : Circuit
@@ -319,3 +321,16 @@ reservations = refl
 full-reserved : sound driven-since ≡ false
 unfolding sound blanks
 full-reserved = refl
+
+-- the guarantee: after an add that found no table the reservation is still open, and a commit of the first sheet is not refused 23; after a
+-- withdrawal it is not open
+still-open : StillOpen (add least second-text ∷ []) (oneSheet least second-text held held (refused 23 0) ∷ [])
+still-open = (tt, tt)
+
+promise-kept : (r : CallResult) → Commit held first-text r → (place : ℕ) → r .answer ≢ refused 23 place
+promise-kept r c place =
+    guaranteed small (opened-shaped 4 1) first-text (reservingSheet least first-text small held accepted) reserve-accepted refl (add least second-text ∷ [])
+    (oneSheet least second-text held held (refused 23 0) ∷ []) (call {c = add least second-text} (none-besides, refl) calls.done) still-open r c place
+
+closed-since : StillOpen (withdraw ∷ []) (withdrawn held ∷ []) → ⊥
+closed-since s = s .0 (ap (λ r. r .answer) withdraw-closes)
