@@ -41,15 +41,15 @@ marked-split m same = same
 marked-split m (split d) = split d
 
 -- the fanins that it brings
-abbrev listed : ℕ → Fragment → List (Bool × Cover)
+abbrev pub listed : ℕ → Fragment → List (Bool × Cover)
 listed m (drawn q) = (q .0, marked m (q .1)) ∷ []
 listed m (made s) = frontier s
 
-place-frontier : (m : ℕ) (f : Fragment) (fs : Fanins) → frontier (placeFragment m f fs) ≡ listed m f ++ frontier fs
+pub place-frontier : (m : ℕ) (f : Fragment) (fs : Fanins) → frontier (placeFragment m f fs) ≡ listed m f ++ frontier fs
 place-frontier m (drawn q) fs = refl
 place-frontier m (made s) fs = refl
 
-place-arity : (m : ℕ) (f : Fragment) (fs : Fanins) → arity (placeFragment m f fs) ≡ 1 + arity fs
+pub place-arity : (m : ℕ) (f : Fragment) (fs : Fanins) → arity (placeFragment m f fs) ≡ 1 + arity fs
 place-arity m (drawn q) fs = refl
 place-arity m (made s) fs = refl
 

@@ -35,7 +35,7 @@ runs-split [] a = (_, stop, a)
 runs-split (push i ∷ p) (pushed a) = let r = runs-split p a in (r .0, pushed (r .1), r .2)
 runs-split (join l c ∷ p) (joined m n d e a) = let r = runs-split p a in (r .0, joined m n d e (r .1), r .2)
 
-last-join : {ds : List (Bool × Cover)} {l c : Bool} {x y : Fragment} {st st′ : List Fragment} →
+pub last-join : {ds : List (Bool × Cover)} {l c : Bool} {x y : Fragment} {st st′ : List Fragment} →
     Runs ds (join l c ∷ []) (y ∷ x ∷ st) st′ →
     (m : ℕ) × (n : ℕ) × PlanSays l m × PlanSays c n × (st′ ≡ made (placeFragment m x (placeFragment n y end)) ∷ st)
 last-join (joined m n d e stop) = (m, n, d, e, refl)
@@ -76,7 +76,7 @@ module _ (K : ℕ) where
       let b = fragment-body (x .2) (rw e at (pl .once)) (omega arith) in
       (b .0, x .1 ∙ ap (λ f. f ∷ []) (b .1), b .2)
 
-  some-mark : (l : Bool) → (m : ℕ) × PlanSays l m
+  pub some-mark : (l : Bool) → (m : ℕ) × PlanSays l m
   some-mark false = (0, refl)
   some-mark true = (1, omega arith)
 
