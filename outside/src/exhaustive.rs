@@ -89,6 +89,12 @@ impl Node {
         (inputs <= k).then_some(tables + 1)
     }
 
+    /// The root level of that cover, where `level` gives that of a leaf's net, with how many tables it has.
+    pub fn level(&self, choice: u32, k: usize, level: &dyn Fn(u16) -> usize) -> Option<(usize, usize)> {
+        let mut walk = Walk { next: 0, choice };
+        Some((1 + walk.highest(self, level), self.count(choice, k)?))
+    }
+
     /// The tables of that cover, inputs before readers, after `used` tables.
     pub fn tables(&self, choice: u32, used: usize, net: u16, inverted: bool) -> Vec<Table> {
         let mut walk = Walk { next: 0, choice };
@@ -130,6 +136,20 @@ impl Walk {
         Some((tables, inputs))
     }
 
+    /// The greatest level among the inputs, below `node`, of the table that holds it.
+    fn highest(&mut self, node: &Node, level: &dyn Fn(u16) -> usize) -> usize {
+        let mut highest = 0;
+        for (_, below) in &node.fanins {
+            let below = match below {
+                Below::Leaf(net) => level(*net),
+                Below::Gate(node) if self.chosen() => 1 + self.highest(node, level),
+                Below::Gate(node) => self.highest(node, level),
+            };
+            highest = highest.max(below);
+        }
+        highest
+    }
+
     /// The part of the tree that one table holds; the tables below are added to `tables`.
     fn held(&mut self, node: &Node, used: usize, tables: &mut Vec<Table>) -> Node {
         let mut held = Node { kind: node.kind, fanins: Vec::new() };
@@ -149,7 +169,8 @@ impl Walk {
     }
 }
 
-fn table(held: &Node, net: u16, inverted: bool) -> Table {
+/// The table that holds `held`, whose leaves are its inputs.
+pub fn table(held: &Node, net: u16, inverted: bool) -> Table {
     let mut inputs = Vec::new();
     codes(held, &mut inputs);
     inputs.sort_unstable();
@@ -195,4 +216,9 @@ pub fn covers(splittings: &[Node], k: usize) -> impl Iterator<Item = (&Node, u32
 /// The least number, by trying every splitting and every cover.
 pub fn least(splittings: &[Node], k: usize) -> usize {
     covers(splittings, k).map(|(_, _, count)| count).min().unwrap()
+}
+
+/// The least root level, and the fewest tables of the covers that have it, by trying every splitting and every cover.
+pub fn fastest(splittings: &[Node], k: usize, level: &dyn Fn(u16) -> usize) -> (usize, usize) {
+    covers(splittings, k).filter_map(|(node, choice, _)| node.level(choice, k, level)).min().unwrap()
 }

@@ -282,6 +282,31 @@ pub fn sheets(rng: &mut Rng, count: usize) -> Vec<Sheet> {
     sheets
 }
 
+/// Up to so many good sheets of 2 to `leaves` leaves over few free nets, so that many leaves read what sheets before them drive.
+pub fn tower(rng: &mut Rng, count: usize, free: usize, leaves: usize) -> Vec<Sheet> {
+    let mut nets = Nets::new(rng, free);
+    let mut sheets = Vec::new();
+    for _ in 0..count {
+        let size = rng.between(2, leaves.min(nets.leaves.len()));
+        let style = *rng.pick(&STYLES);
+        let tree = tree(rng, size, style);
+        sheets.extend(nets.sheet(rng, &tree));
+    }
+    sheets
+}
+
+/// One sheet of the most leaves, or nearly: a chain, wide gates, gates of two fanins, or any.
+pub fn at_limit(rng: &mut Rng) -> Vec<Sheet> {
+    let (leaves, style) = *rng.pick(&[
+        (LEAVES, Style::Chain),
+        (28 * (FANINS - 1) + 1, Style::WideChain),
+        (LEAVES, Style::Binary),
+        (LEAVES, Style::Random),
+        (LEAVES, Style::Wide),
+    ]);
+    limit(rng, leaves, style)
+}
+
 /// Inputs at the limits and beyond.
 fn large(rng: &mut Rng) -> Case {
     match rng.below(10) {

@@ -13,6 +13,10 @@ pub mod cover;
 pub mod dot;
 pub mod exhaustive;
 pub mod explain;
+pub mod fast;
+pub mod fast_cases;
+pub mod fast_check;
+pub mod fast_program;
 #[cfg(feature = "fuzz")]
 pub mod fuzz;
 pub mod generate;

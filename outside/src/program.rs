@@ -14,13 +14,18 @@ fn open(input: &[u8]) -> Result<(Part, &[u8]), u32> {
     let (line, rest) = text::split_line(input).ok_or(1u32)?;
     let fields = text::fields(line).ok_or(1u32)?;
     let &[k, capacity] = &fields[..] else { return Err(1) };
+    Ok((opened(k, capacity)?, rest))
+}
+
+/// The part of no tables that an opening gives.
+pub fn opened(k: i64, capacity: i64) -> Result<Part, u32> {
     if !(2..=INPUTS as i64).contains(&k) {
         return Err(2);
     }
     if !(1..=TABLES as i64).contains(&capacity) {
         return Err(3);
     }
-    Ok((Part { k: k as usize, capacity: capacity as usize, tables: Vec::new() }, rest))
+    Ok(Part { k: k as usize, capacity: capacity as usize, tables: Vec::new() })
 }
 
 /// Reads an input to its end, or to the first refusal.

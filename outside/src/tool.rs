@@ -2,7 +2,7 @@
 
 use std::collections::BTreeMap;
 use std::io::{Read, Write};
-use std::process::ExitCode;
+use std::process::{Command, ExitCode, Stdio};
 
 pub fn read_stdin() -> Result<Vec<u8>, String> {
     let mut text = Vec::new();
@@ -27,6 +27,24 @@ pub fn finish(tool: &str, result: Result<String, String>) -> ExitCode {
             eprintln!("{tool}: {error}");
             ExitCode::FAILURE
         }
+    }
+}
+
+/// Runs a program with `input` on its standard input; what it wrote. It must end well.
+pub fn run_program(program: &str, input: &[u8]) -> std::io::Result<Vec<u8>> {
+    let mut child = Command::new(program).stdin(Stdio::piped()).stdout(Stdio::piped()).spawn()?;
+    let (mut stdin, mut stdout) = (child.stdin.take().unwrap(), child.stdout.take().unwrap());
+    let mut output = Vec::new();
+    std::thread::scope(|scope| {
+        // A program may end before it has read all: that is no fault.
+        scope.spawn(move || drop(stdin.write_all(input)));
+        stdout.read_to_end(&mut output)
+    })?;
+    let status = child.wait()?;
+    if status.success() {
+        Ok(output)
+    } else {
+        Err(std::io::Error::other(format!("{status}")))
     }
 }
 

@@ -1,1 +1,5 @@
 pub mod Arrays
+pub mod ArrayLaws
+pub mod Askable
+pub mod GateLaws
+pub mod BackLaws

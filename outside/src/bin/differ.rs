@@ -9,15 +9,15 @@
 
 use std::collections::BTreeMap;
 use std::fs::File;
-use std::io::{BufWriter, Read, Write};
-use std::process::{Command, ExitCode, Stdio};
+use std::io::{BufWriter, Write};
+use std::process::ExitCode;
 
 use outside::adding::Accepted;
 use outside::check::check_answer;
 use outside::generate::case;
 use outside::join::{Chained, Joined};
 use outside::program;
-use outside::tool::{finish_run, Failures, Options};
+use outside::tool::{finish_run, run_program, Failures, Options};
 use outside::FANINS;
 
 enum Mapper {
@@ -45,26 +45,8 @@ impl Mapper {
             Mapper::Own => Ok(program::print(input).into_bytes()),
             #[cfg(feature = "linked")]
             Mapper::Linked(output) => Ok(outside::linked::map(input, output).to_vec()),
-            Mapper::Command(program) => run(program, input).map_err(|error| format!("{program}: {error}")),
+            Mapper::Command(program) => run_program(program, input).map_err(|error| format!("{program}: {error}")),
         }
-    }
-}
-
-/// Runs a program with `input` on its standard input; what it wrote. It must end well.
-fn run(program: &str, input: &[u8]) -> std::io::Result<Vec<u8>> {
-    let mut child = Command::new(program).stdin(Stdio::piped()).stdout(Stdio::piped()).spawn()?;
-    let (mut stdin, mut stdout) = (child.stdin.take().unwrap(), child.stdout.take().unwrap());
-    let mut output = Vec::new();
-    std::thread::scope(|scope| {
-        // A program may end before it has read all: that is no fault.
-        scope.spawn(move || drop(stdin.write_all(input)));
-        stdout.read_to_end(&mut output)
-    })?;
-    let status = child.wait()?;
-    if status.success() {
-        Ok(output)
-    } else {
-        Err(std::io::Error::other(format!("{status}")))
     }
 }
 

@@ -1,0 +1,101 @@
+// The lines of a gate: what it can give at each bound on the level, from the greatest level of its nets on, as far as this changes.
+ghost use mathlib.Core.Path.{_≡_};
+ghost use Prim.Native.Nat.{ℕ, _+_, _*_, _<_, _≤_};
+ghost use lib.ListN.{getD, length};
+ghost use Rattle.level_arrays.specs.Arrays.{big, FansGood, GreatestFan, fanRow, lineAt, LinesKept};
+use level_arrays::ARRAY_ROOM;
+use level_arrays::FANIN_ROOM;
+use level_arrays::Fans;
+use level_arrays::LevelRow;
+use level_arrays::NONE;
+use level_arrays::ROW_ROOM;
+use level_arrays::STORE_ROOM;
+use level_rows::fill;
+use level_rows::lift;
+use level_rows::put_row;
+use plan::MASKS;
+
+// The line j of gate g, counted from 0.
+fn line_row(store: &[u8; STORE_ROOM], g: u16, j: u16) -> LevelRow
+{
+    let place = (g as usize * 256 + j as usize) * 6;
+    let mut row = LevelRow { at: [NONE; ROW_ROOM] };
+    let mut w: usize = 1;
+    while w < 7 {
+        row.at[w] = store[place + (w - 1)];
+        w += 1;
+    }
+    row
+}
+
+// The row of fanin h at a bound.
+pub fn look(f: Fans, h: usize, bound: u16, store: &[u8; STORE_ROOM]) -> LevelRow
+{
+    let level = f.levels[h];
+    if bound < level {
+        return LevelRow { at: [NONE; ROW_ROOM] };
+    }
+    let lines = f.lines[h];
+    if lines == 0 {
+        let mut row = LevelRow { at: [0; ROW_ROOM] };
+        row.at[0] = NONE;
+        return row;
+    }
+    let over = bound - level;
+    let last = lines - 1;
+    let j = if over < last { over } else { last };
+    line_row(store, f.gates[h], j)
+}
+
+// The rows of all fanins at a bound.
+pub fn look_rows(f: Fans, bound: u16, store: &[u8; STORE_ROOM], rows: &mut [u8; FANIN_ROOM])
+{
+    let count = f.count as usize;
+    let mut h: usize = 0;
+    while h < count {
+        put_row(rows, h * 8, look(f, h, bound, store));
+        h += 1;
+    }
+}
+
+// Keeps the row of a mask as line j of gate g.
+fn keep_line(array: &[u8; ARRAY_ROOM], s: usize, g: usize, j: u16, store: &mut [u8; STORE_ROOM])
+{
+    let place = (g * 256 + j as usize) * 6;
+    let mut w: usize = 1;
+    while w < 7 {
+        store[place + (w - 1)] = array[s * 8 + w];
+        w += 1;
+    }
+}
+
+// Finds the lines of gate g, whose fanins' nets have the greatest level a, and gives their number.
+pub fn gate_lines(k: u8, f: Fans, a: u16, g: usize, store: &mut [u8; STORE_ROOM]) -> u16
+    requires { ⌜ FansGood k g f × (g < 255) × GreatestFan f a ⌝ }
+    ensures { λ r. ⌜ LinesKept k g f (now (store .entry)) (now (store .exit)) a r ⌝ }
+{
+    let n = f.count as usize;
+    let steps = f.count as u16 - 1;
+    let mut rows = [NONE; FANIN_ROOM];
+    let mut own = [NONE; MASKS];
+    let mut array = [NONE; ARRAY_ROOM];
+    let mut bound = if a < steps { 0 } else { a - steps };
+    let mut count: u16 = 0;
+    loop {
+        look_rows(f, bound, store, &mut rows);
+        let end = fill(k, n, &rows, &own, &mut array, 0);
+        lift(k, end, &array, 0, &mut own);
+        if bound >= a {
+            keep_line(&array, end - 1, g, count, store);
+            let one = array[(end - 1) * 8 + 1] as u16;
+            if one <= count {
+                return count + 1;
+            }
+            count += 1;
+            if count == 256 {
+                return count;
+            }
+        }
+        bound += 1;
+    }
+}
