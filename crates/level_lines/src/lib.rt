@@ -16,10 +16,11 @@ use level_rows::put_row;
 use plan::MASKS;
 
 // The line j of gate g, counted from 0.
-fn line_row(store: &[u8; STORE_ROOM], g: u16, j: u16) -> LevelRow
-{
+fn line_row(store: &[u8; STORE_ROOM], g: u16, j: u16) -> LevelRow {
     let place = (g as usize * 256 + j as usize) * 6;
-    let mut row = LevelRow { at: [NONE; ROW_ROOM] };
+    let mut row = LevelRow {
+        at: [NONE; ROW_ROOM],
+    };
     let mut w: usize = 1;
     while w < 7 {
         row.at[w] = store[place + (w - 1)];
@@ -29,11 +30,12 @@ fn line_row(store: &[u8; STORE_ROOM], g: u16, j: u16) -> LevelRow
 }
 
 // The row of fanin h at a bound.
-pub fn look(f: Fans, h: usize, bound: u16, store: &[u8; STORE_ROOM]) -> LevelRow
-{
+pub fn look(f: Fans, h: usize, bound: u16, store: &[u8; STORE_ROOM]) -> LevelRow {
     let level = f.levels[h];
     if bound < level {
-        return LevelRow { at: [NONE; ROW_ROOM] };
+        return LevelRow {
+            at: [NONE; ROW_ROOM],
+        };
     }
     let lines = f.lines[h];
     if lines == 0 {
@@ -48,8 +50,7 @@ pub fn look(f: Fans, h: usize, bound: u16, store: &[u8; STORE_ROOM]) -> LevelRow
 }
 
 // The rows of all fanins at a bound.
-pub fn look_rows(f: Fans, bound: u16, store: &[u8; STORE_ROOM], rows: &mut [u8; FANIN_ROOM])
-{
+pub fn look_rows(f: Fans, bound: u16, store: &[u8; STORE_ROOM], rows: &mut [u8; FANIN_ROOM]) {
     let count = f.count as usize;
     let mut h: usize = 0;
     while h < count {
@@ -59,8 +60,7 @@ pub fn look_rows(f: Fans, bound: u16, store: &[u8; STORE_ROOM], rows: &mut [u8; 
 }
 
 // Keeps the row of a mask as line j of gate g.
-fn keep_line(array: &[u8; ARRAY_ROOM], s: usize, g: usize, j: u16, store: &mut [u8; STORE_ROOM])
-{
+fn keep_line(array: &[u8; ARRAY_ROOM], s: usize, g: usize, j: u16, store: &mut [u8; STORE_ROOM]) {
     let place = (g * 256 + j as usize) * 6;
     let mut w: usize = 1;
     while w < 7 {

@@ -13,8 +13,7 @@ use search::bit_number;
 use search::with_step;
 
 // The highest bit of a mask.
-fn top_bit(s: usize) -> usize
-{
+fn top_bit(s: usize) -> usize {
     let mut b: usize = 1;
     while b <= s - b {
         b += b;
@@ -29,8 +28,7 @@ struct Halves {
 }
 
 // The inputs of the first of two rows, with those of the second w in all, by which their entries have the sum e; or 0.
-fn split_inputs(w: usize, e: u16, arrays: &[u8; ARRAYS_ROOM], x: usize, y: usize) -> usize
-{
+fn split_inputs(w: usize, e: u16, arrays: &[u8; ARRAYS_ROOM], x: usize, y: usize) -> usize {
     let mut i: usize = 1;
     while i < w {
         if arrays[x + i] as u16 + arrays[y + (w - i)] as u16 == e {
@@ -42,8 +40,7 @@ fn split_inputs(w: usize, e: u16, arrays: &[u8; ARRAYS_ROOM], x: usize, y: usize
 }
 
 // The halves of the mask top + r, top being its highest bit, for w inputs, in the array at a place.
-fn halves(top: usize, r: usize, w: usize, arrays: &[u8; ARRAYS_ROOM], at: usize) -> Halves
-{
+fn halves(top: usize, r: usize, w: usize, arrays: &[u8; ARRAYS_ROOM], at: usize) -> Halves {
     let s = top + r;
     let e = arrays[at + s * 8 + w] as u16;
     let mut u = r;
@@ -65,21 +62,27 @@ struct Seek {
 }
 
 // An operand whose entry is that of a table of its own is placed, and read back from the bound before.
-fn seek(k: u8, s: usize, slot: usize, w: usize, arrays: &[u8; ARRAYS_ROOM]) -> Seek
-{
+fn seek(k: u8, s: usize, slot: usize, w: usize, arrays: &[u8; ARRAYS_ROOM]) -> Seek {
     let e = arrays[slot * 8192 + s * 8 + w] as u16;
     let most = k as usize;
     let before = arrays[(slot - 1) * 8192 + s * 8 + most] as u16;
     if e == before + 1 {
-        Seek { slot: slot - 1, inputs: most, placed: true }
+        Seek {
+            slot: slot - 1,
+            inputs: most,
+            placed: true,
+        }
     } else {
-        Seek { slot, inputs: w, placed: false }
+        Seek {
+            slot,
+            inputs: w,
+            placed: false,
+        }
     }
 }
 
 // The draft with the step that takes the fanin of a mask of one bit, which is to give so many inputs at a bound.
-fn with_fanin(draft: Draft, s: usize, bound: u16, w: usize) -> Draft
-{
+fn with_fanin(draft: Draft, s: usize, bound: u16, w: usize) -> Draft {
     let h = bit_number(s);
     let at = h as usize;
     let mut d = draft;
@@ -90,8 +93,7 @@ fn with_fanin(draft: Draft, s: usize, bound: u16, w: usize) -> Draft
 }
 
 // The draft with the step that joins two operands.
-fn with_join(draft: Draft, left: bool, right: bool) -> Draft
-{
+fn with_join(draft: Draft, left: bool, right: bool) -> Draft {
     let mut d = draft;
     d.plan = with_step(draft.plan, Token::Join(left, right));
     d
@@ -99,8 +101,15 @@ fn with_join(draft: Draft, left: bool, right: bool) -> Draft
 
 // The draft with the steps for the mask s added, which is to give w inputs at the bound of the array of that number. It calls itself for the two parts
 // of a mask, so at most ten deep.
-fn with_mask(k: u8, from: u16, s: usize, slot: usize, w: usize, arrays: &[u8; ARRAYS_ROOM], draft: Draft) -> Draft
-{
+fn with_mask(
+    k: u8,
+    from: u16,
+    s: usize,
+    slot: usize,
+    w: usize,
+    arrays: &[u8; ARRAYS_ROOM],
+    draft: Draft,
+) -> Draft {
     let top = top_bit(s);
     if top == s {
         return with_fanin(draft, s, from + slot as u16 - 1, w);

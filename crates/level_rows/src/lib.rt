@@ -12,8 +12,7 @@ use level_arrays::ROW_ROOM;
 use plan::MASKS;
 
 // The least of a number and of the sums of two entries for w inputs in all, of the rows at two places.
-fn least_sum(w: usize, most: u8, arrays: &[u8], x: usize, y: usize) -> u8
-{
+fn least_sum(w: usize, most: u8, arrays: &[u8], x: usize, y: usize) -> u8 {
     let mut least = most;
     let mut i: usize = 1;
     while i < w {
@@ -27,8 +26,7 @@ fn least_sum(w: usize, most: u8, arrays: &[u8], x: usize, y: usize) -> u8
 }
 
 // The row, lowered to the sums of the rows at two places.
-fn lowered(k: u8, row: LevelRow, arrays: &[u8], x: usize, y: usize) -> LevelRow
-{
+fn lowered(k: u8, row: LevelRow, arrays: &[u8], x: usize, y: usize) -> LevelRow {
     let most = k as usize;
     let mut r = row;
     let mut w: usize = 2;
@@ -41,10 +39,11 @@ fn lowered(k: u8, row: LevelRow, arrays: &[u8], x: usize, y: usize) -> LevelRow
 }
 
 // The row of the mask top + r, top being its highest bit: the least of own, that of a table of its own, and of the sums over the submasks of r.
-fn best_row(k: u8, top: usize, r: usize, own: u8, arrays: &[u8], at: usize) -> LevelRow
-{
+fn best_row(k: u8, top: usize, r: usize, own: u8, arrays: &[u8], at: usize) -> LevelRow {
     let s = top + r;
-    let mut row = LevelRow { at: [own; ROW_ROOM] };
+    let mut row = LevelRow {
+        at: [own; ROW_ROOM],
+    };
     row.at[0] = NONE;
     let mut u = r;
     while u > 0 {
@@ -55,8 +54,7 @@ fn best_row(k: u8, top: usize, r: usize, own: u8, arrays: &[u8], at: usize) -> L
 }
 
 // Writes a row at a place.
-pub fn put_row(arrays: &mut [u8], place: usize, row: LevelRow)
-{
+pub fn put_row(arrays: &mut [u8], place: usize, row: LevelRow) {
     let mut w: usize = 0;
     while w < 8 {
         arrays[place + w] = row.at[w];
@@ -65,9 +63,10 @@ pub fn put_row(arrays: &mut [u8], place: usize, row: LevelRow)
 }
 
 // The row of fanin h.
-fn fanin_row(rows: &[u8; FANIN_ROOM], h: usize) -> LevelRow
-{
-    let mut row = LevelRow { at: [NONE; ROW_ROOM] };
+fn fanin_row(rows: &[u8; FANIN_ROOM], h: usize) -> LevelRow {
+    let mut row = LevelRow {
+        at: [NONE; ROW_ROOM],
+    };
     let mut w: usize = 0;
     while w < 8 {
         row.at[w] = rows[h * 8 + w];
