@@ -30,11 +30,11 @@ type Make = fn(&mut Rng) -> Option<Answered>;
 const KINDS: [(&str, usize, Make); 15] = [
     ("sheets over free nets", 12, |rng| accepted(rng, generate_few)),
     ("sheets over driven nets", 24, |rng| accepted(rng, tower)),
-    ("sheets in a chain of sheets", 6, |rng| accepted(rng, |rng| chained_sheets(rng))),
+    ("sheets in a chain of sheets", 6, |rng| accepted(rng, chained_sheets)),
     ("a sheet at the limit", 1, |rng| accepted(rng, generate::at_limit)),
     ("just enough tables", 8, just_enough),
     ("a table too few", 8, a_table_too_few),
-    ("tables for the least number and not for the fewest levels", 8, between_the_two),
+    ("tables for the least number and not for the fewest levels", 24, between_the_two),
     ("a full part", 1, full_part),
     ("slack 0", 8, |rng| Some(near(rng, 0))),
     ("slack 1 or -1", 8, |rng| Some(near(rng, 1))),
@@ -115,7 +115,7 @@ fn tower(rng: &mut Rng) -> Vec<Sheet> {
     generate::tower(rng, count, free, 12)
 }
 
-/// Small sheets over very few nets, so that levels grow from sheet to sheet, and a wide one.
+/// Small sheets over very few nets, so that levels grow from sheet to sheet.
 fn chained_sheets(rng: &mut Rng) -> Vec<Sheet> {
     let count = rng.between(4, 30);
     generate::tower(rng, count, 4, 4)
@@ -151,7 +151,7 @@ fn a_table_too_few(rng: &mut Rng) -> Option<Answered> {
 
 /// 23 at a sheet whose least number would fit.
 fn between_the_two(rng: &mut Rng) -> Option<Answered> {
-    let (k, sheets) = (any_k(rng), tower(rng));
+    let (k, sheets) = (rng.between(3, 6), tower(rng));
     let built = built(&sheets, k);
     let least = |at: usize| least(&join(&sheets[at]).sheet, k);
     let dearer: Vec<usize> = (0..sheets.len()).filter(|&at| least(at) < built[at].tables).collect();
@@ -162,9 +162,9 @@ fn between_the_two(rng: &mut Rng) -> Option<Answered> {
 
 /// Sheets until no more fit, with the one that does not, or without it.
 fn full_part(rng: &mut Rng) -> Option<Answered> {
-    let (k, leaves) = (any_k(rng), *rng.pick(&[3, 12, 40]));
+    let (k, leaves) = (any_k(rng), *rng.pick(&[3, 3, 6, 12, 40]));
     let free = rng.between(leaves, 100);
-    let capacity = *rng.pick(&[TABLES, TABLES, rng.clone().between(1, TABLES)]);
+    let capacity = if rng.once_in(3) { rng.between(1, TABLES) } else { TABLES };
     let mut built = Built::default();
     let mut adding = Adding::to(Part { k, capacity, tables: Vec::new() }, capacity, |sheet, k| built.add(sheet, k));
     let mut sheets = generate::tower(rng, TABLES + 1, free, leaves);
@@ -257,9 +257,13 @@ pub const SHOWN: [(&str, Shows); 10] = [
             fastest(&mapped.accepted.joined[at].sheet, mapped.accepted.k, &|_| 0).tables < found.tables
         })
     }),
-    ("a sheet of a level fewer by its joins", |mapped| any_sheet(mapped, |mapped, at, found| drawn(mapped, at).level > found.level)),
+    ("a sheet of a level fewer by its joins", |mapped| {
+        any_sheet(mapped, |mapped, at, found| drawn(mapped, at).is_some_and(|drawn| drawn.level > found.level))
+    }),
     ("a sheet of as many levels and fewer tables by its joins", |mapped| {
-        any_sheet(mapped, |mapped, at, found| drawn(mapped, at).level == found.level && drawn(mapped, at).tables > found.tables)
+        any_sheet(mapped, |mapped, at, found| {
+            drawn(mapped, at).is_some_and(|drawn| drawn.level == found.level && drawn.tables > found.tables)
+        })
     }),
     ("a chained edge without room", |mapped| {
         mapped.accepted.joined.iter().any(|joined| !joined.chained.iter().all(Chained::is_joined))
@@ -280,7 +284,10 @@ fn leaf_levels(mapped: &Mapped, at: usize) -> usize {
     levels.len()
 }
 
-/// The level and the number of the sheet's tree as drawn.
-fn drawn(mapped: &Mapped, at: usize) -> Fastest {
-    fastest(&mapped.accepted.sheets[at], mapped.accepted.k, &|net| mapped.built.level(net))
+/// The level and the number of a sheet's tree as drawn, where some of its gates are joined and it is not large.
+fn drawn(mapped: &Mapped, at: usize) -> Option<Fastest> {
+    const LARGE: usize = 24;
+    let sheet = &mapped.accepted.sheets[at];
+    let joined = mapped.accepted.joined[at].chained.iter().any(Chained::is_joined);
+    (joined && sheet.gates.len() < LARGE).then(|| fastest(sheet, mapped.accepted.k, &|net| mapped.built.level(net)))
 }

@@ -63,7 +63,7 @@ fanRow store f ℓ h w = look big (getD (f .levels) h 0) (getD (f .lines) h 0 - 
 pub record FansGood (K g : ℕ) (f : Fans) : Type 0 where
   pub some : Searchable K (f .count)
   pub rooms : (length (f .levels) ≡ 10) × (length (f .lines) ≡ 10) × (length (f .gates) ≡ 10)
-  pub before : (h : ℕ) → h < f .count → getD (f .gates) h 0 < g
+  pub before : (h : ℕ) → h < f .count → 0 < getD (f .lines) h 0 → getD (f .gates) h 0 < g
   pub few : (h : ℕ) → h < f .count → getD (f .lines) h 0 ≤ 256
   pub low : (h : ℕ) → h < f .count → getD (f .levels) h 0 ≤ 2000
 

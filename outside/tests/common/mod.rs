@@ -1,6 +1,7 @@
 //! Texts in fields of six, for the tests.
 #![allow(dead_code)]
 
+pub mod fast_ways;
 pub mod nested;
 pub mod reservations;
 pub mod sets;

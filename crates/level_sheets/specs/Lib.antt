@@ -1,0 +1,5 @@
+pub mod SheetTrees
+pub mod Lined
+pub mod LinedLaws
+pub mod PlansMeet
+pub mod Asking
