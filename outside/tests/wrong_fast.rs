@@ -2,7 +2,7 @@
 
 mod common;
 
-use common::fast_ways::{deeper, fastest, turned_down, Way, RIGHT};
+use common::fast_ways::{deeper, fastest, root_level, turned_down, Way, RIGHT};
 use outside::cover;
 use outside::fast::Search;
 use outside::least::least;
@@ -24,19 +24,6 @@ fn found(ways: &[(&str, Way)], times: usize) {
     assert!(faults.iter().all(|(_, faults)| faults.len() >= times));
 }
 
-/// The root level of the last of some tables, over leaves of these levels: a driver for each, so high, stands below them.
-fn root_level(tables: &[Table], used: usize, level: &dyn Fn(u16) -> usize) -> usize {
-    let mut found: Vec<usize> = Vec::new();
-    for table in &tables[used..] {
-        let of_input = |&input: &u16| match usize::from(input).checked_sub(10_001 + used) {
-            Some(index) if input > 10_000 => found[index],
-            _ => level(input),
-        };
-        found.push(1 + table.inputs.iter().map(of_input).max().unwrap_or(0));
-    }
-    *found.last().expect("a table")
-}
-
 /// A cover of the fewest tables, whatever its level, and the level that it has.
 fn fewest_tables(sheet: &Sheet, k: usize, level: &dyn Fn(u16) -> usize, tables: &mut Vec<Table>) -> usize {
     let used = tables.len();
@@ -51,6 +38,13 @@ fn tables_then_levels(sheet: &Sheet, k: usize, level: &dyn Fn(u16) -> usize, tab
     let bound = (1..).find(|&bound| search.within(bound) == Some(least)).expect("a level");
     search.add(bound, tables);
     bound
+}
+
+/// A cover of the fewest tables that may be one level deeper, and the level that it has.
+fn one_deeper(sheet: &Sheet, k: usize, level: &dyn Fn(u16) -> usize, tables: &mut Vec<Table>) -> usize {
+    let used = tables.len();
+    deeper(sheet, k, level, tables, 1);
+    root_level(tables, used, level)
 }
 
 /// A fastest cover with tables of an input fewer, where it is as fast.
@@ -134,7 +128,7 @@ fn other_covers() {
     let ways = [
         ("fewest tables, whatever the level", Way { cover: fewest_tables, ..RIGHT }),
         ("fewest tables first", Way { cover: tables_then_levels, ..RIGHT }),
-        ("one level deeper", Way { cover: |sheet, k, level, tables| deeper(sheet, k, level, tables, 1), ..RIGHT }),
+        ("one level deeper, for fewer tables", Way { cover: one_deeper, ..RIGHT }),
         ("tables not minimal among the fastest", Way { cover: not_minimal, ..RIGHT }),
         ("levels of driven nets taken as 0", Way { leaf: |_| 0, ..RIGHT }),
         ("a driven net one level too low", Way { leaf: |driven| driven.map_or(0, |level| level - 1), ..RIGHT }),
@@ -145,10 +139,13 @@ fn other_covers() {
     found(&ways, 10);
 }
 
-/// Off the longest path each gate as fast as can be.
+/// Off the longest path each gate as fast as can be: the lists are good but for having tables too many.
 #[test]
 fn fast_where_it_need_not_be() {
-    found(&[("fast everywhere", Way { cover: fast_everywhere, ..RIGHT })], 5);
+    let way = Way { cover: fast_everywhere, ..RIGHT };
+    found(&[("fast everywhere", way)], 5);
+    let too_many = |fault: &String| fault.contains("it is missing") || fault.contains("-23");
+    assert!(turned_down(&way).iter().all(too_many));
 }
 
 /// The cover chosen by levels of 0, and the slack of what it has in truth.

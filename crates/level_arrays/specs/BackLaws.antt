@@ -38,7 +38,7 @@ module _ (K : ℕ) (lev : ℕ → ℕ) (two : 2 ≤ K) (zs : List (Bool × Node)
   array-rows = searched-rows K lev zs z (omega arith) (x .searched) (λ i l. fan-entries K lev zs z store f fans (from + i))
 
   -- a single fanin has its row of the array's bound
-  slot-entry : (i b h w : ℕ) → i ≤ top → b + 1 ≡ from + i → h < length zs → w ≤ K → entryAt a (i * 8192) (2 ^ h) w ≡ fanRow store f b h w
+  pub slot-entry : (i b h w : ℕ) → i ≤ top → b + 1 ≡ from + i → h < length zs → w ≤ K → entryAt a (i * 8192) (2 ^ h) w ≡ fanRow store f b h w
   slot-entry zero b h w l e m k = x .zeroth h w b m k (omega arith)
   slot-entry (suc i) b h w l e m k =
       let d : b ≡ from + i = omega arith in
@@ -73,7 +73,7 @@ module _ (K : ℕ) (lev : ℕ → ℕ) (two : 2 ≤ K) (zs : List (Bool × Node)
     all-some : (0 < 2 ^ length zs - 1) × (2 ^ length zs - 1 < 2 ^ length zs)
     all-some = (omega (arith, pow-mono many), omega (arith, pow-pos (length zs)))
 
-    whole-entry : entryAt a (suc t * 8192) (2 ^ length zs - 1) w ≡ e
+    pub whole-entry : entryAt a (suc t * 8192) (2 ^ length zs - 1) w ≡ e
     whole-entry =
         entry-one (row-whole zs enough (array-rows t (omega arith) (2 ^ length zs - 1) (all-some .0) (all-some .1)) (q .inputs .1)) (q .entry)
 

@@ -3,3 +3,4 @@ pub mod Lined
 pub mod LinedLaws
 pub mod PlansMeet
 pub mod Asking
+pub mod AskingLaws

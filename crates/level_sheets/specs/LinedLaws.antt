@@ -67,7 +67,7 @@ module _ (K : ℕ) (lev : ℕ → ℕ) (table : (2 ≤ K) × (K ≤ 6)) (s : Dra
     reads h i m e = reads-before s w (record { gate = l; fanin = m; source = e })
 
     -- by what fanin h reads
-    by-fanin : (P : Type 0) (h : ℕ) → h < length (faninsAt (s .gates) j) →
+    pub by-fanin : (P : Type 0) (h : ℕ) → h < length (faninsAt (s .gates) j) →
         ((n : ℕ) → sourceAt h ≡ Net n → getD (f .levels) h 0 ≡ lev n → getD (f .lines) h 0 ≡ 0 → P) →
         ((i : ℕ) → sourceAt h ≡ Gate (suc i) → getD (f .levels) h 0 ≡ getD starts i 0 → getD (f .lines) h 0 ≡ getD counts i 0 → getD (f .gates) h 0 ≡ i → i < j → P) → P
     by-fanin P h m n y = of (sourceAt h) refl (q .each h m)

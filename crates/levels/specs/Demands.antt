@@ -1,5 +1,5 @@
--- Plans, as in the crate `cover`: its tokens, and its runs. Here a plan is asked to meet a demand: at most so many inputs of a level
--- within a bound, and at most so many tables below. Internal definitions: the laws are in PlanLaws and MaskPlans.
+-- Plans, as in the crate `plan`: its tokens, and its runs. Here a plan is asked to meet a demand: at most so many inputs of a level
+-- within a bound, and at most so many tables below. Internal definitions: the laws are in DemandLaws and MaskDemands.
 use Prim.Native.Nat.{ℕ, suc, _+_, _≤_, _<_}
 use mathlib.Core.Path.{_≡_}
 use mathlib.Core.Bool.{Bool, true, false}

@@ -1,5 +1,5 @@
 -- Laws of entries: there is one for each property; those of a net and of a gate; and how they change with the bound, which is never
--- to more. From which bound on they do not change at all is in LineLaws and Still.
+-- to more. From which bound on they do not change at all is in LineLaws.
 use Prim.Native.Nat.{ℕ, _≤_}
 use native.Mathlib.Omega.{arith}
 use native.Mathlib.Decide.{decLt}

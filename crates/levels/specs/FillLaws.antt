@@ -1,13 +1,13 @@
 -- What is computed is the least: `cell-is`, `fill-rows`, `search-rows` and `line-entry` say so of an entry, of one gate at one
 -- bound, of one gate at every bound, and of a tree.
-use Prim.Native.Nat.{ℕ, zero, suc, _+_, _-_, _^_, _≤_, _<_, min}
+use Prim.Native.Nat.{ℕ, zero, suc, _+_, _-_, _^_, _≤_, _<_}
 use native.Mathlib.Nat.{add-zero, add-suc, zero-add}
 use native.Mathlib.Omega.{arith}
 use native.Mathlib.Decide.{decLt}
 use mathlib.Core.Path.{_≡_, refl, ap, _∙_}
 use mathlib.Core.Logic.{_⊎_, inl, inr, by-cases}
 use mathlib.Core.Bool.{Bool, false, cond}
-use mathlib.Core.List.{List, [], _∷_, _++_, map}
+use mathlib.Core.List.{List, [], _∷_, _++_}
 use lib.Bits.{bitAnd}
 use lib.Dec.{T, leb}
 use lib.ListN.{length, length-append, getD, List·getD-append}
@@ -15,6 +15,7 @@ use lib.Seq.{getD-at}
 use lib.Pow.{pow-pos, pow-mono}
 use Rattle.lists.specs.Cases.{and-split, by-eqb}
 use Rattle.lists.specs.Sequences.{upto}
+use Rattle.lists.specs.ListLaws.{map-at}
 use Rattle.lists.specs.NumberLaws.{upto-length, upto-at}
 use Rattle.tree.specs.Trusted.Tree.{Node, leaf, gate, Edges, none, edge}
 use Rattle.tree.specs.Measures.{many, proper, propers}
@@ -32,10 +33,6 @@ use Rattle.levels.specs.Fill.{lowest, sum-of, tried, cell, at, rowEntry,
 -- ---- the least of a few numbers
 
 module _ (big : ℕ) where
-  lowest-most : (f : ℕ → ℕ) (n : ℕ) → lowest big f n ≤ big
-  lowest-most f zero = omega arith
-  lowest-most f (suc n) = omega (arith, lowest-most f n)
-
   lowest-low : (f : ℕ → ℕ) (n i : ℕ) → i < n → lowest big f n ≤ f i
   lowest-low f zero i l = absurd (omega arith)
   lowest-low f (suc n) i l =
@@ -79,10 +76,7 @@ module _ (big : ℕ) where
     unfolding cell
     cell-is q w b = record { most = omega arith; own = omega arith; sums = sums; some = some }
       where
-        least : ℕ
-        least = lowest big (λ x. tried big best top r w (suc x)) r
-
-        sums : (u i : ℕ) → 0 < u → MaskWithin u r → 0 < i → i < w → min q least ≤ best (top + r - u) i + best u (w - i)
+        sums : (u i : ℕ) → 0 < u → MaskWithin u r → 0 < i → i < w → cell big best top r q w ≤ best (top + r - u) i + best u (w - i)
         sums zero i p h j l = absurd (omega arith)
         sums (suc x) i p h j l =
             omega (
@@ -92,11 +86,11 @@ module _ (big : ℕ) where
               sum-of-low (best (top + r - suc x)) (best (suc x)) w i j l,
             )
 
-        some : min q least < big →
-            (min q least ≡ q) ⊎
-            ((u : ℕ) × (i : ℕ) × (0 < u) × MaskWithin u r × (0 < i) × (i < w) × (min q least ≡ best (top + r - u) i + best u (w - i)))
+        some : cell big best top r q w < big →
+            (cell big best top r q w ≡ q) ⊎
+            ((u : ℕ) × (i : ℕ) × (0 < u) × MaskWithin u r × (0 < i) × (i < w) × (cell big best top r q w ≡ best (top + r - u) i + best u (w - i)))
         some l =
-            by-cases (decLt least q)
+            by-cases (decLt (cell big best top r q w) q)
             (λ h.
             let x = lowest-some (λ x. tried big best top r w (suc x)) r (omega arith) in
             let t = tried-some w (suc (x .0)) (omega (arith, x .2)) in
@@ -105,11 +99,6 @@ module _ (big : ℕ) where
             (λ h. inl (omega arith))
 
 -- ---- lines and arrays
-
-map-at : {A B : Type 0} (f : A → B) (xs : List A) (i : ℕ) (d : A) (z : B) → i < length xs → getD (map f xs) i z ≡ f (getD xs i d)
-map-at f [] i d z l = absurd (omega arith)
-map-at f (x ∷ xs) zero d z l = refl
-map-at f (x ∷ xs) (suc i) d z l = map-at f xs i d z (omega arith)
 
 line-at : (big K : ℕ) (f : ℕ → ℕ) (w : ℕ) → 0 < w → w ≤ K → at big (levelLine big K f) w ≡ f w
 line-at big K f zero p l = absurd (omega arith)

@@ -1,7 +1,7 @@
 -- A search for one gate, from some bound on: what groups of its fanins give where no new gate is chosen over inputs of a level
 -- below `from`; and the arrays of the search at one bound: for each mask of fanins and each number of inputs w the fewest tables
 -- below with which the selected fanins give at most w inputs, none of a level above the bound; or `big` where they cannot.
--- Internal definitions: the laws are in GroupLaws and MaskLaws.
+-- Internal definitions: the laws are in GroupLaws and RowLaws.
 use Prim.Native.Nat.{ℕ, suc, _+_, _-_, _≤_, _<_}
 use mathlib.Core.Path.{_≡_}
 use mathlib.Core.Logic.{_⊎_}

@@ -7,6 +7,8 @@ pub mod DemandLaws
 pub mod Reached
 pub mod Over
 pub mod Fastest
+pub mod SameLaws
+pub mod CoverLevelLaws
 pub mod EntryLaws
 pub mod Groups
 pub mod GroupLaws
@@ -18,4 +20,5 @@ pub mod Lines
 pub mod LineLaws
 pub mod MaskDemands
 pub mod Bounds
+pub mod TieLaws
 pub mod Worked

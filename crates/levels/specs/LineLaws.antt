@@ -1,6 +1,6 @@
 -- Laws of the entries that a program keeps: they give the entry at every bound; a net and a gate have them; and they are settled
 -- where the entry for one input is no greater than the distance from the nets, which for a gate is so at the latest as many bounds
--- on as it has nets but one. (In Still: and where two arrays in a row are the same.)
+-- on as it has nets but one.
 use Prim.Native.Nat.{ℕ, zero, suc, _+_, _-_, _^_, _≤_, min, max}
 use native.Mathlib.Omega.{arith}
 use native.Mathlib.Decide.{decLt}

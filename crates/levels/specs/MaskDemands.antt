@@ -12,7 +12,7 @@ use lib.Pow.{pow-pos}
 use Rattle.lists.specs.Trusted.Lists.{_∈_, Every, Distinct, Inserted, Permuted, empty, more}
 use Rattle.lists.specs.Trusted.Lists.{first, later}
 use Rattle.lists.specs.Sequences.{Mix, neither, left, right, upto}
-use Rattle.lists.specs.ListLaws.{every-none, every-cons, every-head, every-tail, every-left, every-right, permuted-append, permuted-trans, permuted-from}
+use Rattle.lists.specs.ListLaws.{every-none, every-cons, every-head, every-left, every-right, every-map, permuted-append, permuted-trans, permuted-from}
 use Rattle.lists.specs.MixLaws.{mix-append, mix-every}
 use Rattle.lists.specs.NumberLaws.{upto-length, upto-at}
 use Rattle.cover.specs.Trusted.Cover.{pick}
@@ -72,17 +72,13 @@ planned-kept rs e s x = record { order = x .order; meets = meets-kept rs e (perm
 
 -- ---- fanins at a submask are not among the rest
 
-every-suc : (P : ℕ → Type 0) (ns : List ℕ) → Every (λ n. P (suc n)) ns → Every P (map suc ns)
-every-suc P [] h = every-none _
-every-suc P (n ∷ ns) h = every-cons (every-head h) (every-suc P ns (every-tail h))
-
 distinct-suc : (ns : List ℕ) → Distinct ns → Distinct (map suc ns)
 distinct-suc [] d = tt
-distinct-suc (n ∷ ns) d = (every-suc (λ m. suc n ≢ m) ns (λ m l e. d .0 m l (omega arith)), distinct-suc ns (d .1))
+distinct-suc (n ∷ ns) d = (every-map (λ m. suc n ≢ m) suc ns (λ m l e. d .0 m l (omega arith)), distinct-suc ns (d .1))
 
 upto-distinct : (n : ℕ) → Distinct (upto n)
 upto-distinct zero = tt
-upto-distinct (suc n) = (every-suc (λ m. 0 ≢ m) (upto n) (λ m l e. omega arith), distinct-suc (upto n) (upto-distinct n))
+upto-distinct (suc n) = (every-map (λ m. 0 ≢ m) suc (upto n) (λ m l e. omega arith), distinct-suc (upto n) (upto-distinct n))
 
 distinct-pick : (n : ℕ) {ns : List ℕ} (b : ℕ) → Every (λ m. n ≢ m) ns → Distinct ns → Distinct (pick b ns (n ∷ ns))
 distinct-pick n zero h d = d

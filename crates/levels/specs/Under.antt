@@ -1,5 +1,5 @@
 -- Every cover is counted: a group of fanins gives what a cover of it gives, with the cover's level, inputs and tables.
--- By induction over the cover, as in Lower of the crate `cover`.
+-- By induction over the cover, as in Lower of the crate `plan`.
 use Prim.Native.Nat.{ℕ, zero, suc, _+_, _≤_, max}
 use native.Mathlib.Nat.{add-zero, zero-add}
 use native.Mathlib.Omega.{arith}

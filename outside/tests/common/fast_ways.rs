@@ -57,6 +57,19 @@ pub fn deeper(sheet: &Sheet, k: usize, level: &dyn Fn(u16) -> usize, tables: &mu
     bound
 }
 
+/// The level of the last of some tables, over leaves of these levels, and after `used` tables of other sheets.
+pub fn root_level(tables: &[Table], used: usize, level: &dyn Fn(u16) -> usize) -> usize {
+    let mut found: Vec<usize> = Vec::new();
+    for table in &tables[used..] {
+        let of_input = |&input: &u16| match usize::from(input).checked_sub(10_001 + used) {
+            Some(index) => found[index],
+            None => level(input),
+        };
+        found.push(1 + table.inputs.iter().map(of_input).max().unwrap_or(0));
+    }
+    *found.last().expect("a table")
+}
+
 /// What the fastest cover is like.
 pub fn fastest(sheet: &Sheet, k: usize, level: &dyn Fn(u16) -> usize) -> Fastest {
     Search::of(sheet, k, level).fastest()
@@ -107,7 +120,7 @@ impl Way {
 fn inputs() -> &'static [(Vec<u8>, Result<Mapped, Refusal>)] {
     static INPUTS: OnceLock<Vec<(Vec<u8>, Result<Mapped, Refusal>)>> = OnceLock::new();
     INPUTS.get_or_init(|| {
-        let small = (0..800).map(|index| case(6, index).input).filter(|input| input.len() < 4000);
+        let small = (0..1000).map(|index| case(6, index).input).filter(|input| input.len() < 1500);
         small.map(|input| (input.clone(), map(&input))).collect()
     })
 }

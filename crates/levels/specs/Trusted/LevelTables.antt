@@ -1,6 +1,5 @@
 -- What adding a sheet by its fewest levels leaves behind: 02, #107. Definitions only.
 use Prim.Native.Nat.{ℕ}
-use mathlib.Core.Path.{_≡_}
 use mathlib.Core.List.{List}
 use lib.ListN.{length}
 use Rattle.cover.specs.Trusted.Tables.{LookupTable, codeLevels}
