@@ -222,7 +222,8 @@ fn other_fields(rng: &mut Rng) -> Option<Answered> {
 }
 
 fn no_number(rng: &mut Rng) -> Option<Answered> {
-    let field = *rng.pick(&["      ", "    00", "    -0", "    +5", "   05 ", "     -", "    5 ", "  1 24", "     x", "    5", "      5", "   \t 5"]);
+    let field = *rng
+        .pick(&["      ", "    00", "    -0", "    +5", "   05 ", "     -", "    5 ", "  1 24", "     x", "    5", "      5", "   \t 5"]);
     let opening = format!("{:>6}{:>6}{field}\n", rng.between(1, 7), rng.between(0, TABLES + 1));
     Some(([opening.into_bytes(), text(&[], &generate_few(rng))[1..].to_vec()].concat(), refused(1, 0)))
 }
@@ -253,9 +254,7 @@ pub const SHOWN: [(&str, Shows); 10] = [
     }),
     ("a sheet whose leaves have three levels", |mapped| any_sheet(mapped, |mapped, at, _| leaf_levels(mapped, at) >= 3)),
     ("a sheet of more tables than over free nets", |mapped| {
-        any_sheet(mapped, |mapped, at, found| {
-            fastest(&mapped.accepted.joined[at].sheet, mapped.accepted.k, &|_| 0).tables < found.tables
-        })
+        any_sheet(mapped, |mapped, at, found| fastest(&mapped.accepted.joined[at].sheet, mapped.accepted.k, &|_| 0).tables < found.tables)
     }),
     ("a sheet of a level fewer by its joins", |mapped| {
         any_sheet(mapped, |mapped, at, found| drawn(mapped, at).is_some_and(|drawn| drawn.level > found.level))
@@ -265,9 +264,7 @@ pub const SHOWN: [(&str, Shows); 10] = [
             drawn(mapped, at).is_some_and(|drawn| drawn.level == found.level && drawn.tables > found.tables)
         })
     }),
-    ("a chained edge without room", |mapped| {
-        mapped.accepted.joined.iter().any(|joined| !joined.chained.iter().all(Chained::is_joined))
-    }),
+    ("a chained edge without room", |mapped| mapped.accepted.joined.iter().any(|joined| !joined.chained.iter().all(Chained::is_joined))),
 ];
 
 /// Whether one of the sheets shows something, given its index and its fastest cover's level and number.

@@ -120,8 +120,7 @@ fn against_every_cover() {
         let level = |net: u16| given[usize::from(net) - 1];
         let splittings = splittings(&joined.sheet);
         for k in 2..=4 {
-            let all: Vec<(usize, usize)> =
-                covers(&splittings, k).filter_map(|(node, choice, _)| node.level(choice, k, &level)).collect();
+            let all: Vec<(usize, usize)> = covers(&splittings, k).filter_map(|(node, choice, _)| node.level(choice, k, &level)).collect();
             let &(least_level, tables) = all.iter().min().unwrap();
             let mut search = Search::of(&joined.sheet, k, &level);
             assert_eq!(search.fastest(), Fastest { level: least_level, tables }, "K {k}, {given:?}, {drawn:?}");
@@ -217,7 +216,9 @@ fn refusals_of_the_opening_line() {
     for fields in [&[4][..], &[4, 8], &[7, 8], &[4, 801], &[4, 8, 5, 5], &[4, 8, 1025, 5], &[1; 12]] {
         refused(&with_opening(fields), 1, 0, 0);
     }
-    for opening in ["", "\n", "     4     8     5", "     4     8    -0\n", "     4     8    05\n", "     4     8    +5\n", "     4     8      \n"] {
+    for opening in
+        ["", "\n", "     4     8     5", "     4     8    -0\n", "     4     8    05\n", "     4     8    +5\n", "     4     8      \n"]
+    {
         refused(opening, 1, 0, 0);
     }
 }

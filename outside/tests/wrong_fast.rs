@@ -167,8 +167,14 @@ fn other_slacks() {
         ("slack one too low", Way { slack: |wanted, level| wanted - level - 1, ..RIGHT }),
         ("slack in eight bits", Way { slack: |wanted, level| i64::from((wanted - level) as i8), ..RIGHT }),
         ("the root level for the slack", Way { slack: |_, level| level, ..RIGHT }),
-        ("the output net signed", Way { lines: |slacks| slacks.iter().map(|(net, slack)| format!("{net:>6}{slack:>6}\n")).collect(), ..RIGHT }),
-        ("slack first", Way { lines: |slacks| slacks.iter().map(|(net, slack)| format!("{slack:>6}{:>6}\n", net.abs())).collect(), ..RIGHT }),
+        (
+            "the output net signed",
+            Way { lines: |slacks| slacks.iter().map(|(net, slack)| format!("{net:>6}{slack:>6}\n")).collect(), ..RIGHT },
+        ),
+        (
+            "slack first",
+            Way { lines: |slacks| slacks.iter().map(|(net, slack)| format!("{slack:>6}{:>6}\n", net.abs())).collect(), ..RIGHT },
+        ),
         ("the last sheet first", Way { lines: |slacks| (RIGHT.lines)(&slacks.iter().rev().copied().collect::<Vec<_>>()), ..RIGHT }),
         ("the last sheet alone", Way { lines: |slacks| (RIGHT.lines)(&slacks[slacks.len().saturating_sub(1)..]), ..RIGHT }),
         ("no slack", Way { lines: |_| String::new(), ..RIGHT }),
@@ -209,22 +215,31 @@ fn other_opening_lines() {
         ("a wanted level below 1024", Way { opening: |fields| three(fields, [2, 3, 34], 0..=1023), ..RIGHT }),
         ("a wanted level of 1025", Way { opening: |fields| three(fields, [2, 3, 34], 0..=1025), ..RIGHT }),
         ("a wanted level of -1", Way { opening: |fields| three(fields, [2, 3, 34], -1..=1024), ..RIGHT }),
-        ("a minus sign taken for a fault of layout", Way {
-            opening: |fields| if fields.get(2).is_some_and(|&wanted| wanted < 0) { Err(1) } else { (RIGHT.opening)(fields) },
-            ..RIGHT
-        }),
-        ("two fields taken", Way {
-            opening: |fields| if fields.len() == 2 { (RIGHT.opening)(&[fields, &[0]].concat()) } else { (RIGHT.opening)(fields) },
-            ..RIGHT
-        }),
-        ("more fields taken", Way { opening: |fields| (RIGHT.opening)(&fields[..fields.len().min(3)]), ..RIGHT }),
-        ("the count of fields after the ranges", Way {
-            opening: |fields| {
-                let padded: Vec<i64> = [fields, &[1, 1, 1]].concat();
-                (RIGHT.opening)(&padded[..3]).and_then(|_| (RIGHT.opening)(fields))
+        (
+            "a minus sign taken for a fault of layout",
+            Way {
+                opening: |fields| if fields.get(2).is_some_and(|&wanted| wanted < 0) { Err(1) } else { (RIGHT.opening)(fields) },
+                ..RIGHT
             },
-            ..RIGHT
-        }),
+        ),
+        (
+            "two fields taken",
+            Way {
+                opening: |fields| if fields.len() == 2 { (RIGHT.opening)(&[fields, &[0]].concat()) } else { (RIGHT.opening)(fields) },
+                ..RIGHT
+            },
+        ),
+        ("more fields taken", Way { opening: |fields| (RIGHT.opening)(&fields[..fields.len().min(3)]), ..RIGHT }),
+        (
+            "the count of fields after the ranges",
+            Way {
+                opening: |fields| {
+                    let padded: Vec<i64> = [fields, &[1, 1, 1]].concat();
+                    (RIGHT.opening)(&padded[..3]).and_then(|_| (RIGHT.opening)(fields))
+                },
+                ..RIGHT
+            },
+        ),
     ];
     found(&ways, 1);
 }

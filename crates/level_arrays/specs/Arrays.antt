@@ -3,13 +3,15 @@
 use Prim.Native.Nat.{ℕ, suc, _+_, _-_, _*_, _^_, _≤_, _<_, min}
 use mathlib.Core.Path.{_≡_}
 use mathlib.Core.Logic.{_⊎_, _≢_}
-use mathlib.Core.List.{List, _++_, map}
+use mathlib.Core.Bool.{Bool, true, false, _&&_}
+use mathlib.Core.List.{List, [], _∷_, _++_, map}
 use lib.ListN.{length, getD}
 use Rattle.lists.specs.Trusted.Lists.{_∈_}
 use Rattle.lists.specs.Sequences.{upto}
 use Rattle.cover.specs.Trusted.Cover.{pick}
 use Rattle.plan.specs.declared.Plan.{Plan}
 use Rattle.plan.specs.declared.Token.{Token}
+use Rattle.plan.specs.declared.Token.the-variants.{Push as push, Join as join}
 use Rattle.plan.specs.Limits.{masks, mostSteps}
 use Rattle.plan.specs.Masks.{select}
 use Rattle.plan.specs.Steps.{tokens}
@@ -132,12 +134,33 @@ pub record DraftRoom (n s : ℕ) (d : Draft) : Type 0 where
   pub rooms : (length (d .bounds) ≡ 10) × (length (d .inputs) ≡ 10)
   pub room : d .plan .len + 2 * length (select s (upto n)) ≤ mostSteps + 1
 
+-- no net is placed: `net` says which fanins are nets, and the list which of the operands are, the last one first
+abbrev pub PlacesGates : (ℕ → Bool) → List Token → List Bool → Type 0
+PlacesGates net [] st = Unit {0}
+PlacesGates net (push i ∷ p) st = PlacesGates net p (net i ∷ st)
+PlacesGates net (join l r ∷ p) [] = ⊥
+PlacesGates net (join l r ∷ p) (y ∷ []) = ⊥
+PlacesGates net (join l r ∷ p) (y ∷ x ∷ st) = ((l && x) ≡ false) × ((r && y) ≡ false) × PlacesGates net p (false ∷ st)
+
+-- the entries of a fanin that is a net are 0, or there is none
+abbrev pub NetEntries : (K n top : ℕ) → (ℕ → Bool) → List ℕ → Type 0
+NetEntries K n top net a =
+    (h i w : ℕ) → h < n → net h ≡ true → i ≤ top → 1 ≤ w → w ≤ K → (entryAt a (i * 8192) (2 ^ h) w ≡ 0) ⊎ (entryAt a (i * 8192) (2 ^ h) w ≡ big)
+
+-- the tokens of the mask s place no net, and leave one operand, which is a net only where s is the mask of one
+pub record PlacesNone (n s : ℕ) (net : ℕ → Bool) (added : List Token) : Type 0 where
+  pub left : Bool
+  pub single : left ≡ true → (h : ℕ) × (h < n) × (s ≡ 2 ^ h) × (net h ≡ true)
+  pub places : (rest : List Token) (st : List Bool) → PlacesGates net rest (left ∷ st) → PlacesGates net (added ++ rest) st
+
 -- THE PLAN OF A MASK: e is d with a plan for the mask s added, which meets the demand for w inputs at the i-th array's bound; each fanin of the mask has
 -- its demand, which can be read back, and those of the other fanins are as they were
 pub record Drafted (K n from top : ℕ) (a : List ℕ) (i s w : ℕ) (d e : Draft) : Type 0 where
   pub added : List Token
   pub planned : MaskMeets K (draftDemands n from a e) s added (demand (from + i - 1) w (entryAt a (i * 8192) s w))
   pub is : tokens (e .plan) ≡ tokens (d .plan) ++ added
+  -- (added later by the owner of this file) a placed operand has an entry of 1 or more, so it is no net: `places` follows the tokens, an operand more for each mask
+  pub places : (net : ℕ → Bool) → NetEntries K n top net a → PlacesNone n s net added
   pub len : e .plan .len ≡ d .plan .len + length added
   pub few : length added + 1 ≡ 2 * length (select s (upto n))
   pub steps : length (e .plan .steps) ≡ mostSteps

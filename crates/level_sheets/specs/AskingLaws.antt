@@ -4,12 +4,13 @@ use native.Mathlib.Omega.{arith}
 use native.Mathlib.Decide.{decLt}
 use mathlib.Core.Path.{_≡_, refl, sym, ap, ap₂, subst, _∙_}
 use mathlib.Core.Logic.{by-cases, inl, inr, ⊎-elim, _⊎_, _≢_}
-use mathlib.Core.Bool.{Bool, false}
-use mathlib.Core.List.{List, [], _∷_, _++_, map}
+use mathlib.Core.Bool.{Bool, true, false}
+use mathlib.Core.List.{List, [], _∷_, _++_, map, append-nil}
 use lib.ListN.{length, getD, set, length-map}
 use lib.Seq.{getD-set-same, getD-set-other}
 use Rattle.lists.specs.Trusted.Lists.{_∈_}
 use Rattle.lists.specs.Sequences.{Paired, no-pair, pair, upto}
+use Rattle.lists.specs.Cases.{if-leb}
 use Rattle.lists.specs.ListLaws.{every-at, map-at}
 use Rattle.lists.specs.NumberLaws.{upto-length, upto-at}
 use Rattle.tree.specs.declared.Kind.{Kind}
@@ -31,7 +32,7 @@ use Rattle.levels.specs.Gives.{fanins}
 use Rattle.levels.specs.Lines.{look}
 use Rattle.levels.specs.LineLaws.{start-enough}
 use Rattle.levels.specs.Demands.{Demand, demand, DemandPlanned}
-use Rattle.level_arrays.specs.Arrays.{big, entryAt, lineAt, fanLine, fanRow, startAt, Ranged, Falling, Kept, draftDemand, draftDemands, Drafted}
+use Rattle.level_arrays.specs.Arrays.{big, entryAt, lineAt, fanLine, fanRow, startAt, Ranged, Falling, Kept, draftDemand, draftDemands, NetEntries, PlacesNone, Drafted}
 use Rattle.level_arrays.specs.Askable.{Askable, FanLines}
 use Rattle.level_arrays.specs.BackLaws.{arrays-fall, whole-entry, asked-kept, slot-entry, fan-askable, net-askable, gate-askable}
 use Rattle.level_arrays.specs.declared.Fans.{Fans}
@@ -39,7 +40,7 @@ use Rattle.level_arrays.specs.declared.Draft.{Draft}
 use Rattle.level_sheets.specs.SheetTrees.{fanins-length, fanins-at, faninsAt, ReadsAt, reads-before, reads-once, read-somewhere, gate-tree}
 use Rattle.level_sheets.specs.Lined.{FanOf, FansOf, LowNets, Lined}
 use Rattle.level_sheets.specs.LinedLaws.{by-fanin, lined-fans}
-use Rattle.level_sheets.specs.PlansMeet.{Asked, PlanFor, noPlan}
+use Rattle.level_sheets.specs.PlansMeet.{isNet, readsNet, Asked, PlanFor, noPlan}
 use Rattle.level_sheets.specs.Asking.{gateEntry, demandAt, demandsOf, ReadFrom, Asking, AskedOf}
 
 -- a fanin's row is the entry of the gate that it reads
@@ -51,6 +52,15 @@ row-entry starts counts store f h i ℓ w a c r o =
     ∙ ap (λ m. look big (getD starts i 0) (getD counts i 0 - 1) (λ j v. pick (getD counts i 0) (pick v big 0) (lineAt store m j v)) ℓ w) r
     ∙ (let k : getD counts i 0 ≡ suc (getD counts i 0 - 1) = omega arith in
     ap (λ m. look big (getD starts i 0) (getD counts i 0 - 1) (λ j v. pick m (pick v big 0) (lineAt store i j v)) ℓ w) k)
+
+-- a net's row has 0, or nothing
+pick-net : (c v n : ℕ) → c ≡ 0 → 1 ≤ v → pick c (pick v big 0) n ≡ 0
+pick-net c zero n e l = absurd (omega arith)
+pick-net c (suc v) n e l = rw e refl
+
+net-row : (store : List ℕ) (f : Fans) (h ℓ v : ℕ) → getD (f .lines) h 0 ≡ 0 → 1 ≤ v → (fanRow store f ℓ h v ≡ 0) ⊎ (fanRow store f ℓ h v ≡ big)
+unfolding look
+net-row store f h ℓ v e l = if-leb (λ y. (y ≡ 0) ⊎ (y ≡ big)) (getD (f .levels) h 0) ℓ (λ b. inl (pick-net (getD (f .lines) h 0) v _ e l)) (λ b. inr refl)
 
 upto-in : (n h : ℕ) → h < n → h ∈ upto n
 upto-in n h l = subst (λ m. m ∈ upto n) (upto-at n h 0 l) (every-at {P = λ m. m ∈ upto n} (upto n) h 0 (λ m i. i) (omega (arith, upto-length n)))
@@ -67,7 +77,7 @@ paired-by : {A B : Type 0} {R S : A → B → Type 0} {xs : List A} {ys : List B
 paired-by x y no-pair f = no-pair
 paired-by x y (pair r p) f = pair (f 0 (omega arith) r) (paired-by x y p (λ h l. f (suc h) (omega arith)))
 
-demands-at : (starts counts store bounds inputs : List ℕ) (n j : ℕ) → j < n →
+pub demands-at : (starts counts store bounds inputs : List ℕ) (n j : ℕ) → j < n →
     getD (demandsOf starts counts store bounds inputs n) j (demand 0 0 0) ≡ demandAt starts counts store bounds inputs j
 demands-at starts counts store bounds inputs n j m =
     map-at (demandAt starts counts store bounds inputs) (upto n) j 0 (demand 0 0 0) (omega (arith, upto-length n)) ∙ ap (demandAt starts counts store bounds inputs) (upto-at n j 0 m)
@@ -129,6 +139,17 @@ module _ (K : ℕ) (lev : ℕ → ℕ) (table : (2 ≤ K) × (K ≤ 6)) (s : Dra
 
     pub asking-kept : Kept K a top (2 ^ (f .count) - 1) (getD inputs g 0)
     asking-kept = rw zs-length at (asked-kept K lev (table .0) zs z store f fans ranged many (ℓ - from) (omega arith) enough own-at)
+
+    net-entry : (h i v n : ℕ) → h < f .count → i ≤ top → 1 ≤ v → v ≤ K → getD (f .levels) h 0 ≡ lev n → getD (f .lines) h 0 ≡ 0 →
+        (entryAt a (i * 8192) (2 ^ h) v ≡ 0) ⊎ (entryAt a (i * 8192) (2 ^ h) v ≡ big)
+    net-entry h i v n m o k b lv ln =
+        by-cases (decLt 0 (from + i))
+        (λ c.
+        let e = slot-entry K lev (table .0) zs z store f fans ranged i (from + i - 1) h v o (omega arith) (omega (arith, zs-length)) b in
+        subst (λ y. (y ≡ 0) ⊎ (y ≡ big)) (sym e) (net-row store f h (from + i - 1) v ln k))
+        (λ c.
+        let e : i ≡ 0 = omega arith in
+        inr (ap (λ y. entryAt a (y * 8192) (2 ^ h) v) e ∙ r .nothing h v m b (omega arith)))
 
     -- AND WHAT IT GIVES
     module _ {d e : Draft} (p : Drafted K (f .count) from top a top (2 ^ (f .count) - 1) (getD inputs g 0) d e) (none : d .plan .len ≡ 0)
@@ -209,6 +230,16 @@ module _ (K : ℕ) (lev : ℕ → ℕ) (table : (2 ≤ K) × (K ≤ 6)) (s : Dra
       plan-tokens : tokens (e .plan) ≡ p .added
       plan-tokens = p .is ∙ ap (λ n. firsts n (d .plan .steps) ++ p .added) none
 
+      -- a net's entries are 0, or it has none
+      net-entries : NetEntries K (f .count) top (readsNet (getD (s .gates) g noGate)) a
+      net-entries h i v m c o k b =
+          by-fanin K lev table s w low x g l (omega arith) f q _ h (omega (arith, q .count))
+          (λ n e lv ln. net-entry h i v n m o k b lv ln)
+          (λ j e lv ln r u. absurd (let z : _≡_ {A = Bool} false true = subst (λ y. isNet y ≡ true) e c in let y : _≡_ {A = ℕ} 0 1 = cc in omega arith))
+
+      plan-places : PlacesNone (f .count) (2 ^ (f .count) - 1) (readsNet (getD (s .gates) g noGate)) (p .added)
+      plan-places = p .places (readsNet (getD (s .gates) g noGate)) net-entries
+
       abbrev wholeDemand : Demand
       wholeDemand = demand (from + top - 1) (getD inputs g 0) (entryAt a (top * 8192) (2 ^ (f .count) - 1) (getD inputs g 0))
 
@@ -228,6 +259,7 @@ module _ (K : ℕ) (lev : ℕ → ℕ) (table : (2 ≤ K) × (K ≤ 6)) (s : Dra
             rw (plan-tokens, own-same, ← whole-demand)
             (subst (λ ns. DemandPlanned K (draftDemands (f .count) from a e) ns (p .added) wholeDemand)
             (all-fanins (upto (length (draftDemands (f .count) from a e))) (upto-length (length (draftDemands (f .count) from a e)) ∙ draft-length)) (p .planned));
+        places = rw (plan-tokens, ← (append-nil (p .added))) (plan-places .places [] [] tt);
         len = plan-len;
       }
 
@@ -239,6 +271,7 @@ module _ (K : ℕ) (lev : ℕ → ℕ) (table : (2 ≤ K) × (K ≤ 6)) (s : Dra
         demands = t .demands;
         asked = paired-by noEdge (demand 0 0 0) (t .asked) (λ h o r. asked-same h o (getD (faninsAt (s .gates) j) h noEdge .source) refl _ r);
         planned = rw (unasked j (λ h r. omega (arith, reads-before s w r))) (t .planned);
+        places = t .places;
         len = t .len;
       }
         where

@@ -4,3 +4,4 @@ pub mod LinedLaws
 pub mod PlansMeet
 pub mod Asking
 pub mod AskingLaws
+pub mod RootLaws

@@ -5,11 +5,15 @@ use mathlib.Core.Path.{_≡_}
 use mathlib.Core.Bool.{Bool}
 use mathlib.Core.List.{List, [], _∷_}
 use lib.ListN.{length, getD}
+use Rattle.tree.specs.Trusted.Limits.{mostFanins}
 use Rattle.tree.specs.Trusted.Tree.{leaf}
 use Rattle.sheet.specs.declared.Source.{Source}
 use Rattle.sheet.specs.declared.Source.the-variants.{Net, Gate}
 use Rattle.sheet.specs.declared.Edge.{Edge}
-use Rattle.sheet.specs.Trusted.Sheet.{DrawnGate, leafNets}
+use Rattle.sheet.specs.declared.Gate.{Gate as SheetGate}
+use Rattle.sheet.specs.Trusted.Limits.{mostGates}
+use Rattle.sheet.specs.Trusted.Sheet.{DrawnGate, faninNets, faninGates, leafNets}
+use Rattle.sheet.specs.Trusted.Answers.{drawnGate}
 use Rattle.lists.specs.Trusted.Lists.{Every}
 use Rattle.sheet.specs.Trusted.Trees.{treesOf}
 use Rattle.sheet.specs.PlaceLaws.{noEdge}
@@ -39,3 +43,15 @@ pub record Lined (K : ℕ) (lev : ℕ → ℕ) (gs : List DrawnGate) (g : ℕ) (
       LevelLines K lev big ((i, getD (treesOf [] gs) j (leaf 0)) ∷ []) (getD starts j 0) (getD counts j 0 - 1) (lineAt store j)
   pub some : (j : ℕ) → j < g → (1 ≤ getD counts j 0) × (getD counts j 0 ≤ 256)
   pub low : (j : ℕ) → j < g → getD starts j 0 ≤ 1000
+
+-- ---- for the code's gate
+
+-- its fanins are few, and read gates that there is room for and nets that have a level
+pub record FansReach (fs : List Edge) (x : SheetGate) (levels : List ℕ) : Type 0 where
+  pub few : length (drawnGate fs x .fanins) ≤ mostFanins
+  pub gates : Every (λ j. (1 ≤ j) × (j ≤ mostGates)) (faninGates (drawnGate fs x .fanins))
+  pub nets : Every (λ n. n < length levels) (faninNets (drawnGate fs x .fanins))
+
+-- the level of each net
+abbrev pub levelIn : List ℕ → ℕ → ℕ
+levelIn levels n = getD levels n 0

@@ -39,6 +39,17 @@ size-leaves : (es : Edges) → size (fanins es) ≡ length (leaves* es)
 size-leaves Edges.none = refl
 size-leaves (Edges.edge i t es) = omega (arith, size-leaves es, length-append (leaves t) (leaves* es))
 
+-- the tree of gate j
+module _ (s : DrawnSheet) (w : WellFormed s) (j : ℕ) (l : j < length (s .gates)) where
+  abbrev below : Edges
+  below = edgesOf (treesOf [] (s .gates)) (faninsAt (s .gates) j)
+
+  pub proper-gate : T (proper (gate (getD (s .gates) j noGate .kind) below))
+  proper-gate = subst (λ t. T (proper t)) (gate-tree s w j l) (gate-proper s w j l)
+
+  pub few-under : size (fanins below) ≤ 256
+  few-under = omega (arith, size-leaves below, ap (λ t. length (leaves t)) (gate-tree s w j l), gate-leaves s w j l)
+
 -- the lines of a fanin that reads a net, and of one that reads a gate
 module _ (K : ℕ) (lev : ℕ → ℕ) (store : List ℕ) (f : Fans) (h : ℕ) where
   net-line : (i : Bool) (n : ℕ) → getD (f .levels) h 0 ≡ lev n → getD (f .lines) h 0 ≡ 0 →
@@ -115,13 +126,6 @@ module _ (K : ℕ) (lev : ℕ → ℕ) (table : (2 ≤ K) × (K ≤ 6)) (s : Dra
     fan-low h m =
         by-fanin _ h (omega (arith, q .count)) (λ n e a c. omega (arith, low n (net-in h n (omega (arith, q .count)) e))) (λ i e a c r b′. omega (arith, x .low i (omega arith)))
 
-    -- the gate's own tree
-    is-proper : T (proper (gate (getD (s .gates) j noGate .kind) edges))
-    is-proper = subst (λ t. T (proper t)) (gate-tree s w j l) (gate-proper s w j l)
-
-    few-leaves : size (fanins edges) ≤ 256
-    few-leaves = omega (arith, size-leaves edges, ap (λ t. length (leaves t)) (gate-tree s w j l), gate-leaves s w j l)
-
     fans-count : f .count ≡ length (fanins edges)
     fans-count = q .count ∙ sym (fanins-length (treesOf [] (s .gates)) (faninsAt (s .gates) j))
 
@@ -130,7 +134,7 @@ module _ (K : ℕ) (lev : ℕ → ℕ) (table : (2 ≤ K) × (K ≤ 6)) (s : Dra
     lined-gate y i =
         rw (gate-tree s w j l)
         (lines-gate {i = i} {k = getD (s .gates) j noGate .kind} edges
-        (kept-lines K lev (table .0) (getD (s .gates) j noGate .kind) edges is-proper few-leaves (false, leaf 0) store f (lined-fans (false, leaf 0)) fans-count y))
+        (kept-lines K lev (table .0) (getD (s .gates) j noGate .kind) edges (proper-gate s w j l) (few-under s w j l) (false, leaf 0) store f (lined-fans (false, leaf 0)) fans-count y))
 
 lines-same : {K : ℕ} {lev : ℕ → ℕ} {zs : List (Bool × Node)} {a top : ℕ} {f g : ℕ → ℕ → ℕ} → ((i w : ℕ) → i ≤ top → w ≤ K → f i w ≡ g i w) →
     LevelLines K lev big zs a top f → LevelLines K lev big zs a top g
