@@ -164,7 +164,9 @@ impl<'a> Search<'a> {
 
     /// The least root level, and the fewest tables of the covers that have it.
     pub fn fastest(&mut self) -> Fastest {
-        let found = (self.base + 1..).find_map(|level| Some(Fastest { level, tables: self.within(level)? }));
+        let root = &self.gates[self.gates.len() - 1];
+        let mut levels = self.base + 1..=self.base + 1 + root.deepest(root.all());
+        let found = levels.find_map(|level| Some(Fastest { level, tables: self.within(level)? }));
         found.expect("a cover of some level")
     }
 

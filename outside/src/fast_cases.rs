@@ -11,7 +11,7 @@ use crate::least::least;
 use crate::part::Part;
 use crate::refusal::Refusal;
 use crate::rng::Rng;
-use crate::sheet::Sheet;
+use crate::sheet::{Edge, Gate, Kind, Sheet, Source};
 use crate::TABLES;
 
 /// One input, what it was made as, and its refusal, where the making tells it.
@@ -27,7 +27,7 @@ type Answered = (Vec<u8>, Option<Result<(), Refusal>>);
 type Make = fn(&mut Rng) -> Option<Answered>;
 
 /// The kinds of inputs, and how often each is made beside the others.
-const KINDS: [(&str, usize, Make); 15] = [
+const KINDS: [(&str, usize, Make); 17] = [
     ("sheets over free nets", 12, |rng| accepted(rng, generate_few)),
     ("sheets over driven nets", 24, |rng| accepted(rng, tower)),
     ("sheets in a chain of sheets", 6, |rng| accepted(rng, chained_sheets)),
@@ -36,6 +36,8 @@ const KINDS: [(&str, usize, Make); 15] = [
     ("a table too few", 8, a_table_too_few),
     ("tables for the least number and not for the fewest levels", 24, between_the_two),
     ("a full part", 1, full_part),
+    ("each sheet above the one before", 1, |rng| accepted(rng, high)),
+    ("an output net driven or read before", 4, clashing),
     ("slack 0", 8, |rng| Some(near(rng, 0))),
     ("slack 1 or -1", 8, |rng| Some(near(rng, 1))),
     ("a wanted level out of range", 4, out_of_range),
@@ -119,6 +121,35 @@ fn tower(rng: &mut Rng) -> Vec<Sheet> {
 fn chained_sheets(rng: &mut Rng) -> Vec<Sheet> {
     let count = rng.between(4, 30);
     generate::tower(rng, count, 4, 4)
+}
+
+/// Up to 800 sheets of a gate each, of one table at K 4 and above, each reading the net of the one before.
+fn high(rng: &mut Rng) -> Vec<Sheet> {
+    let sheet = |rng: &mut Rng, index: u16| {
+        let below = if index == 0 { 1 } else { 999 + index };
+        let mut nets = vec![below, 2, 3, 4];
+        nets.truncate(rng.between(2, 4));
+        rng.shuffle(&mut nets);
+        let fanins = nets.into_iter().map(|net| Edge { inverted: rng.once_in(2), source: Source::Net(net) }).collect();
+        let kind = if rng.once_in(2) { Kind::And } else { Kind::Or };
+        Sheet { net: 1000 + index, inverted: rng.once_in(2), gates: vec![Gate { kind, fanins }] }
+    };
+    let count = rng.between(1, TABLES) as u16;
+    (0..count).map(|index| sheet(rng, index)).collect()
+}
+
+/// 21 or 22 at a sheet whose output net is changed to one that a sheet before drives or reads.
+fn clashing(rng: &mut Rng) -> Option<Answered> {
+    let (k, mut sheets) = (any_k(rng), tower(rng));
+    let at = rng.below(sheets.len());
+    let driven: Vec<u16> = sheets[..at].iter().map(|sheet| sheet.net).collect();
+    let read: Vec<u16> = sheets[..at].iter().flat_map(Sheet::leaves).filter(|net| !driven.contains(net)).collect();
+    let (number, mut nets) = if rng.once_in(2) { (21, driven) } else { (22, read) };
+    nets.retain(|net| !sheets[at].leaves().contains(net));
+    sheets[at].net = *nets.get(rng.below(nets.len().max(1)))?;
+    let enough = sum(&built(&sheets[..at], k)).max(1);
+    let capacity = if rng.once_in(2) { enough } else { TABLES };
+    Some((input(k, capacity, any_wanted(rng), &sheets), refused(number, at + 1)))
 }
 
 /// Sheets with room for all of them.
@@ -230,7 +261,11 @@ fn no_number(rng: &mut Rng) -> Option<Answered> {
 
 /// What the generator of the first program's inputs makes, damaged or not, with one field more on its first line.
 fn first_program(rng: &mut Rng) -> Option<Answered> {
-    let mut input = generate::case(rng.word(), 0).input;
+    let mut made = generate::case(rng.word(), 0);
+    while made.name != "damaged" && rng.once_in(2) {
+        made = generate::case(rng.word(), 0);
+    }
+    let mut input = made.input;
     let end = input.iter().position(|&byte| byte == b'\n')?;
     let wanted = if rng.once_in(50) { some_out_of_range(rng) } else { any_wanted(rng) };
     input.splice(end..end, format!("{wanted:>6}").into_bytes());

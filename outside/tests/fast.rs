@@ -3,7 +3,7 @@
 mod common;
 
 use common::{gate, line, nets, one_gate, sheet, AND, OR};
-use outside::exhaustive::{covers, splittings};
+use outside::exhaustive::{covers, fastest as fastest_of_all, splittings};
 use outside::fast::{fastest, Fastest, Search};
 use outside::fast_cases::{case, SHOWN};
 use outside::fast_check::check_output;
@@ -11,7 +11,7 @@ use outside::fast_program::{map, print};
 use outside::join::join;
 use outside::least::least;
 use outside::level::levels;
-use outside::part::Table;
+use outside::part::{Part, Table};
 use outside::refusal::Refusal;
 use outside::rng::Rng;
 use outside::sheet::{Edge, Gate, Kind, Sheet, Source};
@@ -169,6 +169,38 @@ fn the_checker_takes_what_we_print() {
         assert_eq!(check_output(&case.input, print(&case.input).as_bytes()), Ok(()), "{} {index}", case.kind);
     }
     assert!(shown.iter().filter(|&&count| count >= 10).count() >= 9, "{shown:?}");
+}
+
+/// Of all covers of a small sheet the checker takes those of the least root level that have the fewest tables, and no other. Net 1 is driven
+/// at level 2, net 2 at level 1.
+#[test]
+fn the_fastest_covers_are_taken() {
+    let drivers = one_gate(2, AND, &[100, 101]) + &one_gate(1, AND, &[2, 102]);
+    let driving = [Table { net: 2, inputs: vec![100, 101], truth: 8 }, Table { net: 1, inputs: vec![2, 102], truth: 8 }];
+    let level = |net: u16| [2, 1].get(usize::from(net) - 1).copied().unwrap_or(0);
+    let mut rng = Rng::new(11);
+    let (mut taken, mut deeper, mut dearer) = (0, 0, 0);
+    for _ in 0..120 {
+        let leaves = rng.between(3, 5);
+        let drawn = small(&mut rng, leaves);
+        let splittings = splittings(&join(&drawn).sheet);
+        let k = rng.between(2, 4);
+        let least = fastest_of_all(&splittings, k, &level);
+        let input = line(&[k as i64, 9, 5]) + &drivers + &drawn.text();
+        for (node, choice, _) in covers(&splittings, k) {
+            let found = node.level(choice, k, &level).expect("a cover");
+            let tables = [driving.to_vec(), node.tables(choice, 2, drawn.net, drawn.inverted)].concat();
+            let list = Part { k, capacity: 9, tables }.list();
+            let printed = |level: usize| list.clone() + &line(&[2, 4]) + &line(&[1, 3]) + &line(&[9999, 5 - level as i64]);
+            assert_eq!(check_output(input.as_bytes(), printed(least.0).as_bytes()).is_ok(), found == least, "{input}{list}");
+            assert_eq!(check_output(input.as_bytes(), printed(found.0).as_bytes()).is_ok(), found == least, "{input}{list}");
+            let (is_deeper, is_dearer) = (found.0 > least.0 && found.1 == least.1, found.0 == least.0 && found.1 > least.1);
+            taken += usize::from(found == least);
+            deeper += usize::from(is_deeper);
+            dearer += usize::from(is_dearer);
+        }
+    }
+    assert!(taken > 300 && deeper > 300 && dearer > 300, "{taken} {deeper} {dearer}");
 }
 
 const EXAMPLE: &str = "    20     3

@@ -1,7 +1,8 @@
 // Mapping a gate of any number of fanins.
 ghost use mathlib.Core.Path.{_≡_};
 ghost use Prim.Native.Nat.{_<_};
-ghost use Rattle.mapper_laws.specs.CodeMap.{Begun, withFanin, Mappable, GateMapped, Reaches, Gathers};
+ghost use Rattle.mapper_laws.specs.CodeMap.{Begun, withFanin, Mappable, GateRun, GateMapped, Reaches, Gathers};
+ghost use Rattle.mapper_laws.specs.CodeRun.{Runnable};
 use crate::fanin::leaf;
 use gate_fanins::fanin_count;
 use gate_run::follow;
@@ -11,6 +12,7 @@ use mapper_laws::MappedGate;
 use mapper_laws::Operands;
 use pending::Pending;
 use plan::Key;
+use plan::Plan;
 use search::best_plan;
 use sheet::Edge;
 use sheet::FANIN_ROOM;
@@ -81,6 +83,24 @@ pub fn gather(gate: Gate, fanins: [Edge; FANIN_ROOM], held: [Held; 255]) -> Oper
     o
 }
 
+// Maps a gate with those fanins by a plan, where so many tables stand before those that it places.
+pub fn run_gate(first: u16, kind: Kind, operands: Operands, plan: Plan) -> MappedGate
+    requires { ⌜ Runnable first kind operands plan ⌝ }
+    ensures { λ r. ⌜ GateRun first kind operands plan r ⌝ }
+{
+    let run = follow(first, kind, operands, plan);
+    let top = operand(run, 0);
+    let table = top.table;
+    let key = plan.key;
+    MappedGate {
+        held: Held {
+            below: key.below,
+            table,
+        },
+        run,
+    }
+}
+
 // Maps a gate with those fanins, where so many tables stand before those that it places.
 pub fn map_gate(k: u8, first: u16, kind: Kind, operands: Operands) -> MappedGate
     requires { ⌜ Mappable k first operands ⌝ }
@@ -89,15 +109,5 @@ pub fn map_gate(k: u8, first: u16, kind: Kind, operands: Operands) -> MappedGate
     let count = operands.count;
     let keys = operands.keys;
     let p = best_plan(k, count, keys);
-    let run = follow(first, kind, operands, p);
-    let top = operand(run, 0);
-    let table = top.table;
-    let key = p.key;
-    MappedGate {
-        held: Held {
-            below: key.below,
-            table,
-        },
-        run,
-    }
+    run_gate(first, kind, operands, p)
 }

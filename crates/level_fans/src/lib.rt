@@ -1,12 +1,12 @@
 // The fanins of a gate in the search for the fewest levels: gathered from the sheet, and what a draft asks of the gates that they read.
 ghost use mathlib.Core.Path.{_≡_};
-ghost use mathlib.Core.Logic.{_≢_};
-ghost use Prim.Native.Nat.{ℕ, _+_, _<_, _≤_};
-ghost use lib.ListN.{getD, length};
+ghost use Prim.Native.Nat.{_<_, _≤_};
+ghost use lib.ListN.{length};
 ghost use Rattle.sheet.specs.Trusted.Answers.{drawnGate};
 ghost use Rattle.level_arrays.specs.Arrays.{GreatestFan};
 ghost use Rattle.level_sheets.specs.Lined.{FansOf, FansReach, levelIn};
 ghost use Rattle.level_sheets.specs.Asking.{AskedOf};
+ghost use Rattle.level_fans.specs.FanSteps.{withFan, CanAsk};
 use gate_fanins::fanin_count;
 use level_arrays::Draft;
 use level_arrays::Fans;
@@ -18,6 +18,8 @@ use sheet::Source;
 
 // One fanin more.
 fn with_fan(f: Fans, level: u16, lines: u16, gate: u16) -> Fans
+    requires { ⌜ f .count < 10 ⌝ }
+    ensures { λ r. ⌜ r ≡ withFan f level lines gate ⌝ }
 {
     let mut r = f;
     let count = r.count;
@@ -86,11 +88,17 @@ pub fn greatest_level(f: Fans) -> u16
     a
 }
 
+// Each gate has its place in the arrays: their types say so.
+fn all_gates(bounds: [u16; MOST_GATES], inputs: [u8; MOST_GATES])
+    ensures { λ r. ⌜ (length bounds ≡ 255) × (length inputs ≡ 255) ⌝ }
+{}
+
 // Writes down what a draft asks of the gates that the fanins read.
 pub fn ask(f: Fans, draft: Draft, bounds: &mut [u16; MOST_GATES], inputs: &mut [u8; MOST_GATES])
-    requires { ⌜ (f .count ≤ 10) × (length (f .lines) ≡ 10) × (length (f .gates) ≡ 10) × (length (draft .bounds) ≡ 10) × (length (draft .inputs) ≡ 10) × ((h : ℕ) → h < f .count → 0 < getD (f .lines) h 0 → getD (f .gates) h 0 < 255) × ((h i : ℕ) → h < f .count → i < f .count → 0 < getD (f .lines) h 0 → 0 < getD (f .lines) i 0 → getD (f .gates) h 0 ≡ getD (f .gates) i 0 → h ≡ i) ⌝ }
+    requires { ⌜ CanAsk f draft ⌝ }
     ensures { λ r. ⌜ AskedOf f draft (now (bounds .entry)) (now (inputs .entry)) (now (bounds .exit)) (now (inputs .exit)) ⌝ }
 {
+    all_gates(*bounds, *inputs);
     let count = f.count as usize;
     let mut h: usize = 0;
     while h < count {

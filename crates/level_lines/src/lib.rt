@@ -2,7 +2,10 @@
 ghost use mathlib.Core.Path.{_≡_};
 ghost use Prim.Native.Nat.{ℕ, _+_, _*_, _<_, _≤_};
 ghost use lib.ListN.{getD, length};
+ghost use Rattle.plan.specs.Limits.{masks};
 ghost use Rattle.level_arrays.specs.Arrays.{big, FansGood, GreatestFan, fanRow, lineAt, LinesKept};
+ghost use Rattle.level_rows.specs.Runs.{RunWritten};
+ghost use Rattle.level_lines.specs.Looked.{storeRoom, FanStored, FansStored, RowsLooked};
 use level_arrays::ARRAY_ROOM;
 use level_arrays::FANIN_ROOM;
 use level_arrays::Fans;
@@ -16,21 +19,27 @@ use level_rows::put_row;
 use plan::MASKS;
 
 // The line j of gate g, counted from 0.
-fn line_row(store: &[u8; STORE_ROOM], g: u16, j: u16) -> LevelRow {
+fn line_row(store: &[u8; STORE_ROOM], g: u16, j: u16) -> LevelRow
+    requires { ⌜ (g < 255) × (j < 256) × (length (now store) ≡ storeRoom) ⌝ }
+    ensures { λ r. ⌜ ((w : ℕ) → w ≤ 6 → getD (r .at) w big ≡ lineAt (now (store .entry)) g j w) ⌝ }
+{
     let place = (g as usize * 256 + j as usize) * 6;
     let mut row = LevelRow {
         at: [NONE; ROW_ROOM],
     };
-    let mut w: usize = 1;
-    while w < 7 {
-        row.at[w] = store[place + (w - 1)];
+    let mut w: usize = 0;
+    while w < 6 {
+        row.at[1 + w] = store[place + w];
         w += 1;
     }
     row
 }
 
 // The row of fanin h at a bound.
-pub fn look(f: Fans, h: usize, bound: u16, store: &[u8; STORE_ROOM]) -> LevelRow {
+pub fn look(f: Fans, h: usize, bound: u16, store: &[u8; STORE_ROOM]) -> LevelRow
+    requires { ⌜ FanStored f h × (length (now store) ≡ storeRoom) ⌝ }
+    ensures { λ r. ⌜ ((w : ℕ) → w ≤ 6 → getD (r .at) w big ≡ fanRow (now (store .entry)) f bound h w) ⌝ }
+{
     let level = f.levels[h];
     if bound < level {
         return LevelRow {
@@ -50,7 +59,10 @@ pub fn look(f: Fans, h: usize, bound: u16, store: &[u8; STORE_ROOM]) -> LevelRow
 }
 
 // The rows of all fanins at a bound.
-pub fn look_rows(f: Fans, bound: u16, store: &[u8; STORE_ROOM], rows: &mut [u8; FANIN_ROOM]) {
+pub fn look_rows(f: Fans, bound: u16, store: &[u8; STORE_ROOM], rows: &mut [u8; FANIN_ROOM])
+    requires { ⌜ FansStored f × (length (now store) ≡ storeRoom) × (length (now rows) ≡ 80) ⌝ }
+    ensures { λ r. ⌜ RowsLooked (now (store .entry)) f bound (now (rows .entry)) (now (rows .exit)) ⌝ }
+{
     let count = f.count as usize;
     let mut h: usize = 0;
     while h < count {
@@ -60,18 +72,21 @@ pub fn look_rows(f: Fans, bound: u16, store: &[u8; STORE_ROOM], rows: &mut [u8; 
 }
 
 // Keeps the row of a mask as line j of gate g.
-fn keep_line(array: &[u8; ARRAY_ROOM], s: usize, g: usize, j: u16, store: &mut [u8; STORE_ROOM]) {
+fn keep_line(array: &[u8; ARRAY_ROOM], s: usize, g: usize, j: u16, store: &mut [u8; STORE_ROOM])
+    requires { ⌜ (s < masks) × (g < 255) × (j < 256) × (length (now array) ≡ 8192) × (length (now store) ≡ storeRoom) ⌝ }
+    ensures { λ r. ⌜ RunWritten (now (store .entry)) (now (store .exit)) ((g * 256 + j) * 6) 6 (λ w. getD (now (array .entry)) (s * 8 + (1 + w)) big) ⌝ }
+{
     let place = (g * 256 + j as usize) * 6;
-    let mut w: usize = 1;
-    while w < 7 {
-        store[place + (w - 1)] = array[s * 8 + w];
+    let mut w: usize = 0;
+    while w < 6 {
+        store[place + w] = array[s * 8 + (1 + w)];
         w += 1;
     }
 }
 
 // Finds the lines of gate g, whose fanins' nets have the greatest level a, and gives their number.
 pub fn gate_lines(k: u8, f: Fans, a: u16, g: usize, store: &mut [u8; STORE_ROOM]) -> u16
-    requires { ⌜ FansGood k g f × (g < 255) × GreatestFan f a ⌝ }
+    requires { ⌜ FansGood k g f × (g < 255) × GreatestFan f a × (length (now store) ≡ storeRoom) ⌝ }
     ensures { λ r. ⌜ LinesKept k g f (now (store .entry)) (now (store .exit)) a r ⌝ }
 {
     let n = f.count as usize;
@@ -87,8 +102,8 @@ pub fn gate_lines(k: u8, f: Fans, a: u16, g: usize, store: &mut [u8; STORE_ROOM]
         lift(k, end, &array, 0, &mut own);
         if bound >= a {
             keep_line(&array, end - 1, g, count, store);
-            let one = array[(end - 1) * 8 + 1] as u16;
-            if one <= count {
+            let one = array[(end - 1) * 8 + 1];
+            if one <= count as u8 {
                 return count + 1;
             }
             count += 1;

@@ -5,6 +5,8 @@ ghost use Prim.Native.Nat.{ℕ, _+_, _*_, _^_, _<_, _≤_};
 ghost use lib.ListN.{getD, length};
 ghost use Rattle.plan.specs.Limits.{masks};
 ghost use Rattle.level_arrays.specs.Arrays.{big, Searchable, Filled, lifted};
+ghost use Rattle.level_rows.specs.Sums.{LeastSum, RowOfMask};
+ghost use Rattle.level_rows.specs.Runs.{RunWritten};
 use level_arrays::FANIN_ROOM;
 use level_arrays::LevelRow;
 use level_arrays::NONE;
@@ -12,7 +14,10 @@ use level_arrays::ROW_ROOM;
 use plan::MASKS;
 
 // The least of a number and of the sums of two entries for w inputs in all, of the rows at two places.
-fn least_sum(w: usize, most: u8, arrays: &[u8], x: usize, y: usize) -> u8 {
+fn least_sum(w: usize, most: u8, arrays: &[u8], x: usize, y: usize) -> u8
+    requires { ⌜ (2 ≤ w) × (w ≤ 6) × (x + 8 ≤ length (now arrays)) × (y + 8 ≤ length (now arrays)) ⌝ }
+    ensures { λ r. ⌜ LeastSum (now (arrays .entry)) x y w w most r ⌝ }
+{
     let mut least = most;
     let mut i: usize = 1;
     while i < w {
@@ -26,7 +31,10 @@ fn least_sum(w: usize, most: u8, arrays: &[u8], x: usize, y: usize) -> u8 {
 }
 
 // The row, lowered to the sums of the rows at two places.
-fn lowered(k: u8, row: LevelRow, arrays: &[u8], x: usize, y: usize) -> LevelRow {
+fn lowered(k: u8, row: LevelRow, arrays: &[u8], x: usize, y: usize) -> LevelRow
+    requires { ⌜ (k ≤ 6) × (x + 8 ≤ length (now arrays)) × (y + 8 ≤ length (now arrays)) ⌝ }
+    ensures { λ r. ⌜ ((w : ℕ) → w ≤ k → LeastSum (now (arrays .entry)) x y w w (getD (row .at) w big) (getD (r .at) w big)) ⌝ }
+{
     let most = k as usize;
     let mut r = row;
     let mut w: usize = 2;
@@ -39,7 +47,10 @@ fn lowered(k: u8, row: LevelRow, arrays: &[u8], x: usize, y: usize) -> LevelRow 
 }
 
 // The row of the mask top + r, top being its highest bit: the least of own, that of a table of its own, and of the sums over the submasks of r.
-fn best_row(k: u8, top: usize, r: usize, own: u8, arrays: &[u8], at: usize) -> LevelRow {
+fn best_row(k: u8, top: usize, r: usize, own: u8, arrays: &[u8], at: usize) -> LevelRow
+    requires { ⌜ (k ≤ 6) × (top + r < masks) × (at + 8192 ≤ length (now arrays)) ⌝ }
+    ensures { λ row. ⌜ RowOfMask k (now (arrays .entry)) at top r own (row .at) ⌝ }
+{
     let s = top + r;
     let mut row = LevelRow {
         at: [own; ROW_ROOM],
@@ -54,7 +65,10 @@ fn best_row(k: u8, top: usize, r: usize, own: u8, arrays: &[u8], at: usize) -> L
 }
 
 // Writes a row at a place.
-pub fn put_row(arrays: &mut [u8], place: usize, row: LevelRow) {
+pub fn put_row(arrays: &mut [u8], place: usize, row: LevelRow)
+    requires { ⌜ place + 8 ≤ length (now arrays) ⌝ }
+    ensures { λ r. ⌜ RunWritten (now (arrays .entry)) (now (arrays .exit)) place 8 (λ w. getD (row .at) w big) ⌝ }
+{
     let mut w: usize = 0;
     while w < 8 {
         arrays[place + w] = row.at[w];
@@ -63,7 +77,10 @@ pub fn put_row(arrays: &mut [u8], place: usize, row: LevelRow) {
 }
 
 // The row of fanin h.
-fn fanin_row(rows: &[u8; FANIN_ROOM], h: usize) -> LevelRow {
+fn fanin_row(rows: &[u8; FANIN_ROOM], h: usize) -> LevelRow
+    requires { ⌜ (h < 10) × (length (now rows) ≡ 80) ⌝ }
+    ensures { λ r. ⌜ ((w : ℕ) → w < 8 → getD (r .at) w big ≡ getD (now (rows .entry)) (h * 8 + w) big) ⌝ }
+{
     let mut row = LevelRow {
         at: [NONE; ROW_ROOM],
     };
@@ -85,7 +102,7 @@ pub fn fill(
     arrays: &mut [u8],
     at: usize,
 ) -> usize
-    requires { ⌜ Searchable k n × (at + 8192 ≤ length (now arrays)) ⌝ }
+    requires { ⌜ Searchable k n × (length (now rows) ≡ 80) × (length (now own) ≡ masks) × (at + 8192 ≤ length (now arrays)) ⌝ }
     ensures { λ r. ⌜ (r ≡ 2 ^ n) × Filled k n (λ h w. getD (now (rows .entry)) (h * 8 + w) big) (λ s. getD (now (own .entry)) s big) (now (arrays .exit)) at (2 ^ n) × (length (now (arrays .exit)) ≡ length (now (arrays .entry))) × ((i : ℕ) → i < at → getD (now (arrays .exit)) i big ≡ getD (now (arrays .entry)) i big) ⌝ }
 {
     let mut h: usize = 0;
@@ -112,7 +129,7 @@ pub fn fill(
 
 // The entries of a table of its own for each mask below end, one bound higher than the array at a place.
 pub fn lift(k: u8, end: usize, arrays: &[u8], at: usize, own: &mut [u8; MASKS])
-    requires { ⌜ (k ≤ 6) × (end ≤ masks) × (at + 8192 ≤ length (now arrays)) ⌝ }
+    requires { ⌜ (k ≤ 6) × (end ≤ masks) × (length (now own) ≡ masks) × (at + 8192 ≤ length (now arrays)) ⌝ }
     ensures { λ r. ⌜ (length (now (own .exit)) ≡ masks) × ((s : ℕ) → s < end → getD (now (own .exit)) s big ≡ lifted k (now (arrays .entry)) at s) ⌝ }
 {
     let mut s: usize = 0;

@@ -93,14 +93,14 @@ module _ (K : ℕ) (lev : ℕ → ℕ) (table : (2 ≤ K) × (K ≤ 6)) (s : Dra
   zs = fanins (edgesOf trees (faninsAt (s .gates) g))
 
   -- this gate is asked
-  is-read : ReadFrom (s .gates) (suc g) g
-  is-read =
+  pub is-asked : ReadFrom (s .gates) (suc g) g
+  is-asked =
       by-cases (decLt (suc g) (length (s .gates)))
       (λ m. let (k, h, r) = read-somewhere s w g m in inr (k, h, omega (arith, reads-before s w r), r))
       (λ m. inl (omega arith))
 
   own : Askable K lev zs (demandAt starts counts store bounds inputs g)
-  own = y .asked g l is-read
+  own = y .asked g l is-asked
 
   zs-length : length zs ≡ f .count
   zs-length = fanins-length trees (faninsAt (s .gates) g) ∙ sym (q .count)
@@ -306,7 +306,7 @@ module _ (K : ℕ) (lev : ℕ → ℕ) (table : (2 ≤ K) × (K ≤ 6)) (s : Dra
           (
             subst (λ q. Askable K lev (fanins (edgesOf trees (faninsAt (s .gates) j))) q) (v′ ∙ ap (demandAt starts counts store bounds′ inputs′) i-is)
             (gate-askable {i = getD (faninsAt (s .gates) g) h noEdge .inverted} {k = getD (s .gates) j noGate .kind} t),
-            omega (arith, ap (λ q. q .bound) v′, ap (λ n. getD bounds′ n 0) i-is, high .1, y .low g l is-read),
+            omega (arith, ap (λ q. q .bound) v′, ap (λ n. getD bounds′ n 0) i-is, high .1, y .low g l is-asked),
           ))
 
       before : (j : ℕ) → j < length (s .gates) → ReadFrom (s .gates) (suc g) j → ((h : ℕ) → ReadsAt (s .gates) g h j → ⊥) →

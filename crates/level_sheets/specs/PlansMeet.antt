@@ -6,7 +6,7 @@ use mathlib.Core.List.{List, []}
 use lib.ListN.{length, getD}
 use Rattle.lists.specs.Sequences.{Paired, upto}
 use Rattle.plan.specs.declared.Plan.{Plan}
-use Rattle.plan.specs.Key.{leaf-key}
+use Rattle.plan.specs.Key.{key}
 use Rattle.plan.specs.Limits.{mostSteps}
 use Rattle.plan.specs.Steps.{tokens}
 use Rattle.sheet.specs.declared.Source.{Source}
@@ -18,7 +18,7 @@ use Rattle.level_arrays.specs.Arrays.{PlacesGates}
 
 -- what an array of plans, and a list of demands, gives past its end
 abbrev pub noPlan : Plan
-noPlan = record { ok = false; key = leaf-key; len = 0; steps = [] }
+noPlan = record { ok = false; key = key 0 0; len = 0; steps = [] }
 
 abbrev pub noDemand : Demand
 noDemand = demand 0 0 0

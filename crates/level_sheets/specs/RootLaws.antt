@@ -81,7 +81,7 @@ module _ (K : ℕ) (lev : ℕ → ℕ) (table : (2 ≤ K) × (K ≤ 6)) (s : Dra
         entry-one (look-entry root-lines (getD starts last 0 + j) K (omega arith)) (root-lines .exact j K (omega arith) (omega arith))
 
     module _ (bounds inputs : List ℕ) (b : getD bounds last 0 ≡ getD starts last 0 + j) (i : getD inputs last 0 ≡ K) (plans : List Plan) where
-      root-demand : demandAt starts counts store bounds inputs last ≡ demand (getD starts last 0 + j) K (lineAt store last j K)
+      pub root-demand : demandAt starts counts store bounds inputs last ≡ demand (getD starts last 0 + j) K (lineAt store last j K)
       root-demand = rw (b, i) (ap (demand (getD starts last 0 + j) K) line-entry)
 
       root-asked : Askable K lev (fanins below) (demandAt starts counts store bounds inputs last)

@@ -1,7 +1,8 @@
 // Mapping a sheet to lookup tables, gate by gate.
 ghost use mathlib.Core.Path.{_≡_};
-ghost use Prim.Native.Nat.{_+_, _≤_};
-ghost use Rattle.mapper_laws.specs.CodeMap.{mostTables, Staged, Sheetable, SheetMapped, flipped, driving};
+ghost use Prim.Native.Nat.{_+_, _<_, _≤_};
+ghost use lib.ListN.{length};
+ghost use Rattle.mapper_laws.specs.CodeMap.{mostTables, Staged, Sheetable, SheetMapped, flipped, driving, rooted};
 ghost use Rattle.pending.specs.Merging.{Tabled};
 use gate_fanins::fanin_count;
 use gate_fanins::place_of;
@@ -17,8 +18,19 @@ use merge::inverted;
 use pending::Lut;
 use sheet::Sheet;
 
+// No tables.
+pub fn no_tables() -> Mapping
+    ensures { λ r. ⌜ (r .count ≡ 0) × (length (r .tables) ≡ mostTables) ⌝ }
+{
+    let none = pending::zero_lut();
+    Mapping {
+        count: 0,
+        tables: [none; MOST_TABLES],
+    }
+}
+
 // The tables that a run placed, staged after the others.
-fn stage(mapping: Mapping, run: PlanRun) -> Mapping
+pub fn stage(mapping: Mapping, run: PlanRun) -> Mapping
     requires { ⌜ (mapping .count + run .placed ≤ mostTables) × (run .placed ≤ 18) ⌝ }
     ensures { λ r. ⌜ Staged mapping run r ⌝ }
 {
@@ -54,6 +66,20 @@ fn root_table(out: u16, flip: bool, table: Lut) -> Lut
     root
 }
 
+// The root's table after the others.
+pub fn with_root(mapping: Mapping, out: u16, flip: bool, table: Lut) -> Mapping
+    requires { ⌜ (mapping .count < mostTables) × Tabled table ⌝ }
+    ensures { λ r. ⌜ r ≡ rooted mapping out flip table ⌝ }
+{
+    let root = root_table(out, flip, table);
+    let mut m = mapping;
+    let count = m.count;
+    let at = count as usize;
+    m.tables[at] = root;
+    m.count = count + 1;
+    m
+}
+
 // Maps a sheet to tables of at most k inputs, gate by gate, where so many tables stand before them.
 // `SheetMapped`: after any tables of that count, those in the first `count` records are the tables of a least cover of the sheet, inputs
 // before readers and the root's last, with zeros at the unused inputs.
@@ -63,11 +89,7 @@ pub fn map(sheet: Sheet, k: u8, used: u16) -> Mapping
 {
     let gates = sheet.count as usize;
     let mut held = [leaf(0); 255];
-    let none = pending::zero_lut();
-    let mut m = Mapping {
-        count: 0,
-        tables: [none; MOST_TABLES],
-    };
+    let mut m = no_tables();
     let mut g: usize = 0;
     while g < gates {
         let gate = sheet.gates[g];
@@ -112,10 +134,5 @@ pub fn map(sheet: Sheet, k: u8, used: u16) -> Mapping
     let at = gates - 1;
     let root = held[at];
     let table = root.table;
-    let last = root_table(sheet.out, sheet.inverted, table);
-    let count = m.count;
-    let end = count as usize;
-    m.tables[end] = last;
-    m.count = count + 1;
-    m
+    with_root(m, sheet.out, sheet.inverted, table)
 }

@@ -21,8 +21,6 @@ use Rattle.plan.specs.Key.{leaf-key}
 use Rattle.plan.specs.PlanOf.{PlanAnswer, PlanOf}
 use Rattle.plan.specs.PlanOfLaws.{plan-answer, answer-most}
 use Rattle.cover.specs.Trusted.Placed.{codes*}
-use Rattle.plan.specs.Steps.{tokens}
-use Rattle.pending.specs.declared.Lut.{Lut}
 use Rattle.table.specs.Trusted.Limits.{inputRoom}
 use Rattle.pending.specs.Luts.{lutTable, lutOf}
 use Rattle.pending.specs.LutLaws.{lut-back}
@@ -42,11 +40,11 @@ use Rattle.mapper_laws.specs.declared.Mapping.{Mapping}
 use Rattle.pending.specs.Operands.{single}
 use Rattle.pending.specs.declared.Pending.{Pending}
 use Rattle.pending.specs.Pendings.{operandOf, Neat}
-use Rattle.mapper_laws.specs.CodeRun.{noTable, noPending, operandAt, faninsOf, Runnable, Ran}
+use Rattle.mapper_laws.specs.CodeRun.{noTable, noPending, faninsOf, Runnable}
 use Rattle.mapper_laws.specs.CodeRunLaws.{kept-count, fanin-count, record-neat, stored-all}
 use Rattle.mapper_laws.specs.SafeLaws.{safe-planned}
 use Rattle.mapper_laws.specs.Mapping.{GatesMapped as MappedOnList, mappedAt, keyOf, heldTable, sourceTable}
-use Rattle.mapper_laws.specs.CodeMap.{leafOf, Begun, withFanin, keysIn, Mappable, GateMapped, noHeld, HeldAll, Reaches, Gathered, Gathering, mostTables, Staging, Staged}
+use Rattle.mapper_laws.specs.CodeMap.{leafOf, Begun, withFanin, keysIn, Mappable, HeldIs, BelowIs, noHeld, HeldAll, Reaches, Gathered, Gathering, mostTables, Staging, Staged}
 
 -- ---- one gate
 
@@ -74,19 +72,6 @@ module _ {K first : ℕ} {o : Operands} (m : Mappable K first o) where
     good = m .good;
     len = answer-most a (m .keys);
     safe = safe-planned codeBase first k (faninsOf o) (m .keys .table .1) (fanin-count o (m .good) ∙ sym key-count) fanin-widths (m .keys .count .1) (a .planned);
-  }
-
-  pub gate-mapped : {p : Plan} {s : PlanRun} → (k : Kind) → PlanAnswer K (keysIn o) p → Ran first k o p s → {t : Lut} → t ≡ operandAt s 0 .table →
-      GateMapped K first k o (record { held = record { below = p .key .below; table = t }; run = s })
-  gate-mapped {p} k a r e = record {
-    tokens = tokens p;
-    key = p .key;
-    least = a .least;
-    planned = a .planned;
-    holds = r .holds;
-    state = r .state;
-    below = refl;
-    table = e;
   }
 
 -- ---- staging
@@ -122,9 +107,9 @@ module _ (m : Mapping) (s : PlanRun) where
 -- ---- the fanins of a gate
 
 -- what the code holds of what a fanin reads
-record Reading (done : List MappedOnList) (s : Source) (h : Held) : Type 0 where
+record Reading (done : List MappedOnList) (held : List Held) (s : Source) (h : Held) : Type 0 where
   table : h .table ≡ lutOf (sourceTable codeBase done s)
-  below : h .below ≡ keyOf done s .below
+  below : HeldAll BelowIs done held → h .below ≡ keyOf done s .below
   width : length (sourceTable codeBase done s .inputs) ≡ keyOf done s .width
   fits : keyOf done s .width ≤ inputRoom
   sorts : Sorted (sourceTable codeBase done s .inputs)
@@ -132,16 +117,16 @@ record Reading (done : List MappedOnList) (s : Source) (h : Held) : Type 0 where
 held-sorted : (d : MappedOnList) → Sorted (heldTable codeBase d .inputs)
 held-sorted d = sorted-sorted (codes* codeBase (d .body))
 
-read-net : (done : List MappedOnList) (n : ℕ) → Reading done (Net n) (leafOf n)
-read-net done n = record { table = refl; below = refl; width = refl; fits = omega arith; sorts = (every-none _, tt) }
+read-net : (done : List MappedOnList) (held : List Held) (n : ℕ) → Reading done held (Net n) (leafOf n)
+read-net done held n = record { table = refl; below = λ b. refl; width = refl; fits = omega arith; sorts = (every-none _, tt) }
 
-read-gate : (done : List MappedOnList) (held : List Held) → HeldAll done held → (g : ℕ) → 1 ≤ g → g ≤ length done → Reading done (Gate g) (getD held (g - 1) noHeld)
+read-gate : (done : List MappedOnList) (held : List Held) → HeldAll HeldIs done held → (g : ℕ) → 1 ≤ g → g ≤ length done → Reading done held (Gate g) (getD held (g - 1) noHeld)
 read-gate done held a g l m =
     let h = a (g - 1) (omega arith) in
-    record { table = h .table; below = h .below; width = h .width; fits = h .fits .1; sorts = held-sorted (mappedAt done g) }
+    record { table = h .table; below = λ b. b (g - 1) (omega arith); width = h .width; fits = h .fits .1; sorts = held-sorted (mappedAt done g) }
 
-module _ {done : List MappedOnList} {fs : List Edge} {o : Operands} (room : length (o .fanins) ≡ 10) (key-room : length (o .keys) ≡ 10) (few : o .count < 10)
-    (g : Gathered done fs o) (f : Edge) (h : Held) (r : Reading done (f .source) h) where
+module _ {done : List MappedOnList} {held : List Held} {fs : List Edge} {o : Operands} (room : length (o .fanins) ≡ 10) (key-room : length (o .keys) ≡ 10) (few : o .count < 10)
+    (g : Gathered done held fs o) (f : Edge) (h : Held) (r : Reading done held (f .source) h) where
   abbrev next : Pending
   next = record { inverted = f .inverted; table = h .table }
 
@@ -157,16 +142,16 @@ module _ {done : List MappedOnList} {fs : List Edge} {o : Operands} (room : leng
   next-neat : Neat (h .table)
   next-neat = rw (r .table) (record-neat (sourceTable codeBase done (f .source)) (omega (arith, r .width, r .fits)) (r .sorts))
 
-  next-gathered : Gathered done (fs ++ (f ∷ [])) (withFanin o (f .inverted) h)
+  next-gathered : Gathered done held (fs ++ (f ∷ [])) (withFanin o (f .inverted) h)
   next-gathered = record {
     fanins =
         ap (map operandOf) (ap (λ n. take n (set (o .fanins) (o .count) next)) (add-one (o .count)) ∙ take-suc-set (o .fanins) (o .count) next (omega arith))
         ∙ map-append operandOf (take (o .count) (o .fanins)) (next ∷ [])
         ∙ ap₂ (λ xs t. xs ++ (record { inverted = f .inverted; table = t } ∷ [])) (g .fanins) next-table
         ∙ sym (map-append (λ x. record { inverted = x .inverted; table = sourceTable codeBase done (x .source) }) fs (f ∷ []));
-    keys =
+    keys = λ b.
         ap (λ n. take n (set (o .keys) (o .count) next-key)) (add-one (o .count)) ∙ take-suc-set (o .keys) (o .count) next-key (omega arith)
-        ∙ ap₂ (λ xs k. xs ++ (k ∷ [])) (g .keys) (λ i. record { below = r .below i; width = next-count i })
+        ∙ ap₂ (λ xs k. xs ++ (k ∷ [])) (g .keys b) (λ i. record { below = r .below b i; width = next-count i })
         ∙ sym (map-append (λ x. keyOf done (x .source)) fs (f ∷ []));
     neat = stored-all (λ p. Neat (p .table)) noPending (o .fanins) (o .count) next (omega arith) (g .neat) next-neat;
     widths = λ i l.
@@ -183,7 +168,7 @@ gathering-start {o = o} b = record {
   key-room = b .key-room;
   gathered = λ done a m. record {
     fanins = ap (λ n. map operandOf (take n (o .fanins))) (b .count);
-    keys = ap (λ n. take n (o .keys)) (b .count);
+    keys = λ c. ap (λ n. take n (o .keys)) (b .count);
     neat = λ i l. absurd (omega (arith, b .count));
     widths = λ i l. absurd (omega (arith, b .count));
   };
@@ -200,7 +185,7 @@ module _ (fs : List Edge) (x : SheetGate) (held : List Held) {i : ℕ} {o : Oper
   next-count-room = omega (arith, g .count)
 
   gathering-next : (h : Held) →
-      ((done : List MappedOnList) → HeldAll done held → Every (λ j. (1 ≤ j) × (j ≤ length done)) (faninGates (drawnGate fs x .fanins)) → Reading done (edge .source) h) →
+      ((done : List MappedOnList) → HeldAll HeldIs done held → Every (λ j. (1 ≤ j) × (j ≤ length done)) (faninGates (drawnGate fs x .fanins)) → Reading done held (edge .source) h) →
       Gathering (drawnGate fs x .fanins) held (i + 1) (withFanin o (edge .inverted) h)
   gathering-next h r = record {
     count = omega (arith, g .count);
@@ -213,7 +198,7 @@ module _ (fs : List Edge) (x : SheetGate) (held : List Held) {i : ℕ} {o : Oper
   }
 
   pub gather-net : {n : ℕ} → edge .source ≡ Net n → Gathering (drawnGate fs x .fanins) held (i + 1) (withFanin o (edge .inverted) (leafOf n))
-  gather-net {n} e = gathering-next (leafOf n) (λ done a m. rw e (read-net done n))
+  gather-net {n} e = gathering-next (leafOf n) (λ done a m. rw e (read-net done held n))
 
   pub gather-gate : {j : ℕ} → edge .source ≡ Gate j → Gathering (drawnGate fs x .fanins) held (i + 1) (withFanin o (edge .inverted) (getD held (j - 1) noHeld))
   gather-gate {j} e =

@@ -8,16 +8,20 @@ use lib.Seq.{getD-append-add}
 use Rattle.lists.specs.Trusted.Lists.{_∈_, Every, Distinct, gather, from, sum}
 use Rattle.lists.specs.Sequences.{Paired, no-pair, pair}
 use Rattle.lists.specs.ListLaws.{every-none, every-cons, every-head, every-tail, not-first, inserted-to, inserted-from, permuted-length}
-use Rattle.lists.specs.NumberLaws.{sum-inserted, sum-le}
+use Rattle.lists.specs.NumberLaws.{sum-inserted, sum-le, sorted-permuted}
 use Rattle.cover.specs.Nets.{tables-most*}
-use Rattle.cover.specs.Size.{records-length*}
+use Rattle.cover.specs.Size.{records-length*, codes-length*}
+use Rattle.cover.specs.Trusted.Placed.{codes*}
 use Rattle.plan.specs.Volume.{fewestLeaves}
 use Rattle.cover.specs.Trusted.Tables.{LookupTable, numbered}
 use Rattle.cover.specs.Eval.{numbered-length}
-use Rattle.tree.specs.Trusted.Tree.{Node}
+use Rattle.tree.specs.Trusted.Tree.{Node, Edges}
+use Rattle.cover.specs.Trusted.Cover.{Fanins}
+use Rattle.plan.specs.declared.Key.{Key}
+use Rattle.plan.specs.Plans.{Body}
 use Rattle.sheet.specs.Trusted.Sheet.{DrawnGate, gatesRead}
 use Rattle.sheet.specs.NumberLaws.{drawn-out, in-from}
-use Rattle.mapper_laws.specs.Mapping.{GatesMapped, unmapped, mappedAt, leafCount, Stood, innerOf, Progress}
+use Rattle.mapper_laws.specs.Mapping.{GatesMapped, unmapped, mappedAt, leafCount, Stood, heldTable, innerOf, Progress}
 
 gather-length : {A B : Type 0} (f : A → List B) (xs : List A) → length (gather f xs) ≡ sum (λ x. length (f x)) xs
 gather-length f [] = refl
@@ -58,11 +62,19 @@ module _ (done : List GatesMapped) (js : List ℕ) (once : Distinct js) (there :
       in-range : Every (λ j. g (mappedAt done j) ≤ f (mappedAt done j)) (from 1 (length done))
       in-range = every-in [] done done refl h
 
+-- a gate has two inputs or more
+pub body-wide : {K : ℕ} {es : Edges} {a : Key} {body : Fanins} → Body K es a body → 2 ≤ a .width
+body-wide {K} {body = body} b = omega (arith, tables-most* K body (b .fits), b .many, b .inputs)
+
 -- under a mapped gate stand as many leaves as its key asks for
 pub stood-leaves : {K : ℕ} {t : Node} {d : GatesMapped} → Stood K t d → fewestLeaves (d .key) ≤ leafCount d
 stood-leaves {K} {d = d} s = omega (arith, tables-most* K (d .body) (s .is .fits) .0, s .is .count, s .is .inputs)
 
 module _ (base : ℕ) where
+  -- the table that holds a gate has as many inputs as its key says
+  pub held-width : {K : ℕ} {es : Edges} (d : GatesMapped) → Body K es (d .key) (d .body) → length (heldTable base d .inputs) ≡ d .key .width
+  held-width d b = sym (permuted-length (sorted-permuted (codes* base (d .body)))) ∙ codes-length* base (d .body) ∙ b .inputs
+
   abbrev pub innerCount : GatesMapped → ℕ
   innerCount d = length (innerOf base d)
 

@@ -1,6 +1,6 @@
 -- The mapping of a sheet, gate by gate: what is known of each gate that was mapped, and of the tables staged so far.
 -- Internal definitions: the laws are in MappingLaws.
-use Prim.Native.Nat.{ℕ, _+_, _-_, _≤_, _<_}
+use Prim.Native.Nat.{ℕ, suc, _+_, _-_, _≤_, _<_}
 use mathlib.Core.Path.{_≡_}
 use mathlib.Core.Bool.{Bool, false}
 use mathlib.Core.List.{List, [], _∷_, _++_, map}
@@ -13,12 +13,12 @@ use Rattle.tree.specs.Trusted.Tree.{Node, gate, Edges}
 use Rattle.plan.specs.declared.Key.{Key}
 use Rattle.plan.specs.declared.Token.{Token}
 use Rattle.plan.specs.Key.{leaf-key}
-use Rattle.cover.specs.Trusted.Cover.{Cover, net, top, Fanins, end}
+use Rattle.cover.specs.Trusted.Cover.{Cover, net, top, Fanins, end, tables}
 use Rattle.cover.specs.Nets.{nets*}
-use Rattle.plan.specs.Reach.{Best}
 use Rattle.cover.specs.Trusted.Tables.{LookupTable, Placed, numbered}
 use Rattle.cover.specs.Trusted.Placed.{gateTable, records*}
-use Rattle.plan.specs.Plans.{Body}
+use Rattle.cover.specs.Trusted.CoverTables.{Circuit, CoverTables}
+use Rattle.plan.specs.Plans.{made, Runs, Body}
 use Rattle.sheet.specs.declared.Source.{Source}
 use Rattle.sheet.specs.declared.Source.the-variants.{Net, Gate}
 use Rattle.sheet.specs.declared.Edge.{Edge}
@@ -27,7 +27,7 @@ use Rattle.sheet.specs.Trusted.Trees.{treesOf}
 use Rattle.pending.specs.Operands.{Operand, single}
 use Rattle.mapper_laws.specs.Run.{runPlan}
 
--- a gate that was mapped: its fanins, split, with what is placed among them, and its best key
+-- a gate that was mapped: its fanins, split, with what is placed among them, and their key
 pub record GatesMapped : Type 0 where
   pub kind : Kind
   pub body : Fanins
@@ -48,12 +48,11 @@ leafCount d = length (nets* (d .body))
 abbrev pub coverOf : GatesMapped → Cover
 coverOf d = top 0 (d .kind) (d .body)
 
--- a mapped gate of the tree t: its body is that of a cover with the best key
+-- a mapped gate of the tree t: its body is that of a cover with its key
 pub record Stood (K : ℕ) (t : Node) (d : GatesMapped) : Type 0 where
   pub edges : Edges
   pub tree : t ≡ gate (d .kind) edges
   pub is : Body K edges (d .key) (d .body)
-  pub best : Best K t (d .key)
 
 -- ---- what a fanin reads: its key, its cover, and its operand
 
@@ -111,5 +110,13 @@ module _ (base : ℕ) where
     pub ends : runPlan base (n + length staged) (g .kind) (operandsOf done (g .fanins)) plan (record { stack = []; placed = [] })
         ≡ record { stack = record { inverted = false; table = gateTable base 0 false (g .kind) body } ∷ []; placed = new }
     pub progress : Progress n K (gs ++ (g ∷ [])) (done ++ (record { kind = g .kind; body = body; key = a } ∷ [])) (staged ++ new)
+    pub runs : Runs (coversOf done (g .fanins)) plan [] (made body ∷ [])
     pub is : (es : Edges) × Body K es a body
     pub few : Distinct (gatesRead (gs ++ (g ∷ []))) → length (staged ++ new) + 2 ≤ length (leafNets (gs ++ (g ∷ [])))
+
+-- the tables `new`, which follow the tables `old`, are those of the cover whose root is the mapped gate d
+pub record CoveredBy (base K : ℕ) (old new : List LookupTable) (s : Circuit) (d : GatesMapped) : Type 0 where
+  pub added : CoverTables base K old new s
+  pub number : ℕ
+  pub cover : added .cover ≡ top (suc number) (d .kind) (d .body)
+  pub count : tables (added .cover) ≡ length new

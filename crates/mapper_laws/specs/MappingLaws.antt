@@ -1,4 +1,4 @@
--- A sheet mapped gate by gate has the tables of a least cover.
+-- A sheet mapped gate by gate, each by some plan, has the tables of a cover.
 use Prim.Native.Nat.{ℕ, zero, suc, _+_, _-_, _≤_, _<_}
 use native.Mathlib.Omega.{arith}
 use mathlib.Core.Path.{_≡_, refl, sym, ap, ap₂, _∙_, subst}
@@ -16,16 +16,14 @@ use Rattle.tree.specs.Trusted.Tree.{Node, leaf, gate}
 use Rattle.tree.specs.Measures.{leaves, leaves*}
 use Rattle.plan.specs.declared.Key.{Key}
 use Rattle.plan.specs.declared.Token.{Token}
-use Rattle.cover.specs.Trusted.Cover.{Cover, net, top, tables, split}
+use Rattle.plan.specs.Key.{leaf-key}
+use Rattle.cover.specs.Trusted.Cover.{net, top, split}
 use Rattle.cover.specs.Nets.{split-nets}
 use Rattle.cover.specs.Trusted.Tables.{LookupTable, Placed, numbered}
 use Rattle.cover.specs.Eval.{numbered-append, numbered-length}
 use Rattle.cover.specs.Size.{records-length*}
-use Rattle.plan.specs.Least.{body-least}
 use Rattle.plan.specs.Volume.{fewestLeaves}
 use Rattle.cover.specs.Trusted.Placed.{gateTable}
-use Rattle.plan.specs.Reach.{LeastReach, Best, at-leaf, Bests, at-end, at-edge}
-use Rattle.plan.specs.ReachLaws.{best-gate}
 use Rattle.plan.specs.Plans.{Planned, drawn, Standing, Ready, ready-none, ready-edge}
 use Rattle.plan.specs.PlanLaws.{net-standing, body-standing, body-cover}
 use Rattle.plan.specs.Placings.{inner}
@@ -37,22 +35,21 @@ use Rattle.sheet.specs.Trusted.Trees.{nodeOf, edgesOf, treesOf, treeOf}
 use Rattle.sheet.specs.Drawn.{drawn as drawnSheet}
 use Rattle.sheet.specs.Trusted.Formed.{WellFormed}
 use Rattle.sheet.specs.TreeLaws.{without, from-end}
-use Rattle.cover.specs.Trusted.CoverTables.{LeastCoverTables}
 use Rattle.pending.specs.Operands.{single}
-use Rattle.mapper_laws.specs.Mapping.{GatesMapped, unmapped, mappedAt, leafCount, Stood, keyOf, sourceCover, keysOf, coversOf, Low, heldTable, innerOf, sourceTable, operandsOf, Progress, NextGate}
-use Rattle.mapper_laws.specs.CountLaws.{mapped-sums, stood-leaves, innerCount, stood-count, stood-counts, staged-count}
+use Rattle.mapper_laws.specs.Mapping.{GatesMapped, unmapped, mappedAt, leafCount, Stood, keyOf, sourceCover, keysOf, coversOf, Low, heldTable, innerOf, sourceTable, operandsOf, Progress, NextGate, CoveredBy}
+use Rattle.mapper_laws.specs.CountLaws.{mapped-sums, stood-leaves, held-width, innerCount, stood-count, stood-counts, staged-count}
 use Rattle.mapper_laws.specs.RunLaws.{single-is, Shows, Gated, gated}
 
-paired-at : {A B : Type 0} {R : A → B → Type 0} {xs : List A} {ys : List B} (a : A) (b : B) → Paired R xs ys → (i : ℕ) → i < length ys → R (getD xs i a) (getD ys i b)
+pub paired-at : {A B : Type 0} {R : A → B → Type 0} {xs : List A} {ys : List B} (a : A) (b : B) → Paired R xs ys → (i : ℕ) → i < length ys → R (getD xs i a) (getD ys i b)
 paired-at a b no-pair i l = absurd (omega arith)
 paired-at a b (pair r p) zero l = r
 paired-at a b (pair r p) (suc i) l = paired-at a b p i (omega arith)
 
-paired-length : {A B : Type 0} {R : A → B → Type 0} {xs : List A} {ys : List B} → Paired R xs ys → length xs ≡ length ys
+pub paired-length : {A B : Type 0} {R : A → B → Type 0} {xs : List A} {ys : List B} → Paired R xs ys → length xs ≡ length ys
 paired-length no-pair = refl
 paired-length (pair r p) = ap suc (paired-length p)
 
-trees-end : (ts : List Node) (gs : List DrawnGate) (g : DrawnGate) → treesOf ts (gs ++ (g ∷ [])) ≡ treesOf ts gs ++ (gate (g .kind) (edgesOf (treesOf ts gs) (g .fanins)) ∷ [])
+pub trees-end : (ts : List Node) (gs : List DrawnGate) (g : DrawnGate) → treesOf ts (gs ++ (g ∷ [])) ≡ treesOf ts gs ++ (gate (g .kind) (edgesOf (treesOf ts gs) (g .fanins)) ∷ [])
 trees-end ts [] g = refl
 trees-end ts (x ∷ gs) g = trees-end _ gs g
 
@@ -72,19 +69,10 @@ module _ (K : ℕ) (two : 2 ≤ K) {ts : List Node} {done : List GatesMapped} (s
       let s = stood-at g (every-head h .0) (every-head h .1) in
       rw (s .tree) (body-standing K (s .is) (mappedAt done g .kind))
 
-  source-best : (s : Source) → AreMapped done (gateOf s) → Best K (nodeOf ts s) (keyOf done s)
-  source-best (Net n) h = at-leaf
-  source-best (Gate g) h = stood-at g (every-head h .0) (every-head h .1) .best
-
   fanins-ready : (fs : List Edge) → AreMapped done (faninGates fs) → Ready K (edgesOf ts fs) (coversOf done fs) (keysOf done fs)
   fanins-ready [] h = ready-none
   fanins-ready (f ∷ fs) h =
       ready-edge (source-standing (f .source) (every-left (gateOf (f .source)) (faninGates fs) h)) (fanins-ready fs (every-right (gateOf (f .source)) (faninGates fs) h))
-
-  fanins-best : (fs : List Edge) → AreMapped done (faninGates fs) → Bests K (edgesOf ts fs) (keysOf done fs)
-  fanins-best [] h = at-end
-  fanins-best (f ∷ fs) h =
-      at-edge (source-best (f .source) (every-left (gateOf (f .source)) (faninGates fs) h)) (fanins-best fs (every-right (gateOf (f .source)) (faninGates fs) h))
 
   -- the leaves that some fanins bring
   source-leaves : (s : Source) → AreMapped done (gateOf s) → length (leaves (nodeOf ts s)) ≡ length (netOf s) + sum (λ j. leafCount (mappedAt done j)) (gateOf s)
@@ -156,6 +144,17 @@ module _ (base : ℕ) where
       fanins-low (f ∷ fs) h m (suc i) l =
           fanins-low fs (every-right (netOf (f .source)) (faninNets fs) h) (every-right (gateOf (f .source)) (faninGates fs) m) i (omega arith)
 
+  module _ (K : ℕ) (two : 2 ≤ K) {ts : List Node} {done : List GatesMapped} (stood : Paired (Stood K) ts done) where
+    source-width : (s : Source) → AreMapped done (gateOf s) → length (sourceTable base done s .inputs) ≡ keyOf done s .width
+    source-width (Net n) h = refl
+    source-width (Gate g) h = held-width base (mappedAt done g) (stood-at K two stood g (every-head h .0) (every-head h .1) .is)
+
+    pub fanins-width : (fs : List Edge) → AreMapped done (faninGates fs) → (i : ℕ) → i < length (keysOf done fs) →
+        length (getD (operandsOf base done fs) i (record { inverted = false; table = single 0 }) .table .inputs) ≡ (getD (keysOf done fs) i leaf-key) .width
+    fanins-width [] h i l = absurd (omega arith)
+    fanins-width (f ∷ fs) h zero l = source-width (f .source) (every-left (gateOf (f .source)) (faninGates fs) h)
+    fanins-width (f ∷ fs) h (suc i) l = fanins-width fs (every-right (gateOf (f .source)) (faninGates fs) h) i (omega arith)
+
   mapped-end : (done : List GatesMapped) (d : GatesMapped) (js : List ℕ) → AreMapped done js →
       gather (λ j. innerOf base (mappedAt (done ++ (d ∷ [])) j)) js ≡ gather (λ j. innerOf base (mappedAt done j)) js
   mapped-end done d js h =
@@ -203,7 +202,7 @@ module _ (base : ℕ) where
 
   module _ (n K : ℕ) (two : 2 ≤ K) {gs : List DrawnGate} {done : List GatesMapped} {staged : List LookupTable} (p : Progress base n K gs done staged)
       (g : DrawnGate) (many : 2 ≤ length (g .fanins)) (nets : Every (λ x. x ≤ base) (faninNets (g .fanins)))
-      (gates : AreMapped done (faninGates (g .fanins))) {plan : List Token} {a : Key} (least : LeastReach K (keysOf done (g .fanins)) a)
+      (gates : AreMapped done (faninGates (g .fanins))) {plan : List Token} {a : Key}
       (planned : Planned K (keysOf done (g .fanins)) (upto (length (keysOf done (g .fanins)))) plan a) where
     count : 2 ≤ length (keysOf done (g .fanins))
     count = omega (arith, many, length-map (g .fanins) (λ f. keyOf done (f .source)))
@@ -221,7 +220,6 @@ module _ (base : ℕ) where
       edges = edgesOf (treesOf [] gs) (g .fanins);
       tree = refl;
       is = next .is;
-      best = best-gate (fanins-best K two (p .stood) (g .fanins) gates) count least;
     }
 
     done-length : length (done ++ (mapped ∷ [])) ≡ suc (length done)
@@ -286,7 +284,7 @@ module _ (base : ℕ) where
         )
 
     pub mapping-next : NextGate base n K gs done staged g plan a
-    mapping-next = record { body = next .body; new = next .new; ends = next .ends; progress = next-progress; is = (edgesOf (treesOf [] gs) (g .fanins), next .is); few = next-few }
+    mapping-next = record { body = next .body; new = next .new; ends = next .ends; progress = next-progress; runs = next .runs; is = (edgesOf (treesOf [] gs) (g .fanins), next .is); few = next-few }
 
   -- ---- the root
 
@@ -314,7 +312,7 @@ module _ (base : ℕ) where
     abbrev rootTable : LookupTable
     rootTable = gateTable base (s .out) (s .inverted) (root .kind) (root .body)
 
-    root-stood : Stood K (treeOf s) root
+    pub root-stood : Stood K (treeOf s) root
     root-stood = stood-at K two (p .stood) (length (s .gates)) (formed .gate-count .0) (omega (arith, done-count p))
 
     -- the tables within the root's fanins are the staged ones: each other gate was read, and took its tables along
@@ -338,22 +336,28 @@ module _ (base : ℕ) where
             (permuted-trans (permuted-append (permuted-refl (numbered n staged))
             (rw append-nil (permuted-sym (gather-permuted (λ j. innerOf base (mappedAt done j)) (formed .read-once))))) (p .taken))
 
-    -- A SHEET MAPPED gate by gate, with its root's table last, has the tables of a least cover
-    pub mapping-added : (old : List LookupTable) → length old ≡ n → LeastCoverTables base K old (staged ++ (rootTable ∷ [])) (drawnSheet s)
+    -- A SHEET MAPPED gate by gate, with its root's table last, has the tables of a cover
+    pub mapping-added : (old : List LookupTable) → length old ≡ n → CoveredBy base K old (staged ++ (rootTable ∷ [])) (drawnSheet s) root
     mapping-added old e = record {
       added = record {
-        cover = cover;
+        cover = top (suc (n + length staged)) (root .kind) (root .body);
         covers = rw (root-stood .tree) (body-cover K (root-stood .is) (root .kind) (n + length staged));
         taken = rw (e, numbers) (permuted-append root-taken (permuted-refl _));
         earlier = rw (e, numbers) (every-append (numbered n staged) _ (p .earlier) (every-cons root-low (every-none _)));
         last = omega (arith, e, length-append staged (rootTable ∷ []));
       };
-      fewest = rw (root-stood .tree, ← count) (body-least K two best (root-stood .is) (n + length staged));
+      number = n + length staged;
+      cover = refl;
+      count =
+          omega (
+            arith,
+            length-append staged (rootTable ∷ []),
+            permuted-length root-taken,
+            numbered-length n staged,
+            records-length* base (root .body) (root .kind),
+          );
     }
       where
-        cover : Cover
-        cover = top (suc (n + length staged)) (root .kind) (root .body)
-
         numbers : numbered n (staged ++ (rootTable ∷ [])) ≡ numbered n staged ++ ((suc (n + length staged), rootTable) ∷ [])
         numbers = numbered-append n (n + length staged) staged (rootTable ∷ []) refl
 
@@ -362,16 +366,3 @@ module _ (base : ℕ) where
             let h = every-at {P = λ d. Low base (n + length staged) (heldTable base d)} done (length (s .gates) - 1) unmapped (p .low)
             (omega (arith, done-count p, formed .gate-count .0)) c m in
             omega arith
-
-        best : Best K (gate (root .kind) (root-stood .edges)) (root .key)
-        best = rw (root-stood .tree) at (root-stood .best)
-
-        count : tables cover ≡ length (staged ++ (rootTable ∷ []))
-        count =
-            omega (
-              arith,
-              length-append staged (rootTable ∷ []),
-              permuted-length root-taken,
-              numbered-length n staged,
-              records-length* base (root .body) (root .kind),
-            )

@@ -40,7 +40,7 @@ use Rattle.pending.specs.Luts.{lutOf}
 use Rattle.mapper_laws.specs.CodeRun.{operandAt, heldIf, pushed, leftPlaced, joined, Joins, Holds, Following, Runnable, Ran}
 use Rattle.mapper_laws.specs.CodeRunLaws.{push-advanced, join-fits, join-advanced, following-start, following-advances, following-next, following-end}
 use Rattle.mapper_laws.specs.CodeMap.{withFanin, keysIn, Mappable, GateMapped, noHeld, Reaches, Gathering, Gathers, Staged}
-use Rattle.mapper_laws.specs.CodeMapLaws.{gate-runnable, gate-mapped, gathering-start, gather-net, gather-gate, gate-reached}
+use Rattle.mapper_laws.specs.CodeMapLaws.{gate-runnable, gathering-start, gather-net, gather-gate, gate-reached}
 use Rattle.sheet.specs.PlaceLaws.{noEdge}
 use Rattle.gate_fanins.specs.Fanins.{placeIn}
 use Rattle.mapper_laws.specs.CodePair.{readAs, pendingOf, keyIn, noOperands, pairOf, countIf, twoTables, noRun, pairTaken, jointOf, pairMapped, stagedOf}
@@ -181,7 +181,7 @@ module _ {K first : ℕ} (i : Bool) (x : Held) (j : Bool) (y : Held) (m : Mappab
   pairGate = record { held = pairMapped K first k i x j y .held; run = joined first k l r (pairTaken i x j y) }
 
   pub pair-mapped : GateMapped K first k o pairGate
-  pair-mapped = gate-mapped m k answer ran (joint-table l r)
+  pair-mapped = record { plan = plan; answer = answer; run = record { ran = ran; below = refl; table = joint-table l r } }
 
   pub pair-placed : pairMapped K first k i x j y .placed ≡ pairGate .run .placed
   pair-placed = joint-placed l r

@@ -344,6 +344,7 @@ module _ (base : ℕ) (k : Kind) where
         pub body : Fanins
         pub new : List LookupTable
         pub ends : runPlan base n k fanins p (record { stack = []; placed = [] }) ≡ record { stack = record { inverted = false; table = gateTable base 0 false k body } ∷ []; placed = new }
+        pub runs : Runs ds p [] (made body ∷ [])
         pub is : Body K es a body
         pub taken : Permuted (gather (λ q. inner base (q .1)) ds ++ numbered n new) (records* base body k)
         pub low : Low base (n + length new) (gateTable base 0 false k body)
@@ -369,6 +370,7 @@ module _ (base : ℕ) (k : Kind) where
           body = body;
           new = y .new;
           ends = y .ends ∙ ap (λ x. record { stack = x ∷ []; placed = y .new }) body-top;
+          runs = subst (λ g. Runs ds p [] (g ∷ [])) f (y .runs);
           is = b;
           taken = body-taken pl;
           low = subst (λ x. Low base (n + length (y .new)) (x .table)) body-top (y .low);

@@ -11,7 +11,7 @@ use Rattle.sheet.specs.declared.Edge.{Edge}
 use Rattle.sheet.specs.Trusted.Limits.{mostGates, faninRoom}
 use Rattle.sheet.specs.declared.Gate.{Gate}
 use Rattle.sheet.specs.Trusted.Answers.{drawnGate, drawnSheet}
-use Rattle.mapper_laws.specs.CodeMap.{noHeld, Reaches, Gathers, Mappable, GateMapped, mostTables, Staging, Staged, Going}
+use Rattle.mapper_laws.specs.CodeMap.{noHeld, Reaches, Gathers, Mappable, GateMapped, mostTables, Staging, Staged, BestGoing}
 use Rattle.mapper_laws.specs.declared.Operands.{Operands}
 use Rattle.mapper_laws.specs.declared.Held.{Held}
 use Rattle.mapper_laws.specs.declared.MappedGate.{MappedGate}
@@ -20,7 +20,8 @@ use Rattle.mapper_laws.specs.CodePair.{readAs, pairOf, stagedOf}
 use Rattle.mapper_laws.specs.CodeMapLaws.{staging-start, staging-next, staging-end}
 use Rattle.mapper_laws.specs.PairLaws.{edgeAt, readAt, pairGate, pair-mapped, pair-staged, pair-placed, pair-few, pair-room, pair-gathers, low-reached, high-reached}
 use Rattle.sheet.specs.PlaceLaws.{noSheetGate}
-use Rattle.mapper_laws.specs.SheetLaws.{going-start, some-gates, step-reaches, step-mappable, step-room, step-next, end-room, end-mapped}
+use Rattle.mapper_laws.specs.SheetLaws.{some-gates, step-reaches, end-room}
+use Rattle.mapper_laws.specs.BestLaws.{best-start, best-mappable, best-room, best-next, best-end}
 use Rattle.mapper.proofs.map.Statement.{statement}
 use Rattle.mapper.proofs.map.Tie as tie
 
@@ -31,7 +32,7 @@ abbrev μ-loop2 : tie.MeasureT-loop2
 μ-loop2 k used sheet gates held m₀ g first place low-at high-at pair placed staged start i₀ m i = placed - i
 
 abbrev Inv-loop : tie.InvT-loop
-Inv-loop k used sheet gates held₀ m₀ g₀ held m g = Going k used (drawnSheet sheet .gates) g held m
+Inv-loop k used sheet gates held₀ m₀ g₀ held m g = BestGoing k used (drawnSheet sheet .gates) g held m
 
 abbrev μ-loop : tie.MeasureT-loop
 μ-loop k used sheet gates held₀ m₀ g₀ held m g = gates - g
@@ -49,11 +50,11 @@ cast-gates c = search needs
 leaf-requires : tie.Need-leaf-requires Inv-loop2 μ-loop2 Inv-loop μ-loop
 leaf-requires c κs = search needs
 
-zero-lut-requires : tie.Need-zero-lut-requires Inv-loop2 μ-loop2 Inv-loop μ-loop
-zero-lut-requires c κs = search needs
+no-tables-requires : tie.Need-no-tables-requires Inv-loop2 μ-loop2 Inv-loop μ-loop
+no-tables-requires c κs = search needs
 
 loop-holds : tie.Need-loop-holds Inv-loop2 μ-loop2 Inv-loop μ-loop
-loop-holds c = going-start refl refl refl
+loop-holds c = best-start (c .no-tables .ensures .0) (c .no-tables .ensures .1) refl
 
 -- the sheet has as many fanins as there is room for: its type says so
 fanins-room : (s : tie.Start Inv-loop2 μ-loop2 Inv-loop μ-loop) → length (s .args .t1 .fanins) ≡ faninRoom
@@ -89,7 +90,7 @@ module _ (c : tie.Then1 Inv-loop2 μ-loop2 Inv-loop μ-loop) where
   places = omega (arith, two, fanins-room start, length-take (gate .count) (drop (gate .first) all-fanins), length-drop (gate .first) all-fanins)
 
   reaches : Reaches all-fanins gate
-  reaches = step-reaches (start .args .t1) (start .pre) (gates-room start) (gates-most start) (turn .loop .inv) one-left
+  reaches = step-reaches (start .args .t1) (start .pre) (gates-room start) (gates-most start) (turn .loop .inv .going) one-left
 
 -- its fanins, when what they read was looked up
 module _ (c : tie.After-read-from2 Inv-loop2 μ-loop2 Inv-loop μ-loop) where
@@ -129,7 +130,7 @@ module _ (c : tie.After-read-from2 Inv-loop2 μ-loop2 Inv-loop μ-loop) where
       (pair-gathers (all-fanins then) (gate then) held (two then))
 
   mappable : Mappable (s .args .k) (s .args .used + turn then .loop .m .count) operands
-  mappable = step-mappable (s .args .t1) (s .pre) (gates-room s) (gates-most s) (turn then .loop .inv) (one-left then) gathers
+  mappable = best-mappable (s .args .t1) (s .pre) (gates-room s) (gates-most s) (turn then .loop .inv) (one-left then) gathers
 
 -- and mapped
 module _ (c : tie.After-map-pair Inv-loop2 μ-loop2 Inv-loop μ-loop) where
@@ -167,16 +168,16 @@ module _ (c : tie.After-map-pair Inv-loop2 μ-loop2 Inv-loop μ-loop) where
   space =
       omega (
         arith,
-        step-room (s r .args .t1) (s r .pre) (gates-room (s r)) (gates-most (s r)) (here .loop .inv) (one-left (then r)) (gathers r) mapped-gate,
+        best-room (s r .args .t1) (s r .pre) (gates-room (s r)) (gates-most (s r)) (here .loop .inv) (one-left (then r)) (gathers r) mapped-gate,
         ap (λ p. p .placed) (c .map-pair .ensures),
         pair-placed (low-edge r .inverted) (low r) (high-edge r .inverted) (high r) (mappable r) kind,
       )
 
   next : {n : Mapping} → Staged m (stagedOf (c .map-pair .result)) n →
-      Going (s r .args .k) (s r .args .used) (drawnSheet (s r .args .t1) .gates) (g + 1) (set (held r) g (c .map-pair .result .held)) n
+      BestGoing (s r .args .k) (s r .args .used) (drawnSheet (s r .args .t1) .gates) (g + 1) (set (held r) g (c .map-pair .result .held)) n
   next {n} z =
-      subst (λ h. Going (s r .args .k) (s r .args .used) (drawnSheet (s r .args .t1) .gates) (g + 1) (set (held r) g h) n) (ap (λ p. p .held) (sym (c .map-pair .ensures)))
-      (step-next (s r .args .t1) (s r .pre) (gates-room (s r)) (gates-most (s r)) (here .loop .inv) (one-left (then r)) (gathers r) mapped-gate
+      subst (λ h. BestGoing (s r .args .k) (s r .args .used) (drawnSheet (s r .args .t1) .gates) (g + 1) (set (held r) g h) n) (ap (λ p. p .held) (sym (c .map-pair .ensures)))
+      (best-next (s r .args .t1) (s r .pre) (gates-room (s r)) (gates-most (s r)) (here .loop .inv) (one-left (then r)) (gathers r) mapped-gate
       (pair-staged (low-edge r .inverted) (low r) (high-edge r .inverted) (high r) (mappable r) kind
       (subst (λ p. Staged m (stagedOf p) n) (c .map-pair .ensures) z)))
 
@@ -250,10 +251,10 @@ cast-placed : tie.Need-cast-placed Inv-loop2 μ-loop2 Inv-loop μ-loop
 cast-placed c = search needs
 
 cast-start : tie.Need-cast-start Inv-loop2 μ-loop2 Inv-loop μ-loop
-cast-start c = record { fits = omega (arith, here (c .before) .loop .inv .few) }
+cast-start c = record { fits = omega (arith, here (c .before) .loop .inv .going .few) }
 
 loop2-holds : tie.Need-loop2-holds Inv-loop2 μ-loop2 Inv-loop μ-loop
-loop2-holds c = staging-start (m (c .before)) (stagedOf (c .before .map-pair .result)) (here (c .before) .loop .inv .table-room)
+loop2-holds c = staging-start (m (c .before)) (stagedOf (c .before .map-pair .result)) (here (c .before) .loop .inv .going .table-room)
 
 mul-t : tie.Need-mul-t Inv-loop2 μ-loop2 Inv-loop μ-loop
 mul-t c = omega (arith, c .loop2-test .taken, few (c .before .before .before))
@@ -298,7 +299,7 @@ gather-requires : tie.Need-gather-requires Inv-loop2 μ-loop2 Inv-loop μ-loop
 gather-requires c κs =
     let e = c .before .before .before .before .before in
     let s = e .before .before .before in
-    step-reaches (s .args .t1) (s .pre) (gates-room s) (gates-most s) (e .loop .inv) (c .before .before .before .before .loop-test .taken)
+    step-reaches (s .args .t1) (s .pre) (gates-room s) (gates-most s) (e .loop .inv .going) (c .before .before .before .before .loop-test .taken)
 
 module _ (c : tie.After-gather Inv-loop2 μ-loop2 Inv-loop μ-loop) where
   abbrev turn-more : tie.At-loop Inv-loop2 μ-loop2 Inv-loop μ-loop
@@ -316,7 +317,7 @@ module _ (c : tie.After-gather Inv-loop2 μ-loop2 Inv-loop μ-loop) where
 map-gate-requires : tie.Need-map-gate-requires Inv-loop2 μ-loop2 Inv-loop μ-loop
 map-gate-requires c κs =
     let s = s-more c in
-    step-mappable (s .args .t1) (s .pre) (gates-room s) (gates-most s) (turn-more c .loop .inv) (left-more c) (c .gather .ensures)
+    best-mappable (s .args .t1) (s .pre) (gates-room s) (gates-most s) (turn-more c .loop .inv) (left-more c) (c .gather .ensures)
 
 mul-held-2 : tie.Need-mul-held-2 Inv-loop2 μ-loop2 Inv-loop μ-loop
 mul-held-2 c = omega (arith, inside-more (c .before .before))
@@ -328,7 +329,7 @@ stage-requires : tie.Need-stage-requires Inv-loop2 μ-loop2 Inv-loop μ-loop
 stage-requires c κs =
     let q = c .before .before .before in
     let s = s-more q in
-    step-room (s .args .t1) (s .pre) (gates-room s) (gates-most s) (turn-more q .loop .inv) (left-more q) (q .gather .ensures) (c .before .before .map-gate .ensures)
+    best-room (s .args .t1) (s .pre) (gates-room s) (gates-most s) (turn-more q .loop .inv) (left-more q) (q .gather .ensures) (c .before .before .map-gate .ensures)
 
 add-g-2 : tie.Need-add-g-2 Inv-loop2 μ-loop2 Inv-loop μ-loop
 add-g-2 c = record { fits = omega (arith, inside-more (c .before .before .before .before)) }
@@ -340,7 +341,7 @@ loop-again-2 : tie.Need-loop-again-2 Inv-loop2 μ-loop2 Inv-loop μ-loop
 loop-again-2 c =
     let q = c .before .before .before .before in
     let s = s-more q in
-    step-next (s .args .t1) (s .pre) (gates-room s) (gates-most s) (turn-more q .loop .inv) (left-more q) (q .gather .ensures) (c .before .before .before .map-gate .ensures) (c .stage .ensures)
+    best-next (s .args .t1) (s .pre) (gates-room s) (gates-most s) (turn-more q .loop .inv) (left-more q) (q .gather .ensures) (c .before .before .before .map-gate .ensures) (c .stage .ensures)
 
 sub-at : tie.Need-sub-at Inv-loop2 μ-loop2 Inv-loop μ-loop
 sub-at c =
@@ -355,35 +356,15 @@ array-copy-out-root c =
     let s = c .before .before .before .before in
     omega (arith, gates-most s, some-gates (s .args .t1) (s .pre) (gates-room s) (gates-most s))
 
--- the root's table fits, and has its place
-last-room : (c : tie.After-root-table Inv-loop2 μ-loop2 Inv-loop μ-loop) → c .before .before .before .before .loop .m .count < mostTables
-last-room c =
-    let s = c .before .before .before .before .before .before .before in
-    end-room (s .args .t1) (s .pre) (gates-room s) (gates-most s) (c .before .before .before .before .loop .inv) (c .before .before .before .loop-test .left) .0
-
-root-table-requires : tie.Need-root-table-requires Inv-loop2 μ-loop2 Inv-loop μ-loop
-root-table-requires c κs =
+with-root-requires : tie.Need-with-root-requires Inv-loop2 μ-loop2 Inv-loop μ-loop
+with-root-requires c κs =
     let s = c .before .before .before .before .before .before in
-    end-room (s .args .t1) (s .pre) (gates-room s) (gates-most s) (c .before .before .before .loop .inv) (c .before .before .loop-test .left) .1
-
-cast-end : tie.Need-cast-end Inv-loop2 μ-loop2 Inv-loop μ-loop
-cast-end c = record { fits = omega (arith, last-room c) }
-
-mul-last : tie.Need-mul-last Inv-loop2 μ-loop2 Inv-loop μ-loop
-mul-last c = omega (arith, last-room c)
-
-element-set-from-last : tie.Need-element-set-from-last Inv-loop2 μ-loop2 Inv-loop μ-loop
-element-set-from-last c = last-room c
-
-add-m-2 : tie.Need-add-m-2 Inv-loop2 μ-loop2 Inv-loop μ-loop
-add-m-2 c = record { fits = omega (arith, last-room c) }
+    end-room (s .args .t1) (s .pre) (gates-room s) (gates-most s) (c .before .before .before .loop .inv .going) (c .before .before .loop-test .left)
 
 returns : tie.Need-returns Inv-loop2 μ-loop2 Inv-loop μ-loop
 returns c =
     let s = c .before .before .before .before .before .before .before in
-    let m = c .before .before .before .before .loop .m in
-    end-mapped (s .args .t1) (s .pre) (gates-room s) (gates-most s) (c .before .before .before .before .loop .inv) (c .before .before .before .loop-test .left)
-    (ap (λ t. record { count = m .count + 1; tables = set (m .tables) (m .count) t }) (c .root-table .ensures))
+    best-end (s .args .t1) (s .pre) (gates-room s) (gates-most s) (c .before .before .before .before .loop .inv) (c .before .before .before .loop-test .left) (c .with-root .ensures)
 
 pub map-spec : {M : Type 1} → statement M
 map-spec =
@@ -395,7 +376,7 @@ map-spec =
     μ-loop
     cast-gates
     leaf-requires
-    zero-lut-requires
+    no-tables-requires
     loop-holds
     mul-gate
     element-copy-out-gate
@@ -445,9 +426,5 @@ map-spec =
     sub-at
     mul-root
     array-copy-out-root
-    root-table-requires
-    cast-end
-    mul-last
-    element-set-from-last
-    add-m-2
+    with-root-requires
     returns)

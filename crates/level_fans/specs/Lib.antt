@@ -1,0 +1,2 @@
+pub mod FanSteps
+pub mod FanLaws
