@@ -83,7 +83,7 @@ pub fn gather(gate: Gate, fanins: [Edge; FANIN_ROOM], held: [Held; 255]) -> Oper
     o
 }
 
-// Maps a gate with those fanins by a plan, where so many tables stand before those that it places.
+// Maps a gate with those fanins by a plan, where so many tables stand before those that it places. The count of tables below is that of the plan's key.
 pub fn run_gate(first: u16, kind: Kind, operands: Operands, plan: Plan) -> MappedGate
     requires { ⌜ Runnable first kind operands plan ⌝ }
     ensures { λ r. ⌜ GateRun first kind operands plan r ⌝ }

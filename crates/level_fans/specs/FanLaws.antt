@@ -61,7 +61,8 @@ module _ (fs : List Edge) (x : SheetGate) {i : ℕ} (l : i < length (drawnGate f
           let n : h ≢ i = λ e. omega arith in
           rw (getD-set-other (f .levels) i h a 0 n, getD-set-other (f .lines) i h c 0 n, getD-set-other (f .gates) i h j 0 n)
           (rw (getD-take i of h noEdge m) at (g .each h (omega (arith, length-take i of)))))
-          (rw (drawn-source, getD-set-same (f .levels) i a 0 (omega (arith, g .rooms)), getD-set-same (f .lines) i c 0 (omega (arith, g .rooms)), getD-set-same (f .gates) i j 0 (omega (arith, g .rooms))) o)
+          (let (p, q, r) = g .rooms in
+          rw (drawn-source, getD-set-same (f .levels) i a 0 (omega arith), getD-set-same (f .lines) i c 0 (omega arith), getD-set-same (f .gates) i j 0 (omega arith)) o)
           h b);
     }
 

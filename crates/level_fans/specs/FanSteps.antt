@@ -18,7 +18,7 @@ withFan f l c g = record {
 abbrev pub firstFans : ℕ → Fans → Fans
 firstFans n f = record { count = n; levels = f .levels; lines = f .lines; gates = f .gates }
 
--- what a draft can ask: the gates that the fanins read have their places, and no two fanins read one gate
+-- a draft can be asked: each gate that a fanin reads has its place, and no two fanins read one gate
 pub record CanAsk (f : Fans) (d : Draft) : Type 0 where
   pub few : f .count ≤ 10
   pub rooms : (length (f .lines) ≡ 10) × (length (f .gates) ≡ 10)

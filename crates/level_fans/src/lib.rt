@@ -31,6 +31,11 @@ fn with_fan(f: Fans, level: u16, lines: u16, gate: u16) -> Fans
     r
 }
 
+// Does nothing. What it ensures is what the type of an array says, which is not known of an array behind a reference.
+fn all_gates(bounds: [u16; MOST_GATES], inputs: [u8; MOST_GATES])
+    ensures { λ r. ⌜ (length bounds ≡ 255) × (length inputs ≡ 255) ⌝ }
+{}
+
 // The fanins of a gate, among its sheet's, where the nets have these levels, and the gates before it start at these levels and have so many lines.
 pub fn gather_fans<'a>(
     gate: Gate,
@@ -87,11 +92,6 @@ pub fn greatest_level(f: Fans) -> u16
     }
     a
 }
-
-// Each gate has its place in the arrays: their types say so.
-fn all_gates(bounds: [u16; MOST_GATES], inputs: [u8; MOST_GATES])
-    ensures { λ r. ⌜ (length bounds ≡ 255) × (length inputs ≡ 255) ⌝ }
-{}
 
 // Writes down what a draft asks of the gates that the fanins read.
 pub fn ask(f: Fans, draft: Draft, bounds: &mut [u16; MOST_GATES], inputs: &mut [u8; MOST_GATES])

@@ -1,16 +1,14 @@
-// Mapping a sheet to the fewest levels, and among those to the fewest tables: the lines of every gate, from the first gate on; then a plan for each, from the
-// last gate on; and the run of the plans.
+// Mapping a sheet to the fewest levels, and among those to the fewest tables: the lines of every gate, then a plan for each, from the last gate on, and the run of the
+// plans.
 ghost use Rattle.mapper_laws.specs.CodeMap.{Sheetable};
 ghost use Rattle.sheet.specs.Trusted.Answers.{drawnSheet};
 ghost use Rattle.level_sheets.specs.Lined.{levelIn};
-ghost use Rattle.level_mapping.specs.FastMapping.{NetsLow, LinesFound, LinesHad, FirstLine, FirstLineHad, PlansChosen, FastMapped};
+ghost use Rattle.level_mapping.specs.FastMapping.{NetsLow, LinesFound, PlansChosen, FastMapped};
 use level_arrays::ARRAYS_ROOM;
 use level_arrays::NONE;
 use level_arrays::STORE_ROOM;
 use level_fans::ask;
 use level_fans::gather_fans;
-use level_fans::greatest_level;
-use level_lines::gate_lines;
 use level_plans::gate_plan;
 use mapper_laws::Mapping;
 use plan::Key;
@@ -19,50 +17,8 @@ use plan_runner::map_by_plans;
 use search::blank;
 use sheet::MOST_GATES;
 use sheet::Sheet;
-
-// Finds the lines of each gate, from its fanins'.
-fn find_lines(
-    sheet: Sheet,
-    k: u8,
-    levels: &[u16],
-    starts: &mut [u16; MOST_GATES],
-    counts: &mut [u16; MOST_GATES],
-    store: &mut [u8; STORE_ROOM],
-)
-    requires { ⌜ NetsLow k sheet (now levels) ⌝ }
-    ensures { λ r. ⌜ LinesFound k sheet (now (levels .entry)) (now (starts .exit)) (now (counts .exit)) (now (store .exit)) ⌝ }
-{
-    let gates = sheet.count as usize;
-    let mut g: usize = 0;
-    while g < gates {
-        let gate = sheet.gates[g];
-        let fanins = sheet.fanins;
-        let f = gather_fans(gate, fanins, levels, starts, counts);
-        let a = greatest_level(f);
-        let c = gate_lines(k, f, a, g, store);
-        starts[g] = a;
-        counts[g] = c;
-        g += 1;
-    }
-}
-
-// The first line of gate g, of so many, that has an entry for k inputs.
-fn first_line(k: u8, g: usize, count: u16, store: &[u8; STORE_ROOM]) -> u16
-    requires { ⌜ FirstLineHad k g count (now store) ⌝ }
-    ensures { λ r. ⌜ FirstLine k g count (now (store .entry)) r ⌝ }
-{
-    let width = k as usize;
-    let last = count - 1;
-    let mut j: u16 = 0;
-    while j < last {
-        let place = (g * 256 + j as usize) * 6 + (width - 1);
-        if store[place] < NONE {
-            return j;
-        }
-        j += 1;
-    }
-    j
-}
+use sheet_lines::find_lines;
+use sheet_lines::first_line;
 
 // Reads back a plan for each gate, from the root on, of which the least level and then the fewest tables are asked.
 fn choose_plans<'a>(

@@ -1,12 +1,12 @@
 -- The code's mapping to the fewest levels: a gate's lines more, a plan more, and the end.
-use Prim.Native.Nat.{ℕ, suc, _+_, _-_, _^_, _≤_, _<_}
+use Prim.Native.Nat.{ℕ, zero, suc, _+_, _-_, _*_, _^_, _≤_, _<_}
 use native.Mathlib.Numerals.{add-one}
 use native.Mathlib.Omega.{arith}
 use mathlib.Core.Path.{_≡_, refl, sym, ap, subst, _∙_}
 use mathlib.Core.List.{List}
-use lib.ListN.{length, getD, set}
+use lib.ListN.{length, getD, set, length-set}
 use Rattle.lists.specs.Trusted.Lists.{_∈_, Every}
-use Rattle.lists.specs.ListLaws.{every-at}
+use Rattle.lists.specs.ListLaws.{getD-any}
 use Rattle.plan.specs.declared.Plan.{Plan}
 use Rattle.levels.specs.Trusted.Levels.{level, Fastest}
 use Rattle.levels.specs.Demands.{Demand, demand}
@@ -29,7 +29,7 @@ use Rattle.level_sheets.specs.AskingLaws.{is-asked, asking-falls, asking-kept, 
 use Rattle.level_sheets.specs.RootLaws.{root-some, root-fastest, root-demand, asking-start, asking-end}
 use Rattle.mapper_laws.specs.declared.Mapping.{Mapping}
 use Rattle.level_mapping.specs.PlanMapped.{MappedWithin}
-use Rattle.level_mapping.specs.FastMapping.{NetsLow, LinesFound, FirstLineHad, FirstLine, PlansChosen, FastMapped}
+use Rattle.level_mapping.specs.FastMapping.{NetsLow, LinesFound, LineRooms, FirstLineHad, FirstLine, PlansChosen, FastMapped}
 
 -- THE END: a cover within the least level and then the fewest tables has them
 pub fast-mapped : {K used : ℕ} {lev : ℕ → ℕ} {s : Sheet} {r : Mapping} (bound below : ℕ) → Fastest lev K (treeOf (drawnSheet s)) (suc below) (suc bound) →
@@ -82,11 +82,17 @@ module _ {K : ℕ} (c : Sheet) {levels : List ℕ} (low : NetsLow K c levels) (r
       pub fast-good : FansGood K g f
       fast-good = lined-good K lev (low .table) (drawnSheet c) (low .formed) (low .low) x g at-here (omega arith) f (fans-at q)
 
-      pub fast-more : {store′ : List ℕ} {a n : ℕ} → length starts ≡ mostGates → length counts ≡ mostGates → LinesKept K g f store store′ a n →
+      pub fast-more : {store′ : List ℕ} {a n : ℕ} → LineRooms starts counts store → LinesKept K g f store store′ a n →
           Lined K lev gates (g + 1) (set starts g a) (set counts g n) store′
-      fast-more p r y =
+      fast-more r y =
           rw (add-one g)
-          (lined-next K lev (low .table) (drawnSheet c) (low .formed) (low .low) x at-here f (fans-at q) (omega (arith, most)) (omega (arith, most)) y)
+          (lined-next K lev (low .table) (drawnSheet c) (low .formed) (low .low) x at-here f (fans-at q) (omega (arith, most, r .gates)) (omega (arith, most, r .gates)) y)
+
+      pub rooms-more : {store′ : List ℕ} {a n : ℕ} → LineRooms starts counts store → LinesKept K g f store store′ a n → LineRooms (set starts g a) (set counts g n) store′
+      rooms-more {a = a} {n = n} r y = record {
+        gates = (length-set starts g a ∙ r .gates .0, length-set counts g n ∙ r .gates .1);
+        lines = y .room ∙ r .lines;
+      }
 
     -- ITS PLAN, where those of the gates after it are there
     module _ (starts counts store : List ℕ) (x : LinesFound K c levels starts counts store) {f : Fans}
@@ -148,7 +154,7 @@ module _ {K : ℕ} (c : Sheet) {levels : List ℕ} (low : NetsLow K c levels) (r
       let e : g ≡ length gates = omega (arith, count-is, x .at) in
       rw (← e) x
 
-  module _ (starts counts store : List ℕ) (x : LinesFound K c levels starts counts store) where
+  module _ (starts counts store : List ℕ) (x : LinesFound K c levels starts counts store) (rooms : LineRooms starts counts store) where
     last-is : length gates - 1 ≡ c .count - 1
     last-is = ap (λ n. n - 1) count-is
 
@@ -161,15 +167,16 @@ module _ {K : ℕ} (c : Sheet) {levels : List ℕ} (low : NetsLow K c levels) (r
       gate = omega (arith, most, some-gate);
       lines = x .some (c .count - 1) (omega (arith, count-is, some-gate));
       last = subst (λ n. lineAt store n (getD counts n 0 - 1) K < big) last-is (root-some K lev (low .table) (drawnSheet c) (low .formed) x);
+      room = rooms .lines;
     }
 
     module _ (j : ℕ) (f : FirstLine K (c .count - 1) (getD counts (c .count - 1) 0) store j) where
       at-root : FirstLine K (length gates - 1) (getD counts (length gates - 1) 0) store j
       at-root = subst (λ n. FirstLine K n (getD counts n 0) store j) (sym last-is) f
 
-      pub plan-start : (bounds inputs : List ℕ) (plans : List Plan) → getD bounds (c .count - 1) 0 ≡ getD starts (c .count - 1) 0 + j → getD inputs (c .count - 1) 0 ≡ K →
+      pub choose-start : (bounds inputs : List ℕ) (plans : List Plan) → getD bounds (c .count - 1) 0 ≡ getD starts (c .count - 1) 0 + j → getD inputs (c .count - 1) 0 ≡ K →
           Asking K lev gates starts counts store (c .count) bounds inputs plans
-      plan-start bounds inputs plans b i =
+      choose-start bounds inputs plans b i =
           subst (λ n. Asking K lev gates starts counts store n bounds inputs plans) count-is
           (asking-start K lev (low .table) (drawnSheet c) (low .formed) x j (at-root .within) (at-root .some) (at-root .none) bounds inputs
           (subst (λ n. getD bounds n 0 ≡ getD starts n 0 + j) (sym last-is) b) (subst (λ n. getD inputs n 0 ≡ K) (sym last-is) i) plans)
@@ -191,3 +198,10 @@ module _ {K : ℕ} (c : Sheet) {levels : List ℕ} (low : NetsLow K c levels) (r
               ∙ demands-at starts counts store bounds inputs (length gates) (length gates - 1) (omega (arith, low .formed .gate-count .0))
               ∙ root-demand K lev (low .table) (drawnSheet c) (low .formed) x j (at-root .within) (at-root .some) (at-root .none) bounds inputs
               (subst (λ n. getD bounds n 0 ≡ getD starts n 0 + j) (sym last-is) b) (subst (λ n. getD inputs n 0 ≡ K) (sym last-is) i) plans
+
+-- ---- the first line
+
+-- an entry of a line, as it is read
+pub line-read : (store : List ℕ) (g j K : ℕ) → 1 ≤ K → K ≤ 6 → g < 255 → j < 256 → length store ≡ 391680 → getD store ((g * 256 + j) * 6 + (K - 1)) 0 ≡ lineAt store g j K
+line-read store g j zero a b l m e = absurd (omega arith)
+line-read store g j (suc w) a b l m e = getD-any store ((g * 256 + j) * 6 + (suc w - 1)) 0 big (omega arith)

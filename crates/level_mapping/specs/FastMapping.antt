@@ -11,6 +11,7 @@ use Rattle.plan.specs.declared.Plan.{Plan}
 use Rattle.levels.specs.Trusted.Levels.{level, Fastest}
 use Rattle.levels.specs.Demands.{Demand}
 use Rattle.sheet.specs.declared.Sheet.{Sheet}
+use Rattle.sheet.specs.Trusted.Limits.{mostGates}
 use Rattle.sheet.specs.Trusted.Sheet.{leafNets}
 use Rattle.sheet.specs.Trusted.Answers.{drawnSheet}
 use Rattle.sheet.specs.Trusted.Trees.{treeOf}
@@ -35,12 +36,18 @@ pub record NetsLow (K : ℕ) (s : Sheet) (levels : List ℕ) : Type 0 where
 abbrev pub LinesFound : (K : ℕ) → Sheet → (levels starts counts store : List ℕ) → Type 0
 LinesFound K s levels starts counts store = Lined K (levelIn levels) (drawnSheet s .gates) (length (drawnSheet s .gates)) starts counts store
 
+-- the arrays that hold them: their types say so
+pub record LineRooms (starts counts store : List ℕ) : Type 0 where
+  pub gates : (length starts ≡ mostGates) × (length counts ≡ mostGates)
+  pub lines : length store ≡ 391680
+
 -- some line of gate g has an entry for K inputs
 pub record FirstLineHad (K g count : ℕ) (store : List ℕ) : Type 0 where
   pub table : (2 ≤ K) × (K ≤ 6)
   pub gate : g < 255
   pub lines : (1 ≤ count) × (count ≤ 256)
   pub last : lineAt store g (count - 1) K < big
+  pub room : length store ≡ 391680
 
 -- and j is the first
 pub record FirstLine (K g count : ℕ) (store : List ℕ) (j : ℕ) : Type 0 where

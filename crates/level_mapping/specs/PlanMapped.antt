@@ -1,31 +1,21 @@
 -- What a mapping by plans that meet demands on levels promises, and what is known on the way. Internal definitions: the laws are in MeetLaws and PlanSheetLaws.
-use Prim.Native.Nat.{ℕ, suc, _-_, _≤_, _<_}
+use Prim.Native.Nat.{ℕ, suc, _≤_, _<_}
 use mathlib.Core.Path.{_≡_}
-use mathlib.Core.Bool.{Bool, true, false, _&&_}
-use mathlib.Core.List.{List, [], _∷_}
+use mathlib.Core.List.{List, []}
 use lib.ListN.{length, getD, take}
-use Rattle.lists.specs.Sequences.{Paired, upto}
 use Rattle.tree.specs.Trusted.Tree.{Node, leaf}
 use Rattle.tree.specs.Trusted.Limits.{codeBase}
 use Rattle.cover.specs.Trusted.Cover.{tables}
 use Rattle.cover.specs.Trusted.Tables.{LookupTable}
 use Rattle.cover.specs.Trusted.CoverTables.{CoverTables}
 use Rattle.plan.specs.declared.Plan.{Plan}
-use Rattle.plan.specs.declared.Token.{Token}
-use Rattle.plan.specs.declared.Token.the-variants.{Push as push, Join as join}
-use Rattle.plan.specs.Key.{key}
-use Rattle.plan.specs.Limits.{mostSteps}
-use Rattle.plan.specs.Steps.{tokens}
 use Rattle.levels.specs.Trusted.Levels.{level}
-use Rattle.levels.specs.Demands.{Demand, demand, DemandPlanned, LevelStanding}
-use Rattle.sheet.specs.declared.Source.{Source}
-use Rattle.sheet.specs.declared.Source.the-variants.{Net, Gate}
+use Rattle.levels.specs.Demands.{Demand, demand, LevelStanding}
 use Rattle.sheet.specs.declared.Sheet.{Sheet}
 use Rattle.sheet.specs.Trusted.Sheet.{DrawnGate}
 use Rattle.sheet.specs.Trusted.Trees.{treesOf}
 use Rattle.sheet.specs.Trusted.Answers.{drawnSheet}
 use Rattle.sheet.specs.Drawn.{drawn}
-use Rattle.sheet.specs.PlaceLaws.{noGate, noEdge}
 use Rattle.pending.specs.Pendings.{MergeKept}
 use Rattle.level_sheets.specs.PlansMeet.{noDemand, PlansMeet}
 use Rattle.mapper_laws.specs.declared.Held.{Held}

@@ -302,10 +302,9 @@ module _ (K : ℕ) (lev : ℕ → ℕ) (table : (2 ≤ K) × (K ≤ 6)) (s : Dra
           let d′ : suc j - 1 ≡ j = omega arith in
           let t = rw (d′, gate-tree s w j (omega arith)) at (fan-is h m (Gate (suc j)) (r .source)) in
           let v′ = same-demand h i m c n o u in
-          let high = p .demands h (at-mask h m) in
-          (
+          let high = p .demands h (at-mask h m) in (
             subst (λ q. Askable K lev (fanins (edgesOf trees (faninsAt (s .gates) j))) q) (v′ ∙ ap (demandAt starts counts store bounds′ inputs′) i-is)
-            (gate-askable {i = getD (faninsAt (s .gates) g) h noEdge .inverted} {k = getD (s .gates) j noGate .kind} t),
+                (gate-askable {i = getD (faninsAt (s .gates) g) h noEdge .inverted} {k = getD (s .gates) j noGate .kind} t),
             omega (arith, ap (λ q. q .bound) v′, ap (λ n. getD bounds′ n 0) i-is, high .1, y .low g l is-asked),
           ))
 

@@ -94,7 +94,7 @@ module _ {A : Type 0} (f : A → List ℕ) (z : A) where
   gather-in [] m = absurd (List·Memᴰ·not-nil m)
   gather-in (x ∷ xs) m =
       elim (List·Memᴰ·append-cases (f x) m) [
-        inl h ↦ (0, omega arith, h)
+        | inl h ↦ (0, omega arith, h)
         | inr h ↦ let r = gather-in xs h in (suc (r .0), omega (arith, r .1), r .2)
       ]
 
@@ -149,11 +149,10 @@ module _ (s : DrawnSheet) (w : WellFormed s) where
   reads-once {j} {h} {j′} {h′} {i} r q =
       let d = gates-distinct s w in
       let e : j ≡ j′ = gather-once (λ g. faninGates (g .fanins)) noGate (s .gates) j j′ (suc i) d (r .gate) (q .gate) (reads-in r) (reads-in q) in
-      let q′ : ReadsAt (s .gates) j h′ i = rw e q in
-      (
+      let q′ : ReadsAt (s .gates) j h′ i = rw e q in (
         e,
         gather-once (λ f. gateOf (f .source)) noEdge (faninsAt (s .gates) j) h h′ (suc i) (gather-each (λ g. faninGates (g .fanins)) noGate (s .gates) j d (r .gate)) (r .fanin)
-        (q′ .fanin) (source-in _ (suc i) (r .source)) (source-in _ (suc i) (q′ .source)),
+            (q′ .fanin) (source-in _ (suc i) (r .source)) (source-in _ (suc i) (q′ .source)),
       )
 
   -- and each but the last is read

@@ -95,7 +95,7 @@ pub record HeldIs (h : Held) (d : GatesMapped) : Type 0 where
 abbrev pub noHeld : Held
 noHeld = record { below = 0; table = noTable }
 
--- where it counts the tables below as the gate's key does
+-- and it counts the tables below as the gate's key does
 abbrev pub BelowIs : Held → GatesMapped → Type 0
 BelowIs h d = h .below ≡ d .key .below
 
@@ -188,10 +188,11 @@ pub record GateAdded (K used : ℕ) (gs : List DrawnGate) (g : ℕ) (done : List
   pub runs : Runs (coversOf done (x .fanins)) (tokens p) [] (made body ∷ [])
   pub going : Going K used gs (g + 1) (done ++ (record { kind = x .kind; body = body; key = a } ∷ [])) held m
 
--- each gate by a plan with the best key
+-- each gate has the best key of its tree
 abbrev pub BestKeys : ℕ → List DrawnGate → List GatesMapped → Type 0
 BestKeys K gs = Paired (λ t d. Best K t (d .key)) (treesOf [] gs)
 
+-- the first g gates were mapped, each by a plan with the best key
 pub record BestGoing (K used : ℕ) (gs : List DrawnGate) (g : ℕ) (held : List Held) (m : Mapping) : Type 0 where
   pub done : List GatesMapped
   pub going : Going K used gs g done held m

@@ -53,13 +53,15 @@ module _ (c : tie.In-loop Inv-loop μ-loop) where
       let e = count-is (c .before .before) in
       (omega (arith, e, c .loop-test .taken), omega (arith, e, start .pre .few, c .loop-test .taken))
 
+  -- and there is room for it
   counted : c .before .loop .f .count < 10
   counted = omega (arith, inside .1, c .before .loop .inv .count, length-take i (of start))
 
-  -- and has its place in the sheet
+  -- it has its place in the sheet
   placed : x .first + i < faninRoom
   placed = omega (arith, inside .0, wide start, length-take (x .count) (drop (x .first) (start .args .t2)), length-drop (x .first) (start .args .t2))
 
+  -- and so has what it reads
   net : {n : ℕ} → edge .source ≡ Net n → n < length (start .args .levels .now)
   net = net-placed (start .args .t2) x (inside .0) (start .pre)
 
@@ -109,7 +111,9 @@ loop-again : tie.Need-loop-again Inv-loop μ-loop
 loop-again c =
     let l = c .before .before .before .before .before .before .before in
     let s = start l in
-    rw (c .with-fan .ensures) (fan-net (s .args .t2) (x l) (inside l .0) (levelIn (s .args .levels .now)) (s .args .starts .now) (s .args .counts .now) (l .before .loop .inv) (inside l .1) (c .before .before .before .source .given .1))
+    rw (c .with-fan .ensures)
+    (fan-net (s .args .t2) (x l) (inside l .0) (levelIn (s .args .levels .now)) (s .args .starts .now) (s .args .counts .now) (l .before .loop .inv) (inside l .1)
+    (c .before .before .before .source .given .1))
 
 enum-known-source-2 : tie.Need-enum-known-source-2 Inv-loop μ-loop
 enum-known-source-2 c = search needs
@@ -148,7 +152,9 @@ loop-again-2 : tie.Need-loop-again-2 Inv-loop μ-loop
 loop-again-2 c =
     let l = c .before .before .before .before .before .before .before .before in
     let s = start l in
-    rw (c .with-fan2 .ensures) (fan-gate (s .args .t2) (x l) (inside l .0) (levelIn (s .args .levels .now)) (s .args .starts .now) (s .args .counts .now) (l .before .loop .inv) (inside l .1) (c .before .before .before .before .source2 .given .1))
+    rw (c .with-fan2 .ensures)
+    (fan-gate (s .args .t2) (x l) (inside l .0) (levelIn (s .args .levels .now)) (s .args .starts .now) (s .args .counts .now) (l .before .loop .inv) (inside l .1)
+    (c .before .before .before .before .source2 .given .1))
 
 returns : tie.Need-returns Inv-loop μ-loop
 returns c =
