@@ -18,7 +18,7 @@ use Rattle.levels.specs.Groups.{Groups, GroupChosen, LevelRow, LevelRows}
 use Rattle.levels.specs.GroupLaws.{groups-gives, own-first, own-next}
 use Rattle.levels.specs.EntryLaws.{entry-none}
 use Rattle.levels.specs.RowLaws.{row-one, row-step}
-use Rattle.level_arrays.specs.Arrays.{big, entryAt, Filled, lifted, Searched}
+use Rattle.level_arrays.specs.Arrays.{big, entryAt, ArrayFilled, ownAbove, Searched}
 
 module _ (K : ℕ) (lev : ℕ → ℕ) (zs : List (Bool × Node)) (z : Bool × Node) where
   -- `rows h w` is the entry of fanin h for w inputs at the bound ℓ
@@ -27,7 +27,7 @@ module _ (K : ℕ) (lev : ℕ → ℕ) (zs : List (Bool × Node)) (z : Bool × N
 
   -- ---- one bound
 
-  module _ {from ℓ : ℕ} {rows : ℕ → ℕ → ℕ} {own : ℕ → ℕ} {a : List ℕ} {at : ℕ} (f : Filled K (length zs) rows own a at (2 ^ length zs))
+  module _ {from ℓ : ℕ} {rows : ℕ → ℕ → ℕ} {own : ℕ → ℕ} {a : List ℕ} {at : ℕ} (f : ArrayFilled K (length zs) rows own a at (2 ^ length zs))
       (fans : FanEntries ℓ rows)
       (owns : (h r : ℕ) → h < length zs → 0 < r → r < 2 ^ h → LeastEntry big (GroupChosen K lev from (select (2 ^ h + r) zs) ℓ) (own (2 ^ h + r))) where
     single-row : (h : ℕ) → h < length zs → 2 ^ h < 2 ^ length zs → LevelRow K lev from big zs ℓ (entryAt a at (2 ^ h)) (2 ^ h)
@@ -60,7 +60,7 @@ module _ (K : ℕ) (lev : ℕ → ℕ) (zs : List (Bool × Node)) (z : Bool × N
     searched-rows zero l =
         filled-rows (s .next 0 l) (fans 0 l)
         (λ h r m p b.
-        let e : lifted K (a 0) (at 0) (2 ^ h + r) ≡ big = omega (arith, s .first h r m p b) in
+        let e : ownAbove K (a 0) (at 0) (2 ^ h + r) ≡ big = omega (arith, s .first h r m p b) in
         rw (e, add-zero from) own-first)
         (2 ^ length zs) (omega arith)
     searched-rows (suc i) l =

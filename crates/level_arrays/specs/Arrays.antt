@@ -37,15 +37,15 @@ entryAt a at s w = getD a (at + s * 8 + w) big
 
 -- the array of one bound, filled at each mask below m: a single fanin has its row, and a mask of more bits the least of its entry of a table of
 -- its own and of the sums of two entries. `rows h w` is the fanin's entry, and `own s` that of a table of its own
-pub record Filled (K n : ℕ) (rows : ℕ → ℕ → ℕ) (own : ℕ → ℕ) (a : List ℕ) (at m : ℕ) : Type 0 where
+pub record ArrayFilled (K n : ℕ) (rows : ℕ → ℕ → ℕ) (own : ℕ → ℕ) (a : List ℕ) (at m : ℕ) : Type 0 where
   pub one : (h w : ℕ) → h < n → 2 ^ h < m → w ≤ K → entryAt a at (2 ^ h) w ≡ rows h w
   pub none : (h r : ℕ) → h < n → 0 < r → r < 2 ^ h → 2 ^ h + r < m → entryAt a at (2 ^ h + r) 0 ≡ big
   pub more : (h r w : ℕ) → h < n → 0 < r → r < 2 ^ h → 2 ^ h + r < m → 1 ≤ w → w ≤ K →
       LevelCell big (entryAt a at) (2 ^ h) r w (own (2 ^ h + r)) (entryAt a at (2 ^ h + r) w)
 
 -- the entries of a table of its own, from the array of the bound before
-abbrev pub lifted : ℕ → List ℕ → ℕ → ℕ → ℕ
-lifted K a at s = min big (suc (entryAt a at s K))
+abbrev pub ownAbove : ℕ → List ℕ → ℕ → ℕ → ℕ
+ownAbove K a at s = min big (suc (entryAt a at s K))
 
 -- ---- what fanins bring: their rows at a bound
 
@@ -73,7 +73,7 @@ pub record FansGood (K g : ℕ) (f : Fans) : Type 0 where
 -- no entry for a group of fanins
 pub record Searched (K n from top : ℕ) (rows : ℕ → ℕ → ℕ → ℕ) (a : ℕ → List ℕ) (at : ℕ → ℕ) : Type 0 where
   pub first : (h r : ℕ) → h < n → 0 < r → r < 2 ^ h → entryAt (a 0) (at 0) (2 ^ h + r) K ≡ big
-  pub next : (i : ℕ) → i < top → Filled K n (rows (from + i)) (lifted K (a i) (at i)) (a (suc i)) (at (suc i)) (2 ^ n)
+  pub next : (i : ℕ) → i < top → ArrayFilled K n (rows (from + i)) (ownAbove K (a i) (at i)) (a (suc i)) (at (suc i)) (2 ^ n)
 
 -- the greatest level of a net under the fanins
 pub record GreatestFan (f : Fans) (a : ℕ) : Type 0 where
@@ -111,10 +111,10 @@ Falling K n top a = (i s : ℕ) → i < top → 0 < s → s < 2 ^ n → entryAt 
 
 -- the entry for w inputs at the mask s in the i-th array can be read back where what holds it is not placed: there is one, and w is K or it is
 -- not that of a table of its own
-pub record Kept (K : ℕ) (a : List ℕ) (i s w : ℕ) : Type 0 where
+pub record ReadsBack (K : ℕ) (a : List ℕ) (i s w : ℕ) : Type 0 where
   pub some : entryAt a (i * 8192) s w < big
   pub inputs : (1 ≤ w) × (w ≤ K)
-  pub held : (w ≡ K) ⊎ ((p : ℕ) × (suc p ≡ i) × (entryAt a (i * 8192) s w ≢ lifted K a (p * 8192) s))
+  pub held : (w ≡ K) ⊎ ((p : ℕ) × (suc p ≡ i) × (entryAt a (i * 8192) s w ≢ ownAbove K a (p * 8192) s))
 
 -- the demand of a fanin in a draft: its bound is that of the array from which its entry is
 abbrev pub draftDemand : (from : ℕ) → List ℕ → Draft → ℕ → Demand
@@ -167,4 +167,4 @@ pub record Drafted (K n from top : ℕ) (a : List ℕ) (i s w : ℕ) (d e : Draf
   pub rooms : (length (e .bounds) ≡ 10) × (length (e .inputs) ≡ 10)
   pub others : (h : ℕ) → h < n → ¬ (AtMask n s h) → (getD (e .bounds) h 0 ≡ getD (d .bounds) h 0) × (getD (e .inputs) h 0 ≡ getD (d .inputs) h 0)
   pub demands : (h : ℕ) → AtMask n s h →
-      (from ≤ getD (e .bounds) h 0 + 1) × (getD (e .bounds) h 0 + 1 ≤ from + top) × Kept K a (getD (e .bounds) h 0 + 1 - from) (2 ^ h) (getD (e .inputs) h 0)
+      (from ≤ getD (e .bounds) h 0 + 1) × (getD (e .bounds) h 0 + 1 ≤ from + top) × ReadsBack K a (getD (e .bounds) h 0 + 1 - from) (2 ^ h) (getD (e .inputs) h 0)

@@ -20,7 +20,7 @@ use Rattle.levels.specs.GroupLaws.{groups-gives, groups-higher}
 use Rattle.levels.specs.EntryLaws.{entry-one, entry-fanins, entry-higher}
 use Rattle.levels.specs.LineLaws.{row-whole}
 use Rattle.levels.specs.Demands.{demand}
-use Rattle.level_arrays.specs.Arrays.{big, entryAt, lifted, fanRow, Ranged, Falling, Kept}
+use Rattle.level_arrays.specs.Arrays.{big, entryAt, ownAbove, fanRow, Ranged, Falling, ReadsBack}
 use Rattle.level_arrays.specs.ArrayLaws.{searched-rows}
 use Rattle.level_arrays.specs.Askable.{Askable, FanLines}
 use Rattle.level_arrays.specs.GateLaws.{fan-entries}
@@ -83,7 +83,7 @@ module _ (K : ℕ) (lev : ℕ → ℕ) (two : 2 ≤ K) (zs : List (Bool × Node)
         let d : 2 ^ length zs ≡ 2 ^ suc (length zs - 1) = ap (λ n. 2 ^ n) m in
         omega (arith, d, pow-pos (length zs - 1))
 
-    unlifted : (i : ℕ) → i ≡ t → e ≢ lifted K a (i * 8192) (2 ^ length zs - 1)
+    unlifted : (i : ℕ) → i ≡ t → e ≢ ownAbove K a (i * 8192) (2 ^ length zs - 1)
     unlifted zero j d =
         let m : 2 ^ 1 ≤ 2 ^ (length zs - 1) = pow-mono {i = 1} (omega arith) in
         let n = x .searched .first (length zs - 1) (2 ^ (length zs - 1) - 1) (omega arith) (omega (arith, m)) (omega (arith, m)) in
@@ -93,7 +93,7 @@ module _ (K : ℕ) (lev : ℕ → ℕ) (two : 2 ≤ K) (zs : List (Bool × Node)
         let (v, u, g) = y .some (omega (arith, q .some)) in
         omega (arith, q .some, q .held (from + i) v _ (omega arith) (rw (select-all zs (length zs) refl) at (groups-gives g)))
 
-    pub asked-kept : Kept K a top (2 ^ length zs - 1) w
+    pub asked-kept : ReadsBack K a top (2 ^ length zs - 1) w
     asked-kept = rw last (record {
       some = omega (arith, whole-entry, q .some);
       inputs = q .inputs;
@@ -102,11 +102,11 @@ module _ (K : ℕ) (lev : ℕ → ℕ) (two : 2 ≤ K) (zs : List (Bool × Node)
 
   -- ---- what is then asked of a fanin
 
-  module _ (h i b w : ℕ) (l : h < length zs) (s : i ≤ top) (d : b + 1 ≡ from + i) (q : Kept K a i (2 ^ h) w) where
+  module _ (h i b w : ℕ) (l : h < length zs) (s : i ≤ top) (d : b + 1 ≡ from + i) (q : ReadsBack K a i (2 ^ h) w) where
     fan-least : LeastEntry big (AtMost (Gives K lev (getD zs h z ∷ []) b) w) (entryAt a (i * 8192) (2 ^ h) w)
     fan-least = rw (slot-entry i b h w s d l (q .inputs .1)) (fan-entries K lev zs z store f fans b h w l (q .inputs .1))
 
-    held-before : (p v c j : ℕ) → suc p ≡ b → suc j ≡ i → entryAt a (i * 8192) (2 ^ h) w ≢ lifted K a (j * 8192) (2 ^ h) → Gives K lev (getD zs h z ∷ []) p v c →
+    held-before : (p v c j : ℕ) → suc p ≡ b → suc j ≡ i → entryAt a (i * 8192) (2 ^ h) w ≢ ownAbove K a (j * 8192) (2 ^ h) → Gives K lev (getD zs h z ∷ []) p v c →
         entryAt a (i * 8192) (2 ^ h) w ≤ c
     held-before p v c j e m n g =
         let o = slot-entry j p h K (omega arith) (omega arith) l (omega arith) in

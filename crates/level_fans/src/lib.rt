@@ -4,7 +4,7 @@ ghost use Prim.Native.Nat.{_<_, _≤_};
 ghost use lib.ListN.{length};
 ghost use Rattle.sheet.specs.Trusted.Answers.{drawnGate};
 ghost use Rattle.level_arrays.specs.Arrays.{GreatestFan};
-ghost use Rattle.level_sheets.specs.Lined.{FansOf, FansReach, levelIn};
+ghost use Rattle.level_sheets.specs.Lined.{FansOf, FansReach, netLevel};
 ghost use Rattle.level_sheets.specs.Asking.{AskedOf};
 ghost use Rattle.level_fans.specs.FanSteps.{withFan, CanAsk};
 use gate_fanins::fanin_count;
@@ -45,7 +45,7 @@ pub fn gather_fans<'a>(
     counts: &'a [u16; MOST_GATES],
 ) -> Fans
     requires { ⌜ FansReach fanins gate (now levels) ⌝ }
-    ensures { λ r. ⌜ FansOf (levelIn (now (levels .entry))) (now (starts .entry)) (now (counts .entry)) (drawnGate fanins gate .fanins) r ⌝ }
+    ensures { λ r. ⌜ FansOf (netLevel (now (levels .entry))) (now (starts .entry)) (now (counts .entry)) (drawnGate fanins gate .fanins) r ⌝ }
 {
     let count = fanin_count(gate);
     let mut f = Fans {

@@ -12,11 +12,11 @@ use Rattle.lists.specs.Cases.{by-eqb}
 use Rattle.cover.specs.Trusted.Cover.{pick}
 use Rattle.plan.specs.Limits.{masks}
 use Rattle.level_arrays.specs.declared.Fans.{Fans}
-use Rattle.level_arrays.specs.Arrays.{big, entryAt, Filled, lifted, lineAt, fanRow, FansGood, Searched, GreatestFan, startAt, LinesKept}
+use Rattle.level_arrays.specs.Arrays.{big, entryAt, ArrayFilled, ownAbove, lineAt, fanRow, FansGood, Searched, GreatestFan, startAt, LinesKept}
 use Rattle.level_rows.specs.Rows.{pick-some}
 use Rattle.level_rows.specs.Runs.{RunWritten}
 use Rattle.level_lines.specs.Looked.{FansStored, RowsLooked}
-use Rattle.level_lines.proofs.Looking.{fan-below, fan-net, fan-line}
+use Rattle.level_lines.proofs.Looking.{fan-below, look-net, fan-line}
 
 -- an array that has no entry
 pub all-big : (n s : ℕ) → getD (replicate n big) s big ≡ big
@@ -39,16 +39,16 @@ extended-other f i x m n = by-eqb (λ b. cond b x (f m) ≡ f m) m i (λ e. absu
 
 -- ---- an array that is filled from equal rows and entries
 
-filled-same : {K n : ℕ} {rows rows′ : ℕ → ℕ → ℕ} {own own′ : ℕ → ℕ} {a : List ℕ} {at m : ℕ} → Filled K n rows own a at m →
-    ((h w : ℕ) → h < n → w ≤ K → rows h w ≡ rows′ h w) → ((s : ℕ) → s < m → own s ≡ own′ s) → Filled K n rows′ own′ a at m
+filled-same : {K n : ℕ} {rows rows′ : ℕ → ℕ → ℕ} {own own′ : ℕ → ℕ} {a : List ℕ} {at m : ℕ} → ArrayFilled K n rows own a at m →
+    ((h w : ℕ) → h < n → w ≤ K → rows h w ≡ rows′ h w) → ((s : ℕ) → s < m → own s ≡ own′ s) → ArrayFilled K n rows′ own′ a at m
 filled-same p e d = record {
   one = λ h w l k j. p .one h w l k j ∙ e h w l j;
   none = p .none;
   more = λ h r w l o j k x y. rw (d (2 ^ h + r) k) at (p .more h r w l o j k x y);
 }
 
-filled-at : {K n : ℕ} {rows : ℕ → ℕ → ℕ} {x x′ y y′ : List ℕ} {m : ℕ} → x ≡ x′ → y ≡ y′ → Filled K n rows (lifted K x 0) y 0 m →
-    Filled K n rows (lifted K x′ 0) y′ 0 m
+filled-at : {K n : ℕ} {rows : ℕ → ℕ → ℕ} {x x′ y y′ : List ℕ} {m : ℕ} → x ≡ x′ → y ≡ y′ → ArrayFilled K n rows (ownAbove K x 0) y 0 m →
+    ArrayFilled K n rows (ownAbove K x′ 0) y′ 0 m
 filled-at p q f = rw (sym p, sym q) f
 
 -- ---- the fanins' lines are before the gate's
@@ -64,7 +64,7 @@ module _ {K g : ℕ} {f : Fans} (good : FansGood K g f) (old store : List ℕ) (
       fan-line store f ℓ h w j (omega arith) p refl
       ∙ ap (λ x. pick w big x) (same ((getD (f .gates) h 0 * 256 + j) * 6 + (w - 1)) (omega (arith, good .few h l)))
       ∙ sym (fan-line old f ℓ h w j (omega arith) p refl))
-      (λ p. fan-net store f ℓ h w (omega arith) (omega arith) ∙ sym (fan-net old f ℓ h w (omega arith) (omega arith)))
+      (λ p. look-net store f ℓ h w (omega arith) (omega arith) ∙ sym (look-net old f ℓ h w (omega arith) (omega arith)))
 
 -- ---- the search: i bounds are done, `array` is the last one's, and `count` lines are kept
 
@@ -72,7 +72,7 @@ pub record LinesSo (K g : ℕ) (f : Fans) (a : ℕ) (old store own array : List 
   pub arrays : ℕ → List ℕ
   pub latest : arrays i ≡ array
   pub searched : Searched K (f .count) (startAt (f .count) a) i (fanRow old f) arrays (λ i. 0)
-  pub owns : (s : ℕ) → s < 2 ^ (f .count) → getD own s big ≡ lifted K array 0 s
+  pub owns : (s : ℕ) → s < 2 ^ (f .count) → getD own s big ≡ ownAbove K array 0 s
   pub kept : (j w : ℕ) → j < count → 1 ≤ w → w ≤ K → lineAt store g j w ≡ entryAt (arrays (suc (a - startAt (f .count) a + j))) 0 (2 ^ (f .count) - 1) w
   pub within : (j : ℕ) → j < count → a - startAt (f .count) a + j < i
   pub before : (i : ℕ) → i < g * 1536 → getD store i big ≡ getD old i big
@@ -95,8 +95,8 @@ module _ {K g : ℕ} {f : Fans} {a : ℕ} {old : List ℕ} where
   -- one bound more
   pub bounds-turn : FansGood K g f → {store own array rows looked next lift : List ℕ} {i count : ℕ} (ℓ : ℕ) → startAt (f .count) a + i ≡ ℓ →
       LinesSo K g f a old store own array i count → RowsLooked store f ℓ rows looked →
-      Filled K (f .count) (λ h w. getD looked (h * 8 + w) big) (λ s. getD own s big) next 0 (2 ^ (f .count)) →
-      ((s : ℕ) → s < 2 ^ (f .count) → getD lift s big ≡ lifted K next 0 s) → LinesSo K g f a old store lift next (suc i) count
+      ArrayFilled K (f .count) (λ h w. getD looked (h * 8 + w) big) (λ s. getD own s big) next 0 (2 ^ (f .count)) →
+      ((s : ℕ) → s < 2 ^ (f .count) → getD lift s big ≡ ownAbove K next 0 s) → LinesSo K g f a old store lift next (suc i) count
   bounds-turn good {store} {next = next} {i = i} ℓ e p looked filled lifts =
       let few = good .some .table .1 in
       let other = extended-other (p .arrays) (suc i) next in record {

@@ -27,9 +27,9 @@ module _ (store : List ℕ) (f : Fans) (ℓ h w : ℕ) where
   unfolding look
   fan-below l = rw (lt-leb _ _ l)
 
-  pub fan-net : getD (f .levels) h 0 ≤ ℓ → getD (f .lines) h 0 ≡ 0 → fanRow store f ℓ h w ≡ pick w big 0
+  pub look-net : getD (f .levels) h 0 ≤ ℓ → getD (f .lines) h 0 ≡ 0 → fanRow store f ℓ h w ≡ pick w big 0
   unfolding look
-  fan-net l e = rw (le-leb _ _ l, e)
+  look-net l e = rw (le-leb _ _ l, e)
 
   pub fan-line : (j : ℕ) → getD (f .levels) h 0 ≤ ℓ → 0 < getD (f .lines) h 0 → j ≡ min (ℓ - getD (f .levels) h 0) (getD (f .lines) h 0 - 1) →
       fanRow store f ℓ h w ≡ lineAt store (getD (f .gates) h 0) j w

@@ -2,8 +2,8 @@
 // plans.
 ghost use Rattle.mapper_laws.specs.CodeMap.{Sheetable};
 ghost use Rattle.sheet.specs.Trusted.Answers.{drawnSheet};
-ghost use Rattle.level_sheets.specs.Lined.{levelIn};
-ghost use Rattle.level_mapping.specs.FastMapping.{NetsLow, LinesFound, PlansChosen, FastMapped};
+ghost use Rattle.level_sheets.specs.Lined.{netLevel};
+ghost use Rattle.level_mapping.specs.FastMapping.{NetsLow, LinesFound, LineRooms, PlansChosen, FastMapped};
 use level_arrays::ARRAYS_ROOM;
 use level_arrays::NONE;
 use level_arrays::STORE_ROOM;
@@ -29,7 +29,7 @@ fn choose_plans<'a>(
     counts: &'a [u16; MOST_GATES],
     store: &'a [u8; STORE_ROOM],
 ) -> [Plan; MOST_GATES]
-    requires { ⌜ NetsLow k sheet (now levels) × LinesFound k sheet (now levels) (now starts) (now counts) (now store) ⌝ }
+    requires { ⌜ NetsLow k sheet (now levels) × LinesFound k sheet (now levels) (now starts) (now counts) (now store) × LineRooms (now starts) (now counts) (now store) ⌝ }
     ensures { λ r. ⌜ PlansChosen k sheet (now (levels .entry)) r ⌝ }
 {
     let gates = sheet.count as usize;
@@ -60,7 +60,7 @@ fn choose_plans<'a>(
 // the root's last, with zeros at the unused inputs; no cover has a lower root level, and of those with that level none has fewer tables.
 pub fn map_fast(sheet: Sheet, k: u8, used: u16, levels: &[u16]) -> Mapping
     requires { ⌜ Sheetable k used sheet × NetsLow k sheet (now levels) ⌝ }
-    ensures { λ r. ⌜ FastMapped k used (levelIn (now (levels .entry))) sheet r ⌝ }
+    ensures { λ r. ⌜ FastMapped k used (netLevel (now (levels .entry))) sheet r ⌝ }
 {
     let mut starts = [0u16; MOST_GATES];
     let mut counts = [0u16; MOST_GATES];

@@ -17,11 +17,11 @@ use Rattle.sheet.specs.Trusted.Sheet.{DrawnGate, faninNets, faninGates, leafNet
 use Rattle.sheet.specs.Trusted.Answers.{drawnGate, drawnSheet}
 use Rattle.sheet.specs.Trusted.Trees.{treeOf}
 use Rattle.sheet.specs.PlaceLaws.{noGate, noSheetGate, sheet-gates, few-gates, sheet-gate, gate-counted, gate-reads}
-use Rattle.level_arrays.specs.Arrays.{big, lineAt, fanRow, startAt, FansGood, GreatestFan, LinesKept, Ranged, Falling, Kept, Drafted}
+use Rattle.level_arrays.specs.Arrays.{big, lineAt, fanRow, startAt, FansGood, GreatestFan, LinesKept, Ranged, Falling, ReadsBack, Drafted}
 use Rattle.level_arrays.specs.declared.Fans.{Fans}
 use Rattle.level_arrays.specs.declared.Draft.{Draft}
 use Rattle.level_sheets.specs.SheetTrees.{faninsAt, gather-out, ReadsAt, reads-once}
-use Rattle.level_sheets.specs.Lined.{FansOf, FansReach, LowNets, Lined, levelIn}
+use Rattle.level_sheets.specs.Lined.{FansOf, FansReach, LowNets, Lined, netLevel}
 use Rattle.level_sheets.specs.LinedLaws.{lined-start, lined-next, lined-good, by-fanin}
 use Rattle.level_sheets.specs.PlansMeet.{noDemand, PlansMeet, lastDemand}
 use Rattle.level_sheets.specs.Asking.{demandAt, demandsOf, Asking, AskedOf}
@@ -47,7 +47,7 @@ fast-mapped {K} {lev = lev} {s} {r} bound below f m = record {
 
 module _ {K : ℕ} (c : Sheet) {levels : List ℕ} (low : NetsLow K c levels) (room : length (c .gates) ≡ mostGates) (most : c .count ≤ mostGates) where
   abbrev lev : ℕ → ℕ
-  lev = levelIn levels
+  lev = netLevel levels
 
   abbrev gates : List DrawnGate
   gates = drawnSheet c .gates
@@ -119,7 +119,7 @@ module _ {K : ℕ} (c : Sheet) {levels : List ℕ} (low : NetsLow K c levels) (r
 
         pub plan-back : (a : List ℕ) → Ranged K (f .count) (startAt (f .count) (getD bounds g 0)) (getD bounds g 0 - startAt (f .count) (getD bounds g 0) + 1) (fanRow store f) a →
             Falling K (f .count) (getD bounds g 0 - startAt (f .count) (getD bounds g 0) + 1) a
-            × Kept K a (getD bounds g 0 - startAt (f .count) (getD bounds g 0) + 1) (2 ^ (f .count) - 1) (getD inputs g 0)
+            × ReadsBack K a (getD bounds g 0 - startAt (f .count) (getD bounds g 0) + 1) (2 ^ (f .count) - 1) (getD inputs g 0)
         plan-back a r = (
           asking-falls K lev (low .table) (drawnSheet c) (low .formed) (low .low) x at-here (fans-at q) asking r,
           asking-kept K lev (low .table) (drawnSheet c) (low .formed) (low .low) x at-here (fans-at q) asking r,
@@ -173,6 +173,12 @@ module _ {K : ℕ} (c : Sheet) {levels : List ℕ} (low : NetsLow K c levels) (r
     module _ (j : ℕ) (f : FirstLine K (c .count - 1) (getD counts (c .count - 1) 0) store j) where
       at-root : FirstLine K (length gates - 1) (getD counts (length gates - 1) 0) store j
       at-root = subst (λ n. FirstLine K n (getD counts n 0) store j) (sym last-is) f
+
+      -- its bound is not high
+      pub first-low : getD starts (c .count - 1) 0 + j ≤ 2000
+      first-low =
+          let l : c .count - 1 < length gates = omega (arith, count-is, some-gate) in
+          omega (arith, x .low (c .count - 1) l, x .some (c .count - 1) l, f .within)
 
       pub choose-start : (bounds inputs : List ℕ) (plans : List Plan) → getD bounds (c .count - 1) 0 ≡ getD starts (c .count - 1) 0 + j → getD inputs (c .count - 1) 0 ≡ K →
           Asking K lev gates starts counts store (c .count) bounds inputs plans

@@ -22,7 +22,7 @@ use Rattle.mapper_laws.specs.declared.Mapping.{Mapping}
 use Rattle.mapper_laws.specs.CodeRun.{noTable}
 use Rattle.mapper_laws.specs.CodeMap.{mostTables, tablesIn}
 use Rattle.level_arrays.specs.Arrays.{big, lineAt}
-use Rattle.level_sheets.specs.Lined.{LowNets, Lined, levelIn}
+use Rattle.level_sheets.specs.Lined.{LowNets, Lined, netLevel}
 use Rattle.level_sheets.specs.PlansMeet.{PlansMeet, lastDemand}
 
 -- a well-formed sheet whose nets have levels that are not high, to tables of K inputs
@@ -30,11 +30,11 @@ pub record NetsLow (K : ℕ) (s : Sheet) (levels : List ℕ) : Type 0 where
   pub table : (2 ≤ K) × (K ≤ 6)
   pub formed : WellFormed (drawnSheet s)
   pub inside : Every (λ n. n < length levels) (leafNets (drawnSheet s .gates))
-  pub low : LowNets (levelIn levels) (drawnSheet s .gates)
+  pub low : LowNets (netLevel levels) (drawnSheet s .gates)
 
 -- the lines of all its gates
 abbrev pub LinesFound : (K : ℕ) → Sheet → (levels starts counts store : List ℕ) → Type 0
-LinesFound K s levels starts counts store = Lined K (levelIn levels) (drawnSheet s .gates) (length (drawnSheet s .gates)) starts counts store
+LinesFound K s levels starts counts store = Lined K (netLevel levels) (drawnSheet s .gates) (length (drawnSheet s .gates)) starts counts store
 
 -- the arrays that hold them: their types say so
 pub record LineRooms (starts counts store : List ℕ) : Type 0 where
@@ -58,8 +58,8 @@ pub record FirstLine (K g count : ℕ) (store : List ℕ) (j : ℕ) : Type 0 whe
 -- the plans meet demands of which the root's is the least level and then the fewest tables
 pub record PlansChosen (K : ℕ) (s : Sheet) (levels : List ℕ) (plans : List Plan) : Type 0 where
   pub demands : List Demand
-  pub meet : PlansMeet K (levelIn levels) demands (drawnSheet s .gates) plans
-  pub fastest : Fastest (levelIn levels) K (treeOf (drawnSheet s)) (suc (lastDemand demands .below)) (suc (lastDemand demands .bound))
+  pub meet : PlansMeet K (netLevel levels) demands (drawnSheet s .gates) plans
+  pub fastest : Fastest (netLevel levels) K (treeOf (drawnSheet s)) (suc (lastDemand demands .below)) (suc (lastDemand demands .bound))
 
 -- THE PROMISE OF THE MAPPING to the fewest levels: the records are those of the tables of one of the sheet's covers with the least root level, and with the fewest
 -- tables among those, which follow any tables of that count; which of them it is, and the order of its tables, inputs before readers, is free

@@ -12,7 +12,7 @@ use Rattle.cover.specs.Trusted.Cover.{pick}
 use Rattle.plan.specs.Limits.{masks}
 use Rattle.plan.specs.MaskLaws.{within-le}
 use Rattle.levels.specs.Groups.{LevelCell}
-use Rattle.level_arrays.specs.Arrays.{big, Searchable, entryAt, Filled}
+use Rattle.level_arrays.specs.Arrays.{big, Searchable, entryAt, ArrayFilled}
 use Rattle.level_rows.specs.Rows.{pick-some}
 use Rattle.level_rows.specs.Runs.{RunWritten}
 use Rattle.level_rows.specs.Sums.{RowOfMask}
@@ -30,7 +30,7 @@ cell-none {e = e} c =
 
 -- ---- the row of one mask more
 
-module _ {K n : ℕ} {rows : ℕ → ℕ → ℕ} {own : ℕ → ℕ} {a b : List ℕ} {at m : ℕ} {f : ℕ → ℕ} (few : K ≤ 6) (p : Filled K n rows own a at m)
+module _ {K n : ℕ} {rows : ℕ → ℕ → ℕ} {own : ℕ → ℕ} {a b : List ℕ} {at m : ℕ} {f : ℕ → ℕ} (few : K ≤ 6) (p : ArrayFilled K n rows own a at m)
     (q : RunWritten a b (at + m * 8) 8 f) where
   kept : (s w : ℕ) → s < m → w ≤ K → entryAt b at s w ≡ entryAt a at s w
   kept s w l k = q .before (at + s * 8 + w) (omega arith)
@@ -68,7 +68,7 @@ module _ {K n : ℕ} {rows : ℕ → ℕ → ℕ} {own : ℕ → ℕ} {a b : Lis
       }
 
   pub filled-more : (g r : ℕ) → m ≡ 2 ^ g + r → r < 2 ^ g → (r ≡ 0 → (w : ℕ) → w ≤ K → f w ≡ rows g w) →
-      (0 < r → (w : ℕ) → w ≤ K → LevelCell big (entryAt a at) (2 ^ g) r w (pick w big (own (2 ^ g + r))) (f w)) → Filled K n rows own b at (m + 1)
+      (0 < r → (w : ℕ) → w ≤ K → LevelCell big (entryAt a at) (2 ^ g) r w (pick w big (own (2 ^ g + r))) (f w)) → ArrayFilled K n rows own b at (m + 1)
   filled-more g r e l one more = record {
     one = λ h w i j k.
         by-cases (decLt (2 ^ h) m) (λ d. kept (2 ^ h) w d k ∙ p .one h w i d k) λ d.
@@ -100,7 +100,7 @@ pub record ArrayFilling (K n : ℕ) (rows : ℕ → ℕ → ℕ) (own : ℕ → 
   pub half : s < next → (g : ℕ) × (h ≡ g + 1) × (top ≡ 2 ^ g) × (top < s)
   pub room : length b ≡ length a
   pub before : (i : ℕ) → i < at → getD b i big ≡ getD a i big
-  pub filled : Filled K n rows own b at s
+  pub filled : ArrayFilled K n rows own b at s
 
 module _ {K n : ℕ} {rows : ℕ → ℕ → ℕ} {own : ℕ → ℕ} {a : List ℕ} {at : ℕ} where
   pub array-first : ArrayFilling K n rows own a a at 0 0 1 1

@@ -4,7 +4,7 @@ ghost use mathlib.Core.Path.{_≡_};
 ghost use Prim.Native.Nat.{ℕ, _+_, _*_, _^_, _<_, _≤_};
 ghost use lib.ListN.{getD, length};
 ghost use Rattle.plan.specs.Limits.{masks};
-ghost use Rattle.level_arrays.specs.Arrays.{big, Searchable, Filled, lifted};
+ghost use Rattle.level_arrays.specs.Arrays.{big, Searchable, ArrayFilled, ownAbove};
 ghost use Rattle.level_rows.specs.Sums.{LeastSum, RowOfMask};
 ghost use Rattle.level_rows.specs.Runs.{RunWritten};
 use level_arrays::FANIN_ROOM;
@@ -103,7 +103,7 @@ pub fn fill(
     at: usize,
 ) -> usize
     requires { ⌜ Searchable k n × (length (now rows) ≡ 80) × (length (now own) ≡ masks) × (at + 8192 ≤ length (now arrays)) ⌝ }
-    ensures { λ r. ⌜ (r ≡ 2 ^ n) × Filled k n (λ h w. getD (now (rows .entry)) (h * 8 + w) big) (λ s. getD (now (own .entry)) s big) (now (arrays .exit)) at (2 ^ n) × (length (now (arrays .exit)) ≡ length (now (arrays .entry))) × ((i : ℕ) → i < at → getD (now (arrays .exit)) i big ≡ getD (now (arrays .entry)) i big) ⌝ }
+    ensures { λ r. ⌜ (r ≡ 2 ^ n) × ArrayFilled k n (λ h w. getD (now (rows .entry)) (h * 8 + w) big) (λ s. getD (now (own .entry)) s big) (now (arrays .exit)) at (2 ^ n) × (length (now (arrays .exit)) ≡ length (now (arrays .entry))) × ((i : ℕ) → i < at → getD (now (arrays .exit)) i big ≡ getD (now (arrays .entry)) i big) ⌝ }
 {
     let mut h: usize = 0;
     let mut top: usize = 0;
@@ -130,7 +130,7 @@ pub fn fill(
 // The entries of a table of its own for each mask below end, one bound higher than the array at a place.
 pub fn lift(k: u8, end: usize, arrays: &[u8], at: usize, own: &mut [u8; MASKS])
     requires { ⌜ (k ≤ 6) × (end ≤ masks) × (length (now own) ≡ masks) × (at + 8192 ≤ length (now arrays)) ⌝ }
-    ensures { λ r. ⌜ (length (now (own .exit)) ≡ masks) × ((s : ℕ) → s < end → getD (now (own .exit)) s big ≡ lifted k (now (arrays .entry)) at s) ⌝ }
+    ensures { λ r. ⌜ (length (now (own .exit)) ≡ masks) × ((s : ℕ) → s < end → getD (now (own .exit)) s big ≡ ownAbove k (now (arrays .entry)) at s) ⌝ }
 {
     let mut s: usize = 0;
     while s < end {

@@ -32,7 +32,7 @@ use Rattle.levels.specs.Gives.{fanins}
 use Rattle.levels.specs.Lines.{look}
 use Rattle.levels.specs.LineLaws.{start-enough}
 use Rattle.levels.specs.Demands.{Demand, demand, DemandPlanned}
-use Rattle.level_arrays.specs.Arrays.{big, entryAt, lineAt, fanLine, fanRow, startAt, Ranged, Falling, Kept, draftDemand, draftDemands, NetEntries, PlacesNone, Drafted}
+use Rattle.level_arrays.specs.Arrays.{big, entryAt, lineAt, fanLine, fanRow, startAt, Ranged, Falling, ReadsBack, draftDemand, draftDemands, NetEntries, PlacesNone, Drafted}
 use Rattle.level_arrays.specs.Askable.{Askable, FanLines}
 use Rattle.level_arrays.specs.BackLaws.{arrays-fall, whole-entry, asked-kept, slot-entry, fan-askable, net-askable, gate-askable}
 use Rattle.level_arrays.specs.declared.Fans.{Fans}
@@ -137,7 +137,7 @@ module _ (K : ℕ) (lev : ℕ → ℕ) (table : (2 ≤ K) × (K ≤ 6)) (s : Dra
     own-at : Askable K lev zs (demand (from + (ℓ - from)) (getD inputs g 0) (gateEntry starts counts store g ℓ (getD inputs g 0)))
     own-at = let e : from + (ℓ - from) ≡ ℓ = omega arith in rw e own
 
-    pub asking-kept : Kept K a top (2 ^ (f .count) - 1) (getD inputs g 0)
+    pub asking-kept : ReadsBack K a top (2 ^ (f .count) - 1) (getD inputs g 0)
     asking-kept = rw zs-length at (asked-kept K lev (table .0) zs z store f fans ranged many (ℓ - from) (omega arith) enough own-at)
 
     net-entry : (h i v n : ℕ) → h < f .count → i ≤ top → 1 ≤ v → v ≤ K → getD (f .levels) h 0 ≡ lev n → getD (f .lines) h 0 ≡ 0 →

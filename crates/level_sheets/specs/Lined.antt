@@ -53,5 +53,5 @@ pub record FansReach (fs : List Edge) (x : SheetGate) (levels : List ℕ) : Type
   pub nets : Every (λ n. n < length levels) (faninNets (drawnGate fs x .fanins))
 
 -- the level of each net
-abbrev pub levelIn : List ℕ → ℕ → ℕ
-levelIn levels n = getD levels n 0
+abbrev pub netLevel : List ℕ → ℕ → ℕ
+netLevel levels n = getD levels n 0

@@ -140,7 +140,7 @@ fn fill(
 }
 
 // The number of a mask's only bit.
-fn bit_number(s: usize) -> u8
+pub fn bit_number(s: usize) -> u8
     requires { ⌜ OneBit s ⌝ }
     ensures { λ r. ⌜ (2 ^ r ≡ s) × (r < mostFanins) ⌝ }
 {
@@ -154,7 +154,7 @@ fn bit_number(s: usize) -> u8
 }
 
 // The plan with one step more.
-fn with_step(plan: Plan, token: Token) -> Plan
+pub fn with_step(plan: Plan, token: Token) -> Plan
     requires { ⌜ plan .len < mostSteps ⌝ }
     ensures { λ r. ⌜ r ≡ stepped plan token ⌝ }
 {
@@ -263,7 +263,7 @@ fn is_good(k: u8, count: u8, keys: [Key; MOST_FANINS]) -> bool
 }
 
 // A plan of no steps.
-fn blank(ok: bool, key: Key) -> Plan
+pub fn blank(ok: bool, key: Key) -> Plan
     ensures { λ r. ⌜ r ≡ emptyPlan ok key ⌝ }
 {
     let step = PlanStep {

@@ -11,13 +11,13 @@ use Rattle.sheet.specs.declared.Gate.{Gate as SheetGate}
 use Rattle.sheet.specs.Trusted.Limits.{mostGates, faninRoom}
 use Rattle.sheet.specs.Trusted.Answers.{drawnGate}
 use Rattle.sheet.specs.PlaceLaws.{noEdge}
-use Rattle.level_sheets.specs.Lined.{FansOf, levelIn}
+use Rattle.level_sheets.specs.Lined.{FansOf, netLevel}
 use Rattle.level_fans.specs.FanLaws.{net-placed, gate-placed, fan-net, fan-gate}
 use Rattle.level_fans.proofs.gather_fans.Statement.{statement}
 use Rattle.level_fans.proofs.gather_fans.Tie as tie
 
 abbrev Inv-loop : tie.InvT-loop
-Inv-loop gate levels starts counts fanins count f₀ i₀ f i = FansOf (levelIn levels) starts counts (take i (drawnGate fanins gate .fanins)) f
+Inv-loop gate levels starts counts fanins count f₀ i₀ f i = FansOf (netLevel levels) starts counts (take i (drawnGate fanins gate .fanins)) f
 
 abbrev μ-loop : tie.MeasureT-loop
 μ-loop gate levels starts counts fanins count f₀ i₀ f i = count - i
@@ -112,7 +112,7 @@ loop-again c =
     let l = c .before .before .before .before .before .before .before in
     let s = start l in
     rw (c .with-fan .ensures)
-    (fan-net (s .args .t2) (x l) (inside l .0) (levelIn (s .args .levels .now)) (s .args .starts .now) (s .args .counts .now) (l .before .loop .inv) (inside l .1)
+    (fan-net (s .args .t2) (x l) (inside l .0) (netLevel (s .args .levels .now)) (s .args .starts .now) (s .args .counts .now) (l .before .loop .inv) (inside l .1)
     (c .before .before .before .source .given .1))
 
 enum-known-source-2 : tie.Need-enum-known-source-2 Inv-loop μ-loop
@@ -153,7 +153,7 @@ loop-again-2 c =
     let l = c .before .before .before .before .before .before .before .before in
     let s = start l in
     rw (c .with-fan2 .ensures)
-    (fan-gate (s .args .t2) (x l) (inside l .0) (levelIn (s .args .levels .now)) (s .args .starts .now) (s .args .counts .now) (l .before .loop .inv) (inside l .1)
+    (fan-gate (s .args .t2) (x l) (inside l .0) (netLevel (s .args .levels .now)) (s .args .starts .now) (s .args .counts .now) (l .before .loop .inv) (inside l .1)
     (c .before .before .before .before .source2 .given .1))
 
 returns : tie.Need-returns Inv-loop μ-loop

@@ -6,7 +6,7 @@ use mathlib.Core.Logic.{⊎-elim}
 use borrow.Author.Needs.{needs}
 use lib.ListN.{getD, getD-replicate}
 use Rattle.level_rows.specs.Rows.{even-row}
-use Rattle.level_lines.proofs.Looking.{fan-below, fan-net, fan-line}
+use Rattle.level_lines.proofs.Looking.{fan-below, look-net, fan-line}
 use Rattle.level_arrays.specs.Arrays.{big}
 use Rattle.level_lines.proofs.look.Statement.{statement}
 use Rattle.level_lines.proofs.look.Tie as tie
@@ -34,7 +34,7 @@ element-write-row c = search needs
 returns-2 : tie.Need-returns-2
 returns-2 c w l =
     let a = c .before .before .before .before .args in
-    even-row 0 w l ∙ sym (fan-net (a .store .now) (a .t1) (a .bound) (a .h) w (omega arith) (c .if2 .taken))
+    even-row 0 w l ∙ sym (look-net (a .store .now) (a .t1) (a .bound) (a .h) w (omega arith) (c .if2 .taken))
 
 sub-last : tie.Need-sub-last
 sub-last c = search needs

@@ -6,13 +6,13 @@ use native.Mathlib.Nat.{zero-add}
 use mathlib.Core.Logic.{⊎-elim}
 use borrow.Author.Needs.{needs}
 use Rattle.lists.specs.ListLaws.{getD-any}
-use Rattle.level_arrays.specs.Arrays.{big, lifted}
+use Rattle.level_arrays.specs.Arrays.{big, ownAbove}
 use Rattle.level_rows.specs.Runs.{RunWritten, run-none, run-more}
 use Rattle.level_rows.proofs.lift.Statement.{statement}
 use Rattle.level_rows.proofs.lift.Tie as tie
 
 abbrev Inv-loop : tie.InvT-loop
-Inv-loop k end arrays at own₀ s₀ own s = (s ≤ end) × RunWritten own₀ own 0 s (lifted k arrays at)
+Inv-loop k end arrays at own₀ s₀ own s = (s ≤ end) × RunWritten own₀ own 0 s (ownAbove k arrays at)
 
 abbrev μ-loop : tie.MeasureT-loop
 μ-loop k end arrays at own₀ s₀ own s = end - s
@@ -50,7 +50,7 @@ loop-less c = search needs
 -- the entry that is written
 lifted-is : (c : tie.Joined1 Inv-loop μ-loop) →
     let d = c .before .before .before .before in
-    c .if1 .own ≡ lifted (d .args .k) (d .args .arrays .now) (d .args .at) (c .before .before .before .loop .s)
+    c .if1 .own ≡ ownAbove (d .args .k) (d .args .arrays .now) (d .args .at) (c .before .before .before .loop .s)
 lifted-is c =
     let d = c .before .before .before .before in
     let l = c .before .before .before .loop in

@@ -11,7 +11,7 @@ use Rattle.sheet.specs.Trusted.Answers.{drawnGate, drawnSheet}
 use Rattle.sheet.specs.PlaceLaws.{noSheetGate}
 use Rattle.level_arrays.specs.Arrays.{FansGood}
 use Rattle.level_arrays.specs.declared.Fans.{Fans}
-use Rattle.level_sheets.specs.Lined.{FansOf, Lined, levelIn}
+use Rattle.level_sheets.specs.Lined.{FansOf, Lined, netLevel}
 use Rattle.level_mapping.specs.FastMapping.{LineRooms}
 use Rattle.level_mapping.specs.FastLaws.{fast-reach, fast-good, fast-more, rooms-more, fast-start, fast-found}
 use Rattle.sheet_lines.proofs.find_lines.Statement.{statement}
@@ -19,7 +19,7 @@ use Rattle.sheet_lines.proofs.find_lines.Tie as tie
 
 abbrev Inv-loop : tie.InvT-loop
 Inv-loop k levels starts₀ counts₀ store₀ sheet gates g₀ starts counts store g =
-    Lined k (levelIn levels) (drawnSheet sheet .gates) g starts counts store × LineRooms starts counts store
+    Lined k (netLevel levels) (drawnSheet sheet .gates) g starts counts store × LineRooms starts counts store
 
 abbrev μ-loop : tie.MeasureT-loop
 μ-loop k levels starts₀ counts₀ store₀ sheet gates g₀ starts counts store g = gates - g
@@ -54,7 +54,7 @@ module _ (c : tie.In-loop Inv-loop μ-loop) where
   inside : turn .loop .g < mostGates
   inside = omega (arith, one-left, gates-most start)
 
-  good : {f : Fans} → FansOf (levelIn (start .args .levels .now)) (turn .loop .starts) (turn .loop .counts)
+  good : {f : Fans} → FansOf (netLevel (start .args .levels .now)) (turn .loop .starts) (turn .loop .counts)
       (drawnGate (start .args .t1 .fanins) (getD (start .args .t1 .gates) (turn .loop .g) noSheetGate) .fanins) f → FansGood (start .args .k) (turn .loop .g) f
   good q = fast-good (start .args .t1) (start .pre .0) (gates-room start) (gates-most start) one-left _ _ _ (turn .loop .inv .0) q
 

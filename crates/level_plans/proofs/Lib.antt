@@ -1,0 +1,9 @@
+pub mod Seeking
+pub mod Halving
+pub mod Summing
+pub mod Drafting
+pub mod Parting
+pub mod Joining
+pub mod Starting
+pub mod Ranging
+pub mod Gating
