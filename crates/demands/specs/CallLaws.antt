@@ -15,10 +15,11 @@ use Rattle.part_records.specs.Trusted.Reservations.{unreserved}
 use Rattle.part.specs.Trusted.Tries.{Purpose, adding, Try, CallResult}
 use Rattle.part.specs.Trusted.Sets.{member, InTurn, all, next, stop, turnedAway}
 use Rattle.part.specs.Trusted.Reservations.{Reserved, Reserves, reservingTry, reservingSheet, withdrawn}
-use Rattle.part.specs.AddLaws.{Kept, AddCase, unsound, misread, driven, read, full, taken, add-case, same-kept, kept-trans, add-reserved, not-refused, refused-stays}
-use Rattle.part.specs.ReserveLaws.{released-sound, aside-kept}
+use Rattle.part.specs.AddLaws.{Kept, AddCase, unsound, misread, driven, read, full, taken, add-case, same-kept, kept-trans, not-refused}
+use Rattle.part.specs.ReserveLaws.{released-sound}
 use Rattle.part.specs.SetLaws.{SetCase, unsound-part, unfit, in-turn, set-case}
 use Rattle.part.specs.declared.Part.{Part}
+use Rattle.demands.specs.KeptLaws.{add-reserved, refused-stays, aside-kept}
 use Rattle.demands.specs.Trusted.Calls.{Call, add, addSet, reserve, commit, withdraw, standsOn, oneSheet, Promise, Chain, done, call, sheetEntries, ifAccepted, acceptedBy}
 use Rattle.demands.specs.Trusted.Demands.{triedOf, OnEachOther, no-try, next-try, TriedSheets, before-any, every, up-to, sets-aside, ReservedAfter}
 use Rattle.demands.specs.ReserveCases.{nothing-reserved, ReserveCase, unsound-reserve, open-reserve, tried-reserve, reserve-case}

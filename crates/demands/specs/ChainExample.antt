@@ -1,5 +1,6 @@
 -- The two adds of 01's example, "List", one after the other on the part that an opening gave, and the two sheets as a set: the promises can
--- be kept, and the part that they leave behind is the one whose list 01 prints (Examples). And sets that are turned down, and reservations.
+-- be kept, and the part that they leave behind is the one whose list 01 prints (Examples). And an add by fewest levels, sets that are turned down,
+-- and reservations.
 use Prim.Native.Nat.{ℕ, _≤_}
 use native.Mathlib.Omega.{arith}
 use mathlib.Core.Path.{_≡_, refl, ap}
@@ -14,8 +15,11 @@ use Rattle.tree.specs.declared.Kind.the-variants.{And as and, Or as or}
 use Rattle.tree.specs.Trusted.Limits.{codeBase}
 use Rattle.tree.specs.Trusted.Tree.{leaf, gate, none, edge}
 use Rattle.cover.specs.Trusted.Cover.{Cover, net, top, end, old, Rooted, rooted, tables, CoverOf, Least, same, split, done, match}
-use Rattle.cover.specs.Trusted.Tables.{LookupTable}
+use Rattle.cover.specs.Trusted.Tables.{LookupTable, codeLevels}
 use Rattle.cover.specs.Trusted.CoverTables.{Circuit, LeastCoverTables}
+use Rattle.levels.specs.Trusted.Levels.{Fastest}
+use Rattle.levels.specs.LineLaws.{greatest-net, greatest-more}
+use Rattle.levels.specs.TieLaws.{one-fastest}
 use Rattle.sheet.specs.Checks.{bytes}
 use Rattle.table.specs.ResultLaws.{says-true}
 use Rattle.part_records.specs.declared.Reservation.{Reservation}
@@ -27,7 +31,7 @@ use Rattle.part.specs.OpenLaws.{opened-shaped, opened-sound}
 use Rattle.part.specs.Trusted.SoundTest.{sound}
 use Rattle.part.specs.Trusted.Reading.{readOf}
 use Rattle.set_lengths.specs.Trusted.Lengths.{isWhole}
-use Rattle.part.specs.Trusted.Ways.{least}
+use Rattle.part.specs.Trusted.Ways.{least, fastest}
 use Rattle.part.specs.Trusted.Answers.{accepted, refused}
 use Rattle.part.specs.Trusted.Tries.{adding, Try, CallResult}
 use Rattle.part.specs.Trusted.Sets.{member, InTurn, turnedAway, AddSet}
@@ -152,6 +156,23 @@ chain = call {c = add least first-text} (add-1, refl) (call {c = add least secon
 ends : final start results ≡ part
 unfolding blanks
 ends = refl
+
+-- ---- fewest levels (02, #107): net 20 has level 1, so the second sheet's root has level 2
+
+fastest-2 : Fastest (codeLevels codeBase table-1) 4 (second .tree) 1 2
+fastest-2 = one-fastest (omega arith) tt (greatest-more (greatest-net false 20) (greatest-net true 5)) least-2
+
+fast-add : Add fastest middle second-text end-part accepted
+unfolding Add sound blanks added-2
+fast-add =
+    rw second-read (1, (2, fastest-2), record { new = table-2; chosen = record { added = added-2 .added; fastest = fastest-2 }; part = refl; answer = refl })
+
+-- after an add in the other way, and the sum has each sheet's number in its own
+both-ways : Chain start (add least first-text ∷ add fastest second-text ∷ []) (oneSheet least first-text start middle accepted ∷ oneSheet fastest second-text middle end-part accepted ∷ [])
+both-ways = call {c = add least first-text} (add-1, refl) (call {c = add fastest second-text} (fast-add, refl) calls.done)
+
+both-total : Total (record { way = least; part = start; sheet = first } ∷ record { way = fastest; part = middle; sheet = second } ∷ []) (part .used)
+both-total = more 1 least-1 (more {e = record { way = fastest; part = middle; sheet = second }} 1 (2, fastest-2) Demands.none)
 
 -- ---- sets (02, #106): the first sheet has 88 bytes, the second 38
 

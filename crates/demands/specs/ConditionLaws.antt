@@ -22,7 +22,8 @@ use Rattle.part.specs.WayLaws.{reading-right, number-unique, chosen-number}
 use Rattle.part.specs.Trusted.Answers.{Answer, accepted, refused}
 use Rattle.part.specs.Trusted.Add.{opened, isDriven, isRead, Add}
 use Rattle.part.specs.OpenLaws.{opened-cases}
-use Rattle.part.specs.AddLaws.{driven-reflects, read-reflects, AddCase, unsound, misread, driven, read, full, taken, add-case, not-refused, refused-stays}
+use Rattle.part.specs.AddLaws.{driven-reflects, read-reflects, AddCase, unsound, misread, driven, read, full, taken, add-case, not-refused}
+use Rattle.demands.specs.KeptLaws.{refused-stays}
 use Rattle.demands.specs.Determined as Determined
 use Rattle.demands.specs.Determined.{numberIn, answerOf}
 use Rattle.demands.specs.DeterminedLaws.{number-is, add-answer}

@@ -1,4 +1,5 @@
 pub mod Trusted
+pub mod KeptLaws
 pub mod ReserveCases
 pub mod TryLaws
 pub mod CallLaws

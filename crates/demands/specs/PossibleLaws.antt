@@ -1,6 +1,6 @@
 -- Every promise of a call can be kept: for each part and each call there is a result that keeps it.
 -- The tables of any cover can be numbered so that each stands after those that it reads: gates below come first, the root's last.
-use Prim.Native.Nat.{ℕ, zero, suc, _+_, _≤_, _<_}
+use Prim.Native.Nat.{ℕ, zero, suc, _+_, _≤_, _<_, max}
 use native.Mathlib.Omega.{arith}
 use mathlib.Core.Path.{_≡_, refl, sym, ap, ap₂, _∙_, subst}
 use mathlib.Core.Bool.{Bool, true, false}
@@ -18,18 +18,19 @@ use Rattle.tree.specs.declared.Kind.{Kind}
 use Rattle.tree.specs.Trusted.Tree.{Node, Edges}
 use Rattle.cover.specs.Trusted.Cover.{Cover, net, top, Fanins, end, old, new, pick, arity, frontier, tables, tables*, width, widths, Fits, Fits*, SplitOf, split, Matched, done, match, Rooted, rooted, CoverOf, Least}
 use Rattle.cover.specs.Nets.{nets, nets*, split-nets}
-use Rattle.cover.specs.Trusted.Tables.{LookupTable, Placed, numbered}
+use Rattle.cover.specs.Trusted.Tables.{LookupTable, Placed, numbered, codeLevels}
 use Rattle.cover.specs.Eval.{numbered-append}
 use Rattle.cover.specs.Trusted.Placed.{rootNumber, placed, code, codes, codes*, gateTable, records, records*}
 use Rattle.cover.specs.Trusted.CoverTables.{Circuit, CoverTables}
 use Rattle.cover.specs.Legal.{Legal}
+use Rattle.levels.specs.Trusted.Levels.{level, levels, Fastest}
 use Rattle.set_lengths.specs.Trusted.Lengths.{isWhole, cut}
 use Rattle.set_lengths.specs.LengthLaws.{whole-reflects}
 use Rattle.part.specs.Trusted.Parts.{tablesOf, available, withReservation, released}
 use Rattle.part.specs.Trusted.Sound.{Sound}
 use Rattle.part.specs.SoundLaws.{sound-reflects}
 use Rattle.part.specs.Readable.{Readable}
-use Rattle.part.specs.Trusted.Ways.{Way, least, reading, NumberBy, Chosen}
+use Rattle.part.specs.Trusted.Ways.{Way, least, fastest, reading, NumberBy, Chosen}
 use Rattle.part.specs.WayLaws.{reading-right}
 use Rattle.part.specs.Trusted.Answers.{Answer, accepted, refused}
 use Rattle.part.specs.Trusted.Add.{extended, isRead, Refused, Accepted, Fill, Offer, Take, Add}
@@ -124,6 +125,20 @@ mutual
   mark-tables* end m = refl
   mark-tables* (old i c fs) m = ap₂ _+_ (mark-tables c m) (mark-tables* fs (m + tables c))
   mark-tables* (new j s fs) m = ap₂ _+_ (ap₂ _+_ (repick j (m + tables* s) 0 1) (mark-tables* s m)) (mark-tables* fs (m + (pick j 0 1 + tables* s)))
+
+marked-level : (j n : ℕ) {a b : ℕ} → a ≡ b → pick (marked j n) a (1 + a) ≡ pick j b (1 + b)
+marked-level j n {a} {b} e = repick j n a (1 + a) ∙ ap (λ l. pick j l (1 + l)) e
+
+module _ (lev : ℕ → ℕ) where
+  mutual
+    mark-level : (c : Cover) (m : ℕ) → level lev (mark c m) ≡ level lev c
+    mark-level (net n) m = refl
+    mark-level (top j k fs) m = marked-level j (m + tables* fs) (mark-levels fs m)
+
+    mark-levels : (fs : Fanins) (m : ℕ) → levels lev (mark* fs m) ≡ levels lev fs
+    mark-levels end m = refl
+    mark-levels (old i c fs) m = ap₂ max (mark-level c m) (mark-levels fs (m + tables c))
+    mark-levels (new j s fs) m = ap₂ max (marked-level j (m + tables* s) (mark-levels s m)) (mark-levels fs (m + (pick j 0 1 + tables* s)))
 
 module _ (K : ℕ) where
   narrow : (j n w v : ℕ) → w ≡ v → pick j (Unit {0}) (v ≤ K) → pick (marked j n) (Unit {0}) (w ≤ K)
@@ -229,9 +244,9 @@ module _ (base : ℕ) where
         (low-gate j (m + tables* s) 0 false k (mark* s m) (mark-low* s m k (every-left (nets* s) (nets* fs) h)))
         (mark-low* fs n k (every-right (nets* s) (nets* fs) h)))
 
-  -- the tables of any cover of the sheet can be added
+  -- the tables of any cover of the sheet can be added, and have its levels
   pub cover-added : (K : ℕ) (olds : List LookupTable) (s : Circuit) → Legal base s → (c : Cover) → CoverOf K (s .tree) c →
-      (news : List LookupTable) × CoverTables base K olds news s × (length news ≡ tables c)
+      (news : List LookupTable) × (a : CoverTables base K olds news s) × (length news ≡ tables c) × ((lev : ℕ → ℕ) → level lev (a .cover) ≡ level lev c)
   cover-added K olds s legal c h =
       let m = length olds in
       let l = mark-lined c m (s .out) (s .inverted) in
@@ -246,6 +261,7 @@ module _ (base : ℕ) where
           last = r .1 ∙ ap (λ n. m + n) (sym (l .2));
         },
         l .2,
+        λ lev. mark-level lev c m,
       )
 
 -- ---- the promises can be kept
@@ -255,6 +271,16 @@ chosen-possible least p s n r l =
     let c = l .some in
     let a = cover-added codeBase (p .k) (tablesOf p) s (r .legal) (c .0) (c .1) in
     (a .0, record { added = a .1; fewest = subst (λ m. Least (p .k) (s .tree) m) (sym (a .2 ∙ c .2)) l })
+chosen-possible fastest p s n r (d, f) =
+    let c = f .some in
+    let a = cover-added codeBase (p .k) (tablesOf p) s (r .legal) (c .0) (c .1) in
+    let lev = codeLevels codeBase (tablesOf p) in (
+      a .0,
+      record {
+        added = a .1;
+        fastest = subst (λ e. Fastest lev (p .k) (s .tree) (length (a .0)) e) (sym (a .3 lev ∙ c .2)) (subst (λ m. Fastest lev (p .k) (s .tree) m d) (sym (a .2 ∙ c .3)) f);
+      },
+    )
 
 module _ (w : Way) (p : Part) (text : List ℕ) where
   offer-possible : Sound p → (s : Circuit) → Readable s → (q : Part) × (a : Answer) × Offer w p s q a

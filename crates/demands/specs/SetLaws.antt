@@ -68,12 +68,12 @@ turn-all (next x t) e = let y = turn-all t e in (one-added x (y .0), y .1)
 turn-all (stop x) e = absurd (not-refused refl e)
 
 -- a sheet whose condition holds on a part that is alike
-alike-told : {p p′ : Part} {text : List ℕ} (q : Part) (a : Answer) {number place : ℕ} → Alike p p′ → Add least p text q a → AddCondition least p′ text number place →
+alike-told : {p p′ : Part} {text : List ℕ} (q : Part) (a : Answer) {number place : ℕ} → Alike least p p′ → Add least p text q a → AddCondition least p′ text number place →
     a ≡ refused number place
 alike-told {p} {p′} {text} q a g x c = add-answer least p text q a x ∙ alike-answer least p p′ text g ∙ condition-answer least p′ text c
 
 turn-stops : {o : Part} {i : ℕ} {ahead : List (List ℕ)} {one : List ℕ} (rest : List (List ℕ)) {p p′ q : Part} {r : CallResult} {number place : ℕ} →
-    AddedAll p′ ahead q → AddCondition least q one number place → InTurn o i (ahead ++ one ∷ rest) p r → Shaped p → Shaped p′ → Alike p p′ →
+    AddedAll p′ ahead q → AddCondition least q one number place → InTurn o i (ahead ++ one ∷ rest) p r → Shaped p → Shaped p′ → Alike least p p′ →
     (r .answer ≡ refused number place) × (r .position ≡ i + length ahead)
 turn-stops rest none-added c (next {q = q} x t) f f′ g = absurd (not-refused (alike-told q accepted g x c) refl)
 turn-stops rest none-added c (stop {q = q} x) f f′ g = (alike-told q _ g x c, omega arith)
@@ -85,7 +85,7 @@ turn-stops rest (one-added {p = p′} {q = q′} y b) c (stop {text = text} {p =
     absurd (not-refused refl (add-alike least p p′ f f′ g text q q′ (refused _ _) accepted x y .0))
 
 turn-whole : {o : Part} {i : ℕ} {sheets : List (List ℕ)} {p p′ q : Part} {r : CallResult} → InTurn o i sheets p r → AddedAll p′ sheets q → Shaped p → Shaped p′ →
-    Alike p p′ → r .answer ≡ accepted
+    Alike least p p′ → r .answer ≡ accepted
 turn-whole all none-added f f′ g = refl
 turn-whole (next {text = text} {p = p} {q = q} x t) (one-added {p = p′} {q = q′} y b) f f′ g =
     turn-whole t b (add-shaped least p f text q accepted x) (add-shaped least p′ f′ text q′ accepted y)
@@ -124,7 +124,7 @@ module _ (p : Part) (shape : Shaped p) (lengths text : List ℕ) (r : CallResult
   condition-told (in-turn s w t) (part-bad m) = absurd (m s)
   condition-told (in-turn s w t) (not-whole h m) = absurd (m w)
   condition-told (in-turn s w t) (of-sheet h v ahead one rest i q b m l c) =
-      let z = turn-stops rest b c (subst (λ x. InTurn p 1 x p r) i t) shape shape (alike-refl p) in
+      let z = turn-stops rest b c (subst (λ x. InTurn p 1 x p r) i t) shape shape (alike-refl least p) in
       (z .0, omega (arith, z .1))
 
   accepted-all : SetCase p lengths text r → r .answer ≡ accepted → Sound p × Whole lengths (length text) × AddedAll p (cut lengths text) (r .part) × (r .position ≡ 0)
@@ -135,7 +135,7 @@ module _ (p : Part) (shape : Shaped p) (lengths text : List ℕ) (r : CallResult
   all-accepted : SetCase p lengths text r → Sound p → Whole lengths (length text) → (q : Part) → AddedAll p (cut lengths text) q → r .answer ≡ accepted
   all-accepted (unsound-part n e) s w q b = absurd (n s)
   all-accepted (unfit s n e) h w q b = absurd (n w)
-  all-accepted (in-turn s w t) h v q b = turn-whole t b shape shape (alike-refl p)
+  all-accepted (in-turn s w t) h v q b = turn-whole t b shape shape (alike-refl least p)
 
   pub set-told : AddSet p lengths text r → SetTold p lengths text r
   set-told h =

@@ -11,9 +11,12 @@ use mathlib.Core.List.{List, [], _∷_, map}
 use lib.ListN.{length}
 use Rattle.lists.specs.Trusted.Lists.{Every}
 use Rattle.lists.specs.ListLaws.{every-none, every-cons}
+use Rattle.tree.specs.Trusted.Limits.{codeBase}
+use Rattle.cover.specs.Trusted.Tables.{codeLevels}
+use Rattle.table.specs.Trusted.Rules.{IsNet}
 use Rattle.part.specs.Trusted.Parts.{tablesOf, Shaped}
 use Rattle.part.specs.Trusted.Sound.{Sound}
-use Rattle.part.specs.Trusted.Ways.{least}
+use Rattle.part.specs.Trusted.Ways.{Way, least, fastest}
 use Rattle.part.specs.Trusted.Answers.{accepted, refused}
 use Rattle.part.specs.Trusted.Add.{opened, Add}
 use Rattle.part.specs.Trusted.AddAnswers.{addingAnswer, addingResult}
@@ -40,6 +43,7 @@ use Rattle.list_reading.specs.Trusted.ReadList.{readResult}
 use Rattle.list_reading.specs.ListingLaws.{list-says-all, same-lines}
 use Rattle.list_reading.specs.ReadLaws.{list-read}
 use Rattle.list_reading.specs.ToldLaws.{reading-told}
+use Rattle.demands.specs.Determined.{AddsBy}
 use Rattle.demands.specs.DeterminedLaws.{alike-refl, seen, answers-determined}
 use Rattle.demands.specs.PossibleLaws.{chain-possible}
 
@@ -134,10 +138,16 @@ unsound-start {p} (call {c = c} {r = r} {rs = rs} h t) n =
     let e = unsound-call p c r h n in
     every-cons e (subst (λ q. Every (λ x. (x .part ≡ q) × (x .answer ≡ refused 20 0)) rs) (e .0) (unsound-start t (subst (λ q. ¬ (Sound q)) (sym (e .0)) n)))
 
--- all answers of a list are settled, with the positions of refused sheets, whatever covers were taken
-pub same-answers : (p : Part) → Shaped p → (cs : List Call) (rs ts : List CallResult) → Chain p cs rs → Chain p cs ts →
+-- all answers of a list of calls that add in one way are settled, with the positions of refused sheets, whatever covers were taken. With adds of both
+-- ways in it they need not be: which least cover is taken is free, and so is the level of the net that it drives.
+pub same-answers : (w : Way) (p : Part) → Shaped p → (cs : List Call) → Every (AddsBy w) cs → (rs ts : List CallResult) → Chain p cs rs → Chain p cs ts →
     map seen rs ≡ map seen ts
-same-answers p f cs rs ts h g = answers-determined h g f f (alike-refl p) .0
+same-answers w p f cs b rs ts h g = answers-determined w b h g f f (alike-refl w p) .0
+
+-- and where each is added with its fewest levels, so is the level of every net at the end
+pub same-levels : (p : Part) → Shaped p → (cs : List Call) → Every (AddsBy fastest) cs → (rs ts : List CallResult) → Chain p cs rs → Chain p cs ts →
+    (n : ℕ) → IsNet n → codeLevels codeBase (tablesOf (final p rs)) n ≡ codeLevels codeBase (tablesOf (final p ts)) n
+same-levels p f cs b rs ts h g = answers-determined fastest b h g f f (alike-refl fastest p) .1 .levels
 
 -- and no promise is contradictory
 pub promises-possible : (p : Part) (cs : List Call) → (rs : List CallResult) × Chain p cs rs

@@ -19,8 +19,9 @@ use Rattle.part.specs.Trusted.Add.{Accepted, Add}
 use Rattle.part.specs.Trusted.Tries.{Purpose, adding, reserving, Try}
 use Rattle.part.specs.Trusted.Reservations.{SetAside, Reserved, Reserves}
 use Rattle.part.specs.ExtendedLaws.{extended-inUse, extended-tables}
-use Rattle.part.specs.AddLaws.{Kept, AddCase, unsound, misread, driven, read, full, taken, add-case, kept, same-kept, kept-trans, add-reserved, not-refused}
+use Rattle.part.specs.AddLaws.{Kept, AddCase, unsound, misread, driven, read, full, taken, add-case, kept, same-kept, kept-trans, not-refused}
 use Rattle.part.specs.declared.Part.{Part}
+use Rattle.demands.specs.KeptLaws.{add-reserved}
 use Rattle.demands.specs.Trusted.Calls.{SheetEntry, entered, sheetEntries}
 use Rattle.demands.specs.Trusted.Demands.{Passes, Total, none, more, Taken, Brings, RoomTold, Accounted, OnEachOther, no-try, next-try}
 

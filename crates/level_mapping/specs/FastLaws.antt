@@ -28,8 +28,9 @@ use Rattle.level_sheets.specs.Asking.{demandAt, demandsOf, Asking, AskedOf}
 use Rattle.level_sheets.specs.AskingLaws.{is-asked, asking-falls, asking-kept, asking-next, demands-at}
 use Rattle.level_sheets.specs.RootLaws.{root-some, root-fastest, root-demand, asking-start, asking-end}
 use Rattle.mapper_laws.specs.declared.Mapping.{Mapping}
+use Rattle.mapper_laws.specs.CodeMap.{Sheetable}
 use Rattle.level_mapping.specs.PlanMapped.{MappedWithin}
-use Rattle.level_mapping.specs.FastMapping.{NetsLow, LinesFound, LineRooms, FirstLineHad, FirstLine, PlansChosen, FastMapped}
+use Rattle.level_mapping.specs.FastMapping.{NetsLow, LevelsLow, LinesFound, LineRooms, FirstLineHad, FirstLine, PlansChosen, FastMapped}
 
 -- THE END: a cover within the least level and then the fewest tables has them
 pub fast-mapped : {K used : ℕ} {lev : ℕ → ℕ} {s : Sheet} {r : Mapping} (bound below : ℕ) → Fastest lev K (treeOf (drawnSheet s)) (suc below) (suc bound) →
@@ -43,6 +44,15 @@ fast-mapped {K} {lev = lev} {s} {r} bound below f m = record {
       let d : suc bound ≡ level lev (x .cover) = omega (arith, f .none-lower (x .cover) (x .covers), h) in
       let c : suc below ≡ r .count = omega (arith, f .none-fewer (x .cover) (x .covers) (sym d), t, n) in
       (x, subst (λ y. Fastest lev K (treeOf (drawnSheet s)) y (level lev (x .cover))) c (subst (λ y. Fastest lev K (treeOf (drawnSheet s)) (suc below) y) d f));
+}
+
+-- every net of a sheet has a level that is not high
+pub nets-low : {K used : ℕ} {s : Sheet} {levels : List ℕ} → Sheetable K used s → LevelsLow levels → NetsLow K s levels
+nets-low p l = record {
+  table = p .table;
+  formed = p .formed;
+  inside = λ n m. let b = p .formed .leaf-nets n m in omega (arith, l .places);
+  low = λ n m. l .low n;
 }
 
 module _ {K : ℕ} (c : Sheet) {levels : List ℕ} (low : NetsLow K c levels) (room : length (c .gates) ≡ mostGates) (most : c .count ≤ mostGates) where

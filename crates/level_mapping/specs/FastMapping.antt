@@ -4,7 +4,7 @@ use mathlib.Core.Path.{_≡_}
 use mathlib.Core.List.{List}
 use lib.ListN.{length, getD}
 use Rattle.lists.specs.Trusted.Lists.{Every}
-use Rattle.tree.specs.Trusted.Limits.{codeBase}
+use Rattle.tree.specs.Trusted.Limits.{codeBase, greatestNet}
 use Rattle.cover.specs.Trusted.Tables.{LookupTable}
 use Rattle.cover.specs.Trusted.CoverTables.{CoverTables}
 use Rattle.plan.specs.declared.Plan.{Plan}
@@ -31,6 +31,11 @@ pub record NetsLow (K : ℕ) (s : Sheet) (levels : List ℕ) : Type 0 where
   pub formed : WellFormed (drawnSheet s)
   pub inside : Every (λ n. n < length levels) (leafNets (drawnSheet s .gates))
   pub low : LowNets (netLevel levels) (drawnSheet s .gates)
+
+-- the levels of all nets, none of which is high: a part has at most 800 tables
+pub record LevelsLow (levels : List ℕ) : Type 0 where
+  pub places : greatestNet < length levels
+  pub low : (n : ℕ) → getD levels n 0 ≤ 1000
 
 -- the lines of all its gates
 abbrev pub LinesFound : (K : ℕ) → Sheet → (levels starts counts store : List ℕ) → Type 0

@@ -1,7 +1,7 @@
 -- The cases of an add; and that it keeps soundness, the shape, K and the capacity.
 use Prim.Native.Nat.{ℕ, _+_, _≤_, _<_}
 use native.Mathlib.Omega.{arith}
-use mathlib.Core.Path.{_≡_, refl, sym, ap, _∙_, subst}
+use mathlib.Core.Path.{_≡_, refl, sym, _∙_, subst}
 use mathlib.Core.List.{List}
 use lib.Dec.{eqb}
 use lib.ListN.{length}
@@ -108,27 +108,6 @@ module _ (p : Part) (shape : Shaped p) where
       narrow = every-numbered (λ u. length (u .inputs) ≤ inputRoom) (length (tablesOf p)) (t .new)
           (λ x m. omega (arith, h .k-range .1, added-sized codeBase (p .k) (tablesOf p) (t .new) s added x m .most))
 
--- an add leaves what is reserved
-pub add-reserved : {w : Way} {p : Part} {text : List ℕ} {q : Part} {a : Answer} → AddCase w p text q a → q .reservation ≡ p .reservation
-add-reserved (unsound n r) = ap (λ q. q .reservation) (r .0)
-add-reserved (misread number place h e r) = ap (λ q. q .reservation) (r .0)
-add-reserved (driven s h e d r) = ap (λ q. q .reservation) (r .0)
-add-reserved (read s h e d i r) = ap (λ q. q .reservation) (r .0)
-add-reserved (full s n h e f l m r) = ap (λ q. q .reservation) (r .0)
-add-reserved (taken s h e f t room) = ap (λ q. q .reservation) (t .part)
-
 -- two answers
 pub not-refused : {number place : ℕ} {a : Answer} → a ≡ refused number place → a ≡ accepted → ⊥
 not-refused e f = let z : _≡_ {A = ℕ} 0 1 = cc in omega arith
-
--- an add that is turned down hands back the part that it got
-pub refused-stays : (w : Way) (p : Part) (text : List ℕ) (q : Part) (a : Answer) (number place : ℕ) → Add w p text q a → a ≡ refused number place → q ≡ p
-refused-stays w p text q a number place h e = go (add-case w p text q a h)
-  where
-    go : AddCase w p text q a → q ≡ p
-    go (unsound n r) = r .0
-    go (misread n l g i r) = r .0
-    go (driven s g i d r) = r .0
-    go (read s g i d j r) = r .0
-    go (full s n g i f l m r) = r .0
-    go (taken s g i f t room) = absurd (not-refused e (t .answer))

@@ -1,6 +1,5 @@
--- Reserving, committing and withdrawing: what the functions hand over keeps the promise; the cases of each; and that each keeps soundness, the
--- shape, K and the capacity.
-use Prim.Native.Nat.{ℕ, _+_, _-_, _≤_, _<_}
+-- Reserving, committing and withdrawing: what the functions hand over keeps the promise.
+use Prim.Native.Nat.{ℕ, _+_, _-_, _≤_}
 use native.Mathlib.Omega.{arith}
 use mathlib.Core.Path.{_≡_, refl, sym, ap, subst}
 use mathlib.Core.Logic.{_≢_}
@@ -12,24 +11,23 @@ use lib.ListN.{length}
 use Rattle.lists.specs.Trusted.Tests.{Reflects}
 use Rattle.lists.specs.TestLaws.{reflects-eq, reflects-not, reflects-true}
 use Rattle.lists.specs.Trusted.Checked.{passed, refused as unread, _>>=_}
-use Rattle.tree.specs.Trusted.Limits.{codeBase}
 use Rattle.cover.specs.Trusted.CoverTables.{Circuit}
 use Rattle.sheet.specs.Trusted.Sheet.{DrawnSheet}
 use Rattle.sheet.specs.Trusted.Read.{readSheet}
 use Rattle.joined.specs.Trusted.Covered.{covered}
 use Rattle.part_records.specs.ReservationLaws.{none-reservable}
-use Rattle.part.specs.Trusted.Parts.{withReservation, released, Shaped}
+use Rattle.part.specs.Trusted.Parts.{withReservation, released}
 use Rattle.part.specs.Trusted.Sound.{Sound}
 use Rattle.part.specs.Trusted.SoundTest.{sound}
 use Rattle.part.specs.Trusted.Reading.{readOf}
 use Rattle.part.specs.Trusted.Ways.{least, NumberBy}
-use Rattle.part.specs.WayLaws.{reading-right, number-unique, some-tables, chosen-number}
+use Rattle.part.specs.WayLaws.{chosen-number}
 use Rattle.part.specs.Trusted.Answers.{Answer, accepted, refused}
 use Rattle.part.specs.Trusted.Add.{Offer, Add}
 use Rattle.part.specs.Trusted.Tries.{CallResult}
 use Rattle.part.specs.Trusted.Sets.{member, all, next, stop, turnedAway}
-use Rattle.part.specs.Trusted.Reservations.{isOpen, SetAside, Reserves, reservingSheet, Reserve, isOther, Committed, Commit, withdrawn}
-use Rattle.part.specs.AddLaws.{Kept, AddCase, unsound, misread, driven, read, full, taken, add-case, not-refused}
+use Rattle.part.specs.Trusted.Reservations.{isOpen, Reserves, reservingSheet, Reserve, isOther, Committed, Commit, withdrawn}
+use Rattle.part.specs.AddLaws.{AddCase, unsound, misread, driven, read, full, taken, add-case, not-refused}
 use Rattle.part.specs.StoringLaws.{add-misread, add-offered}
 use Rattle.part.specs.declared.Part.{Part}
 
@@ -159,39 +157,3 @@ module _ (p : Part) where
     pub withdraw-open : p .reservation .count ≢ 0 → record { part = released p; answer = accepted; position = 0; tries = [] } ≡ withdrawn p
     unfolding withdrawn
     withdraw-open n = rw (h, is-open p n)
-
--- ---- what a reservation leaves as it was
-
-module _ (p : Part) (shape : Shaped p) (text : List ℕ) (o : Part) (h : Add least p text o accepted) where
-  pub aside-kept : (q : Part) → SetAside least p text q → Kept p q
-  aside-kept q a = subst (Kept p) (sym (a .part)) (record {
-    same-k = refl;
-    same-capacity = refl;
-    shaped = record { records = shape .records; inputs = shape .inputs };
-    sound = λ s. record {
-      k-range = s .k-range;
-      capacity-range = s .capacity-range;
-      used-fits = s .used-fits;
-      rest-blank = s .rest-blank;
-      rules = s .rules;
-      reservation = record {
-        fits = of (add-case least p text o accepted h);
-        both = (λ e. absurd (omega (arith, some-tables least p (a .sheet) (a .count) (a .number), e)), λ e. absurd (omega (arith, net .0, e)));
-        range = omega (arith, net .1);
-      };
-    };
-  })
-    where
-      net : (0 < a .sheet .out) × (a .sheet .out < codeBase)
-      net = reading-right least text (a .sheet) (a .read) .legal .out-net
-
-      of : AddCase least p text o accepted → a .count ≤ p .capacity - p .used
-      of (unsound n r) = absurd (not-refused (r .1) refl)
-      of (misread number place g i r) = absurd (not-refused (r .1) refl)
-      of (driven u g i d r) = absurd (not-refused (r .1) refl)
-      of (read u g i d j r) = absurd (not-refused (r .1) refl)
-      of (full u n g i f l m r) = absurd (not-refused (r .1) refl)
-      of (taken u g i f t room) =
-          let e = a .read in
-          let same : u ≡ a .sheet = cc in
-          omega (arith, room, number-unique least p (a .sheet) (a .number) (subst (λ v. NumberBy least p v (length (t .new))) same (chosen-number least p u (t .new) (t .chosen))))

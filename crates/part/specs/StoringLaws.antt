@@ -8,12 +8,11 @@ use mathlib.Core.Logic.{⊎-elim}
 use mathlib.Core.List.{List, [], _∷_, _++_, append-assoc, map}
 use borrow.Author.Tests.{le-leb, lt-leb}
 use lib.Dec.{eqb}
-use lib.ListN.{length, getD, take, drop, length-append, length-map, List·getD-map}
+use lib.ListN.{length, getD, take, drop, replicate, length-append, length-map, length-replicate, List·getD-map}
 use lib.Seq.{take-length, take-suc, length-take-le, getD-take}
 use Rattle.lists.specs.ListLaws.{every-at}
 use Rattle.lists.specs.Trusted.Tests.{any, elem}
 use Rattle.lists.specs.TestLaws.{reflects-true}
-use Rattle.lists.specs.Trusted.Lists.{Every}
 use Rattle.tree.specs.Trusted.Limits.{greatestNet, codeBase}
 use Rattle.lists.specs.Trusted.Checked.{passed, refused as unread, _>>=_}
 use Rattle.cover.specs.Trusted.Tables.{LookupTable, tableLevel, codeLevels}
@@ -26,6 +25,7 @@ use Rattle.sheet.specs.declared.ReadAnswer.{ReadAnswer as CodeAnswer}
 use Rattle.sheet.specs.declared.ReadResult.{ReadResult as CodeReading}
 use Rattle.sheet.specs.Trusted.Read.{readSheet}
 use Rattle.sheet.specs.Trusted.Answers.{drawnSheet, answered}
+use Rattle.sheet.specs.Trusted.Formed.{WellFormed}
 use Rattle.sheet.specs.Trusted.Promise.{SheetRead}
 use Rattle.joined.specs.Trusted.Covered.{covered}
 use Rattle.table.specs.declared.Table.{Table}
@@ -40,18 +40,20 @@ use Rattle.pending.specs.declared.Lut.{Lut}
 use Rattle.pending.specs.Luts.{lutReads, lutTable}
 use Rattle.mapper_laws.specs.declared.Mapping.{Mapping}
 use Rattle.mapper_laws.specs.CodeRun.{noTable}
-use Rattle.mapper_laws.specs.CodeMap.{SheetMapped}
+use Rattle.mapper_laws.specs.CodeMap.{Sheetable}
+use Rattle.joined_mapper.specs.JoinedMap.{circuitOf, JoinedMapped}
 use Rattle.part.specs.Trusted.Parts.{inUse, tablesOf, available, Shaped}
 use Rattle.part.specs.Trusted.Sound.{Sound}
 use Rattle.part.specs.Trusted.SoundTest.{sound}
 use Rattle.part.specs.SoundLaws.{sound-reflects, used-count}
 use Rattle.part.specs.Trusted.Reading.{readOf}
 use Rattle.part.specs.Trusted.Answers.{Answer, accepted, refused}
-use Rattle.part.specs.Trusted.Ways.{least}
-use Rattle.part.specs.Trusted.Add.{extended, isDriven, isRead, Offer, Add}
+use Rattle.part.specs.Trusted.Ways.{Way, least, NumberBy}
+use Rattle.part.specs.WayLaws.{chosen-number}
+use Rattle.part.specs.Trusted.Add.{extended, isDriven, isRead, Fill, Offer, Add}
 use Rattle.part.specs.Trusted.AddAnswers.{addingAnswer}
 use Rattle.part.specs.ExtendedLaws.{extended-tables}
-use Rattle.part.specs.Storing.{circuitOf, JoinedMapped, newTables, newRecords, stored}
+use Rattle.part.specs.Storing.{newTables, newRecords, stored, Storable, Offered}
 use Rattle.part.specs.declared.Part.{Part}
 use Rattle.part.specs.declared.Adding.{Adding}
 use Rattle.part.specs.declared.Added.{Added}
@@ -95,19 +97,16 @@ module _ {p : Part} {n i : ℕ} {u : Uses} (h : Looked p n i u) (room : p .used 
 
 -- ---- 21 and 22
 
-module _ (p : Part) (s : Circuit) where
-  pub offer-driven : isDriven (s .out) (tablesOf p) ≡ true → Offer least p s p (refused 21 0)
-  offer-driven d = rw d (refl, refl)
+module _ (p : Part) (out : ℕ) (m : Mapping) where
+  pub offer-driven : isDriven out (tablesOf p) ≡ true → Offered p out m p (refused 21 0)
+  offer-driven d w s o c = rw (ap (λ n. isDriven n (tablesOf p)) o ∙ d) (refl, refl)
 
-  pub offer-read : isDriven (s .out) (tablesOf p) ≡ false → isRead (s .out) (tablesOf p) ≡ true → Offer least p s p (refused 22 0)
-  offer-read d r = rw d (rw r (refl, refl))
+  pub offer-read : isDriven out (tablesOf p) ≡ false → isRead out (tablesOf p) ≡ true → Offered p out m p (refused 22 0)
+  offer-read d r w s o c = rw (ap (λ n. isDriven n (tablesOf p)) o ∙ d) (rw (ap (λ n. isRead n (tablesOf p)) o ∙ r) (refl, refl))
 
 -- ---- 23, and the mapping's records stored
 
-module _ (p : Part) (shape : Shaped p) (h : Sound p) (s : CodeSheet) (m : Mapping) (j : JoinedMapped (p .k) (p .used) s m) where
-  abbrev g : SheetMapped (p .k) (p .used) (j .sheet) m
-  g = j .mapped
-
+module _ (p : Part) (shape : Shaped p) (h : Sound p) (out : ℕ) (m : Mapping) (g : Storable out m) where
   abbrev new : List LookupTable
   new = newTables m
 
@@ -122,15 +121,6 @@ module _ (p : Part) (shape : Shaped p) (h : Sound p) (s : CodeSheet) (m : Mappin
 
   old-count : length (tablesOf p) ≡ p .used
   old-count = length-map (inUse p) tableOf ∙ used-count p shape h
-
-  new-least : LeastCoverTables codeBase (p .k) (tablesOf p) new (circuitOf s)
-  new-least = subst (LeastCoverTables codeBase (p .k) (tablesOf p) new) (j .covers) (g .least (tablesOf p) old-count)
-
-  -- a new table drives no net or the sheet's
-  new-nets : s .out ≤ greatestNet → Every (λ t. t .drives ≤ greatestNet) new
-  new-nets o =
-      every-numbered (λ t. t .drives ≤ greatestNet) (length (tablesOf p)) new
-      (λ q i. ⊎-elim (λ z. omega (arith, z)) (λ d. omega (arith, d .0, o)) (added-tidy codeBase (p .k) (tablesOf p) new (circuitOf s) (new-least .added) q i .0))
 
   -- ONE MORE RECORD is stored: the levels of the codes before it give its level
   module _ (levels : List ℕ) (n : ℕ) (l : n < m .count) (st : LevelsStand levels (tablesOf p ++ take n new)) where
@@ -153,13 +143,13 @@ module _ (p : Part) (shape : Shaped p) (h : Sound p) (s : CodeSheet) (m : Mappin
         ∙ ap (λ t. recordOf (tableLevel t (codeLevels codeBase (tablesOf p ++ take n new))) t) (sym is-new)
         ∙ sym (after-at (tablesOf p) new n blank (lutTable noTable) (omega (arith, l, new-count)))
 
-    pub store-levels : s .out ≤ greatestNet → p .used + n < tableRoom → LevelsStand (noted levels (p .used + n) (lut .net) level) (tablesOf p ++ take (n + 1) new)
-    store-levels o room =
+    pub store-levels : p .used + n < tableRoom → LevelsStand (noted levels (p .used + n) (lut .net) level) (tablesOf p ++ take (n + 1) new)
+    store-levels room =
         subst (LevelsStand (noted levels (p .used + n) (lut .net) level)) more
         (subst (λ x. LevelsStand (noted levels (p .used + n) (lut .net) x) (ts ++ lutTable lut ∷ [])) (sym level-is)
         (subst (λ i. LevelsStand (noted levels i (lut .net) (tableLevel (lutTable lut) (codeLevels codeBase ts))) (ts ++ lutTable lut ∷ [])) count
         (levels-next levels ts st (lutTable lut) (omega (arith, count, room))
-        (subst (λ t. t .drives ≤ greatestNet) is-new (every-at {P = λ t. t .drives ≤ greatestNet} new n (lutTable noTable) (new-nets o) (omega (arith, l, new-count)))))))
+        (subst (λ t. t .drives ≤ greatestNet) is-new (every-at {P = λ t. t .drives ≤ greatestNet} new n (lutTable noTable) (g .drives) (omega (arith, l, new-count)))))))
       where
         ts : List LookupTable
         ts = tablesOf p ++ take n new
@@ -186,25 +176,55 @@ module _ (p : Part) (shape : Shaped p) (h : Sound p) (s : CodeSheet) (m : Mappin
       subst (LevelsStand levels) (sym (ap tablesOf stored-extended ∙ extended-tables p shape h new))
       (subst (λ ts. LevelsStand levels (tablesOf p ++ ts)) (ap (λ n. take n new) (sym new-count) ∙ take-length new) st)
 
-  module _ (d : isDriven (s .out) (tablesOf p) ≡ false) (r : isRead (s .out) (tablesOf p) ≡ false) where
-    pub offer-full : available p < m .count → Offer least p (circuitOf s) p (refused 23 0)
-    offer-full l =
-        rw d (rw r (length new, new-least .fewest, rw (lt-leb (length new) (available p) (omega (arith, l, new-count))) (refl, refl)))
+  module _ (d : isDriven out (tablesOf p) ≡ false) (r : isRead out (tablesOf p) ≡ false) where
+    -- it is neither driven nor read, and its number is that of the mapping
+    offer-room : (w : Way) (s : Circuit) → s .out ≡ out → NumberBy w p s (length new) → (q : Part) (a : Answer) → Fill w p s (length new) q a → Offer w p s q a
+    offer-room w s o n q a f = rw (ap (λ n. isDriven n (tablesOf p)) o ∙ d) (rw (ap (λ n. isRead n (tablesOf p)) o ∙ r) (length new, n, f))
 
-    pub offer-stored : m .count ≤ available p → Offer least p (circuitOf s) (stored p m) accepted
-    offer-stored l =
-        rw d (rw r (
-          length new,
-          new-least .fewest,
-          rw (le-leb (length new) (available p) (omega (arith, l, new-count)))
-              (record { new = new; chosen = new-least; part = stored-extended; answer = refl }),
-        ))
+    pub offer-full : available p < m .count → Offered p out m p (refused 23 0)
+    offer-full l w s o c =
+        offer-room w s o (chosen-number w p s new (c old-count)) p (refused 23 0) (rw (lt-leb (length new) (available p) (omega (arith, l, new-count))) (refl, refl))
+
+    pub offer-stored : m .count ≤ available p → Offered p out m (stored p m) accepted
+    offer-stored l w s o c =
+        offer-room w s o (chosen-number w p s new (c old-count)) (stored p m) accepted
+        (rw (le-leb (length new) (available p) (omega (arith, l, new-count))) (record { new = new; chosen = c old-count; part = stored-extended; answer = refl }))
+
+-- ---- a mapping of a sheet in the way `least`
+
+pub sheet-mappable : (p : Part) → Sound p → (s : CodeSheet) → WellFormed (drawnSheet s) → Sheetable (p .k) (p .used) s
+sheet-mappable p h s w = record { table = h .k-range; before = omega (arith, h .used-fits, h .capacity-range .1); formed = w }
+
+module _ (K used : ℕ) (s : CodeSheet) (m : Mapping) (j : JoinedMapped K used s m) where
+  -- its tables are those of a least cover, after any others of that count
+  mapped-least : (old : List LookupTable) → length old ≡ used → LeastCoverTables codeBase K old (newTables m) (circuitOf s)
+  mapped-least old e = subst (LeastCoverTables codeBase K old (newTables m)) (j .covers) (j .mapped .least old e)
+
+  -- a new table drives no net or the sheet's
+  pub mapped-storable : WellFormed (drawnSheet s) → Storable (s .out) m
+  mapped-storable w = record {
+    net = w .out-net;
+    room = j .mapped .room;
+    few = j .mapped .few;
+    kept = j .mapped .kept;
+    drives = every-numbered (λ t. t .drives ≤ greatestNet) (length olds) (newTables m)
+        (λ q i. ⊎-elim (λ z. omega (arith, z)) (λ d. omega (arith, d .0, w .out-net))
+        (added-tidy codeBase K olds (newTables m) (circuitOf s) (mapped-least olds (length-replicate used (lutTable noTable)) .added) q i .0));
+  }
+    where
+      olds : List LookupTable
+      olds = replicate used (lutTable noTable)
+
+-- so an offer of it is one of the sheet
+pub mapped-offered : (p : Part) (s : CodeSheet) (m : Mapping) → JoinedMapped (p .k) (p .used) s m → (q : Part) (a : Answer) → Offered p (s .out) m q a →
+    Offer least p (circuitOf s) q a
+mapped-offered p s m j q a o = o least (circuitOf s) refl (mapped-least (p .k) (p .used) s m j (tablesOf p))
 
 -- ---- a result as the part and the answer that it holds
 
 module _ (r : Added) (q : Part) (a : Adding) (e : r ≡ record { part = q; answer = a }) where
-  pub offer-same : (p : Part) (s : Circuit) → Offer least p s q (addingAnswer a) → Offer least p s (r .part) (addingAnswer (r .answer))
-  offer-same p s = subst (λ x. Offer least p s (x .part) (addingAnswer (x .answer))) (sym e)
+  pub offer-same : (p : Part) (out : ℕ) (m : Mapping) → Offered p out m q (addingAnswer a) → Offered p out m (r .part) (addingAnswer (r .answer))
+  offer-same p out m = subst (λ x. Offered p out m (x .part) (addingAnswer (x .answer))) (sym e)
 
   pub add-same : (p : Part) (text : List ℕ) → Add least p text q (addingAnswer a) → Add least p text (r .part) (addingAnswer (r .answer))
   add-same p text = subst (λ x. Add least p text (x .part) (addingAnswer (x .answer))) (sym e)

@@ -1,41 +1,23 @@
 // Adding a sheet to a part.
 ghost use mathlib.Core.Path.{_≡_};
-ghost use Rattle.sheet.specs.Trusted.Answers.{drawnSheet};
-ghost use Rattle.sheet.specs.Trusted.Formed.{WellFormed};
 ghost use Rattle.table.specs.LevelTest.{LevelsStand};
 ghost use Rattle.part.specs.Trusted.Parts.{tablesOf};
 ghost use Rattle.part.specs.Trusted.Sound.{Sound};
 ghost use Rattle.part.specs.Trusted.Ways.{least};
-ghost use Rattle.part.specs.Trusted.Add.{Offer, Add};
-ghost use Rattle.mapper_laws.specs.CodeMap.{Sheetable};
-ghost use Rattle.part.specs.Storing.{circuitOf, JoinedMapped};
+ghost use Rattle.part.specs.Trusted.Add.{Add};
+ghost use Rattle.part.specs.Storing.{Storable, Offered};
 ghost use Rattle.part.specs.Trusted.AddAnswers.{addingAnswer};
 use crate::Added;
 use crate::Adding;
 use crate::Part;
-use chained_gates::none_joined;
-use joiner::joined;
-use mapper::map;
+use joined_mapper::map_joined;
 use mapper_laws::Mapping;
 use part_records::Uses;
 use part_records::with_table;
 use sheet::ReadAnswer;
-use sheet::Sheet;
 use table::CODE_ROOM;
 use table::Table;
 use table_levels::next_level;
-
-// Maps a sheet that was read with its chained gates joined; one that has none is mapped as it is.
-fn map_joined(sheet: Sheet, k: u8, used: u16) -> Mapping
-    requires { ⌜ Sheetable k used sheet ⌝ }
-    ensures { λ r. ⌜ JoinedMapped k used sheet r ⌝ }
-{
-    if none_joined(sheet) {
-        return map(sheet, k, used);
-    }
-    let covered = joined(sheet);
-    map(covered, k, used)
-}
 
 impl Part {
     // The part as it is, with the answer.
@@ -45,16 +27,15 @@ impl Part {
         Added { part: self, answer }
     }
 
-    // Adds a sheet that was read to a part that is sound: its tables after the old ones, as few as it needs with its chained gates
-    // joined, each with its level. The conditions that refuse it are tested in 01's order: 21, 22, 23. The array has the levels of the
-    // part's codes, before and after.
-    pub fn offer(mut self, sheet: Sheet, levels: &mut [u16]) -> Added
-        requires { ⌜ Sound self × WellFormed (drawnSheet sheet) × LevelsStand (now levels) (tablesOf self) ⌝ }
-        ensures { λ r. ⌜ Offer least self (circuitOf sheet) (r .part) (addingAnswer (r .answer)) × LevelsStand (now (levels .exit)) (tablesOf (r .part)) ⌝ }
+    // Adds a sheet that was mapped to a part that is sound: its tables after the old ones, each with its level, whichever way they
+    // were chosen in. The conditions that refuse it are tested in 01's order: 21, 22, 23. The array has the levels of the part's codes,
+    // before and after.
+    pub fn offer(mut self, out: u16, mapping: Mapping, levels: &mut [u16]) -> Added
+        requires { ⌜ Sound self × Storable out mapping × LevelsStand (now levels) (tablesOf self) ⌝ }
+        ensures { λ r. ⌜ Offered self out mapping (r .part) (addingAnswer (r .answer)) × LevelsStand (now (levels .exit)) (tablesOf (r .part)) ⌝ }
     {
         let used = self.used;
         let first = used as usize;
-        let out = sheet.out;
         let mut uses = Uses {
             driven: false,
             read: false,
@@ -71,7 +52,6 @@ impl Part {
         if uses.read {
             return self.refused(Adding::OutputRead);
         }
-        let mapping = map_joined(sheet, self.k, used);
         let needed = mapping.count as u16;
         let reservation = self.reservation;
         if needed > self.capacity - used - reservation.count {
@@ -112,7 +92,8 @@ impl Part {
             return self.refused(Adding::Misread(why, line));
         }
         let sheet = reading.sheet;
-        self.offer(sheet, levels)
+        let mapping = map_joined(sheet, self.k, self.used);
+        self.offer(sheet.out, mapping, levels)
     }
 
     // Adds the sheet that the text is. The conditions that refuse it are tested in 01's order: 20, the sheet's own, then an offer's.

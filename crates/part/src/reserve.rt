@@ -11,6 +11,7 @@ ghost use Rattle.part.specs.Trusted.AddAnswers.{addingAnswer, addingResu
 use crate::Added;
 use crate::Adding;
 use crate::Part;
+use joined_mapper::map_joined;
 use part_records::Reservation;
 use sheet::ReadAnswer;
 use table::CODE_ROOM;
@@ -36,7 +37,8 @@ impl Part {
             return self.refused(Adding::Misread(why, line));
         }
         let sheet = reading.sheet;
-        let added = self.offer(sheet, levels);
+        let mapping = map_joined(sheet, self.k, self.used);
+        let added = self.offer(sheet.out, mapping, levels);
         let answer = added.answer;
         let Adding::Accepted = answer else {
             return self.refused(answer);
@@ -93,7 +95,8 @@ impl Part {
         if sheet.out != reservation.net {
             return self.refused(Adding::NotReserved);
         }
-        let added = self.released().offer(sheet, levels);
+        let mapping = map_joined(sheet, self.k, self.used);
+        let added = self.released().offer(sheet.out, mapping, levels);
         let why = added.answer;
         let Adding::Accepted = why else {
             return self.refused(why);

@@ -36,8 +36,8 @@ use Rattle.program_laws.specs.ChainLaws.{mapped-run}
 
 -- ---- two runs of a text, from parts that differ in nothing that an answer depends on
 
-texts-alike : (p q : Part) → Shaped p → Shaped q → Alike p q → (text : List ℕ) (r t : CallResult) → Promise p (add least text) r → Promise q (add least text) t →
-    (r .answer ≡ t .answer) × Alike (r .part) (t .part)
+texts-alike : (p q : Part) → Shaped p → Shaped q → Alike least p q → (text : List ℕ) (r t : CallResult) → Promise p (add least text) r → Promise q (add least text) t →
+    (r .answer ≡ t .answer) × Alike least (r .part) (t .part)
 texts-alike p q f g l text r t h i = add-alike least p q f g l text (r .part) (t .part) (r .answer) (t .answer) (h .0) (i .0)
 
 -- the calls, the answers and the used counts are the same
@@ -45,10 +45,10 @@ record Agree (p q : Part) (cs ds : List Call) (rs ts : List CallResult) : Type 0
   calls : cs ≡ ds
   same : answers rs ≡ answers ts
   used : usedCounts rs ≡ usedCounts ts
-  last : Alike (final p rs) (final q ts)
+  last : Alike least (final p rs) (final q ts)
 
 texts-agree : {p q : Part} {text : List ℕ} {cs ds : List Call} {rs ts : List CallResult} → Texts text cs rs → Texts text ds ts →
-    Chain p cs rs → Chain q ds ts → Shaped p → Shaped q → Alike p q → Agree p q cs ds rs ts
+    Chain p cs rs → Chain q ds ts → Shaped p → Shaped q → Alike least p q → Agree p q cs ds rs ts
 texts-agree end end done done f g l = record { calls = refl; same = refl; used = refl; last = l }
 texts-agree end (stop m n h e) c d f g l = absurd (omega arith)
 texts-agree end (next h e t) c d f g l = absurd (omega arith)
@@ -84,7 +84,7 @@ module _ (input a b : List ℕ) (u v : Number) (good : openingNumbers input ≡ 
   runs-settled c x y = of (firstRefusal 0 (answers (x .results))) refl
     where
       agree : Agree start start (x .calls) (y .calls) (x .results) (y .results)
-      agree = texts-agree (x .texts) (y .texts) (x .chain) (y .chain) (opened-shaped (count u) (count v)) (opened-shaped (count u) (count v)) (alike-refl start)
+      agree = texts-agree (x .texts) (y .texts) (x .chain) (y .chain) (opened-shaped (count u) (count v)) (opened-shaped (count u) (count v)) (alike-refl least start)
 
       of : (o : Option (ℕ × ℕ × ℕ)) → firstRefusal 0 (answers (x .results)) ≡ o → Determined input a b
       of none e =

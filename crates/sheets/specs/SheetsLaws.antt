@@ -28,7 +28,7 @@ use Rattle.part.specs.Trusted.Ways.{least}
 use Rattle.part.specs.WayLaws.{some-tables, chosen-number}
 use Rattle.part.specs.Trusted.Add.{Offer, Add}
 use Rattle.part.specs.AddLaws.{AddCase, unsound, misread, driven, read, full, taken, add-case, kept, not-refused}
-use Rattle.part.specs.Storing.{circuitOf}
+use Rattle.joined_mapper.specs.JoinedMap.{circuitOf}
 use Rattle.part.specs.StoringLaws.{add-misread, add-offered}
 use Rattle.listing.specs.Trusted.Listing.{listOf}
 use Rattle.part.specs.declared.Part.{Part}

@@ -6,6 +6,7 @@ ghost use Rattle.part.specs.Trusted.AddAnswers.{addingAnswer};
 ghost use Rattle.part.specs.Trusted.Sound.{Sound};
 ghost use Rattle.opening.specs.Contracts.{told as toldAnswer};
 ghost use Rattle.sheets.specs.Contracts.{Ended};
+use joined_mapper::map_joined;
 use opening::Told;
 use part::Added;
 use part::Adding;
@@ -81,7 +82,11 @@ pub fn add_sheets(opened: Part, input: &[u8], start: usize) -> End
             let part = added.part;
             return End { part, told, sheet };
         }
-        added = added.part.offer(next.sheet, &mut levels);
+        added = added.part.offer(
+            next.sheet.out,
+            map_joined(next.sheet, added.part.k, added.part.used),
+            &mut levels,
+        );
         let answer = added.answer;
         let told = tell_adding(answer);
         if told.number != 0 {

@@ -10,6 +10,8 @@ use Rattle.table.specs.Trusted.Records.{tableOf}
 use Rattle.table.specs.LevelTest.{noLevels, LevelsStand}
 use Rattle.table.specs.LevelTestLaws.{levels-none}
 use Rattle.part.specs.Trusted.Parts.{tablesOf}
+use Rattle.part.specs.Trusted.AddAnswers.{addingAnswer}
+use Rattle.part.specs.StoringLaws.{sheet-mappable, mapped-storable, mapped-offered}
 use Rattle.part.proofs.Shape.{shaped}
 use Rattle.sheets.specs.SheetsLaws.{number-some, SheetsSoFar, sheets-start, sheets-more, few-sheets, on-the-way, ended-stop, ended-all, Stepped, next-formed, stepped-refused, stepped-offered}
 use Rattle.sheets.proofs.add_sheets.Statement.{statement}
@@ -22,23 +24,26 @@ Inv-loop input start added₀ levels₀ at₀ sheet₀ added levels at sheet =
 abbrev μ-loop : tie.MeasureT-loop
 μ-loop input start added₀ levels₀ at₀ sheet₀ added levels at sheet = length input - at
 
--- ---- the next sheet: what it asks of an offer, and what comes of it
+-- ---- the next sheet: it is well formed, and what comes of it
 
-sheet-offered : (c : tie.After-enum-told Inv-loop μ-loop) → WellFormed (drawnSheet (c .before .before .read-next .result .sheet))
-sheet-offered c =
+sheet-formed : (c : tie.After-enum-told Inv-loop μ-loop) → WellFormed (drawnSheet (c .before .before .read-next .result .sheet))
+sheet-formed c =
     let n = c .before .before in
     let l = n .before .before in
     next-formed (l .before .before .args .input .now) (l .loop .added .part) (l .loop .at) (l .loop .inv .0 .sound) (l .loop .inv .0 .shaped) (omega arith) (n .read-next .result) (n .read-next .ensures) (c .enum-told .given .1)
 
-sheet-stepped : (c : tie.After-tell-adding Inv-loop μ-loop) → let o = c .before .before in let n = o .before .before .before .before in let l = n .before .before in
+sheet-stepped : (c : tie.After-tell-adding Inv-loop μ-loop) → let o = c .before .before in let n = o .before .before .before .before .before in let l = n .before .before in
     Stepped (l .before .before .args .input .now) (l .loop .added .part) (l .loop .at) (o .offer .result .part) (c .tell-adding .result) (n .read-next .result .end)
 sheet-stepped c =
     let o = c .before .before in
-    let t = o .before .before in
+    let m = o .before .before in
+    let t = m .before in
     let n = t .before .before in
     let l = n .before .before in
+    let q = o .offer .result .part in
+    let a = addingAnswer (o .offer .result .answer) in
     stepped-offered (l .before .before .args .input .now) (l .loop .added .part) (l .loop .at) (l .loop .inv .0 .sound) (l .loop .inv .0 .shaped) (omega arith) (n .read-next .result) (n .read-next .ensures) (t .enum-told .given .1)
-    (o .offer .result .part) _ (c .tell-adding .result) (o .offer .ensures .0) (c .tell-adding .ensures)
+    q a (c .tell-adding .result) (mapped-offered (l .loop .added .part) (n .read-next .result .sheet) (m .map-joined .result) (m .map-joined .ensures) q a (o .offer .ensures .0)) (c .tell-adding .ensures)
 
 -- ---- the needs
 
@@ -75,13 +80,21 @@ returns c =
 enum-told : tie.Need-enum-told Inv-loop μ-loop
 enum-told c = search needs
 
+map-joined-requires : tie.Need-map-joined-requires Inv-loop μ-loop
+map-joined-requires c κs =
+    let n = c .before .before in
+    let l = n .before .before .loop in
+    sheet-mappable (l .added .part) (l .inv .0 .sound) (n .read-next .result .sheet) (sheet-formed c)
+
 slice-aggregate-offer : tie.Need-slice-aggregate-offer Inv-loop μ-loop
 slice-aggregate-offer c = search needs
 
 offer-requires : tie.Need-offer-requires Inv-loop μ-loop
 offer-requires c κs =
-    let l = c .before .before .before .before .before .loop in
-    (l .inv .0 .sound, sheet-offered (c .before), l .inv .1)
+    let m = c .before in
+    let n = m .before .before .before in
+    let l = n .before .before .loop in
+    (l .inv .0 .sound, mapped-storable (l .added .part .k) (l .added .part .used) (n .read-next .result .sheet) (m .map-joined .result) (m .map-joined .ensures) (sheet-formed (m .before)), l .inv .1)
 
 tell-adding-requires : tie.Need-tell-adding-requires Inv-loop μ-loop
 tell-adding-requires c κs = search needs
@@ -90,7 +103,7 @@ returns-2 : tie.Need-returns-2 Inv-loop μ-loop
 returns-2 c =
     let a = c .before .before .before in
     let o = a .before .before in
-    let n = o .before .before .before .before in
+    let n = o .before .before .before .before .before in
     let l = n .before .before in
     ended-stop (l .loop .inv .0) (o .offer .result .part) (a .tell-adding .result) (n .read-next .result .end) (omega arith) (sheet-stepped a) (c .before .if1 .taken)
 
@@ -98,7 +111,7 @@ loop-less : tie.Need-loop-less Inv-loop μ-loop
 loop-less c =
     let a = c .before .before in
     let o = a .before .before in
-    let n = o .before .before .before .before in
+    let n = o .before .before .before .before .before in
     let l = n .before .before in
     omega (arith, on-the-way (l .loop .inv .0) (o .offer .result .part) (a .tell-adding .result) (n .read-next .result .end) (omega arith) (sheet-stepped a) (c .if1 .left))
 
@@ -106,7 +119,7 @@ loop-again : tie.Need-loop-again Inv-loop μ-loop
 loop-again c =
     let a = c .before .before in
     let o = a .before .before in
-    let n = o .before .before .before .before in
+    let n = o .before .before .before .before .before in
     let l = n .before .before in
     (sheets-more (l .loop .inv .0) (o .offer .result .part) (a .tell-adding .result) (n .read-next .result .end) (omega arith) (sheet-stepped a) (c .if1 .left), o .offer .ensures .1)
 
@@ -126,6 +139,7 @@ add-sheets-spec =
     number-requires
     returns
     enum-told
+    map-joined-requires
     slice-aggregate-offer
     offer-requires
     tell-adding-requires

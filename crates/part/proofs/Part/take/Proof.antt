@@ -4,10 +4,12 @@ use denote.Ref.{now}
 use Rattle.lists.specs.Trusted.Checked.{passed}
 use Rattle.sheet.specs.Trusted.Read.{readSheet}
 use Rattle.sheet.specs.Trusted.Answers.{numberOf, drawnSheet}
+use Rattle.sheet.specs.Trusted.Formed.{WellFormed}
 use Rattle.sheet.specs.ReadLaws.{read-formed}
 use Rattle.table.specs.LevelTest.{LevelsStand}
 use Rattle.part.specs.Trusted.Parts.{tablesOf}
-use Rattle.part.specs.StoringLaws.{add-same, add-misread, add-offered, reading-is}
+use Rattle.part.specs.Trusted.AddAnswers.{addingAnswer}
+use Rattle.part.specs.StoringLaws.{sheet-mappable, mapped-storable, mapped-offered, add-same, add-misread, add-offered, reading-is}
 use Rattle.part.specs.declared.Adding.the-variants.{Misread}
 use Rattle.part.proofs.Part.take.Statement.{statement}
 use Rattle.part.proofs.Part.take.Tie as tie
@@ -42,22 +44,40 @@ sheet-read c =
     let r = c .before .before in
     reading-is (r .before .before .before .args .text .now) (r .read .result) (r .read .ensures) (c .enum-told .given .1)
 
+-- and it is well formed
+sheet-formed : (c : tie.After-enum-told) → WellFormed (drawnSheet (c .before .before .read .result .sheet))
+sheet-formed c =
+    let r = c .before .before in
+    read-formed (r .before .before .before .args .text .now) (drawnSheet (r .read .result .sheet)) (sheet-read c)
+
+map-joined-requires : tie.Need-map-joined-requires
+map-joined-requires c κs =
+    let r = c .before .before .before in
+    let s = r .before .before .before in
+    sheet-mappable (s .args .self) (s .pre .0) (r .read .result .sheet) (sheet-formed (c .before))
+
 offer-requires : tie.Need-offer-requires
 offer-requires c κs =
-    let r = c .before .before .before .before in
-    let s = r .before .before .before in
-    (s .pre .0, read-formed (s .args .text .now) (drawnSheet (r .read .result .sheet)) (sheet-read (c .before .before)), s .pre .1)
+    let m = c .before in
+    let t = m .before .before in
+    let s = t .before .before .before .before .before in
+    (s .pre .0, mapped-storable (s .args .self .k) (s .args .self .used) (t .before .before .read .result .sheet) (m .map-joined .result) (m .map-joined .ensures) (sheet-formed t), s .pre .1)
 
 same-length : tie.Need-same-length
 same-length c = search needs
 
 returns-2 : tie.Need-returns-2
 returns-2 c =
-    let t = c .before .before .before .before .before in
+    let m = c .before .before .before .before in
+    let t = m .before .before in
     let r = t .before .before in
     let s = r .before .before .before in
     let o = c .before .before .offer in
-    (add-offered (s .args .self) (s .args .text .now) (s .pre .0) (drawnSheet (r .read .result .sheet)) (sheet-read t) (o .result .part) _ (o .ensures .0), o .ensures .1)
+    let a = addingAnswer (o .result .answer) in (
+      add-offered (s .args .self) (s .args .text .now) (s .pre .0) (drawnSheet (r .read .result .sheet)) (sheet-read t) (o .result .part) a
+          (mapped-offered (s .args .self) (r .read .result .sheet) (m .map-joined .result) (m .map-joined .ensures) (o .result .part) a (o .ensures .0)),
+      o .ensures .1,
+    )
 
 pub take-spec : {M : Type 1} → statement M
 take-spec =
@@ -68,6 +88,7 @@ take-spec =
     refused-requires
     returns
     enum-told
+    map-joined-requires
     offer-requires
     same-length
     returns-2)

@@ -1,19 +1,12 @@
-use mathlib.Core.Path.{_≡_, sym, ap, _∙_, subst}
-use Rattle.sheet.specs.declared.Sheet.{Sheet}
+use mathlib.Core.Path.{sym, _∙_, subst}
 use Rattle.sheet.specs.Trusted.Answers.{drawnSheet}
 use Rattle.sheet.specs.Trusted.Formed.{WellFormed}
-use Rattle.sheet.specs.Drawn.{drawn}
-use Rattle.joined.specs.JoinedSheet.{joinedSheet}
-use Rattle.joined.specs.SheetLaws.{joined-formed, covered-drawn}
+use Rattle.joined.specs.SheetLaws.{joined-formed}
 use Rattle.joiner_laws.specs.NoneJoinedLaws.{none-joined}
-use Rattle.part.specs.Storing.{circuitOf}
+use Rattle.joined_mapper.specs.CoverLaws.{covers-joined}
 use borrow.Author.Needs.{needs}
-use Rattle.part.proofs.add.map_joined.Statement.{statement}
-use Rattle.part.proofs.add.map_joined.Tie as tie
-
--- a sheet that is drawn as the joined one draws what is covered
-covers-joined : (s : Sheet) → WellFormed (drawnSheet s) → (j : Sheet) → drawnSheet j ≡ joinedSheet (drawnSheet s) → drawn (drawnSheet j) ≡ circuitOf s
-covers-joined s w j e = ap drawn e ∙ covered-drawn (drawnSheet s) w
+use Rattle.joined_mapper.proofs.map_joined.Statement.{statement}
+use Rattle.joined_mapper.proofs.map_joined.Tie as tie
 
 none-joined-requires : tie.Need-none-joined-requires
 none-joined-requires c κs = search needs

@@ -1,0 +1,2 @@
+pub mod JoinedMap
+pub mod CoverLaws
