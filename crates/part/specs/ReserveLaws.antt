@@ -123,7 +123,7 @@ module _ (p : Part) (text : List ℕ) where
   module _ (h : Sound p) where
     pub commit-misread : (number line : ℕ) → readSheet text ≡ unread number line → Committed p text (commitSheet p (released p) (refused number line))
     unfolding readOf _>>=_
-    commit-misread number line e = rw e (stop (add-misread (released p) text (released-sound p h) number line e))
+    commit-misread number line e = rw e (stop (add-misread least (released p) text (released-sound p h) number line e))
 
     module _ (d : DrawnSheet) (e : readSheet text ≡ passed d) where
       pub commit-other : d .out ≢ p .reservation .net → Committed p text (turnedAway p 36)
@@ -137,10 +137,10 @@ module _ (p : Part) (text : List ℕ) where
 
         pub commit-refused : (q : Part) (number place : ℕ) → Offer least (released p) (covered d) q (refused number place) →
             Committed p text (commitSheet p q (refused number place))
-        commit-refused q number place o = rw same-net (stop (add-offered (released p) text (released-sound p h) d e q (refused number place) o))
+        commit-refused q number place o = rw same-net (stop (add-offered least (released p) text (released-sound p h) d e q (refused number place) o))
 
         pub commit-accepted : (q : Part) → Offer least (released p) (covered d) q accepted → Committed p text (commitSheet q q accepted)
-        commit-accepted q o = rw same-net (next (add-offered (released p) text (released-sound p h) d e q accepted o) all)
+        commit-accepted q o = rw same-net (next (add-offered least (released p) text (released-sound p h) d e q accepted o) all)
 
 -- ---- withdrawing
 

@@ -16,9 +16,13 @@ use Rattle.lists.specs.TestLaws.{reflects-true}
 use Rattle.tree.specs.Trusted.Limits.{greatestNet, codeBase}
 use Rattle.lists.specs.Trusted.Checked.{passed, refused as unread, _>>=_}
 use Rattle.cover.specs.Trusted.Tables.{LookupTable, tableLevel, codeLevels}
-use Rattle.cover.specs.Eval.{every-numbered}
+use Rattle.cover.specs.Eval.{every-numbered, Agree}
+use Rattle.cover.specs.LevelLaws.{codes-most}
 use Rattle.cover.specs.CoverTableLaws.{added-tidy}
-use Rattle.cover.specs.Trusted.CoverTables.{Circuit, LeastCoverTables}
+use Rattle.cover.specs.Trusted.CoverTables.{Circuit, CoverTables, LeastCoverTables}
+use Rattle.levels.specs.Trusted.Levels.{level as coverLevel, Fastest}
+use Rattle.levels.specs.Trusted.LevelTables.{FastestCoverTables}
+use Rattle.levels.specs.SameLaws.{split-level, fastest-same}
 use Rattle.sheet.specs.Trusted.Sheet.{DrawnSheet}
 use Rattle.sheet.specs.declared.Sheet.{Sheet as CodeSheet}
 use Rattle.sheet.specs.declared.ReadAnswer.{ReadAnswer as CodeAnswer}
@@ -38,17 +42,21 @@ use Rattle.table.specs.LevelTestLaws.{level-stands, levels-next}
 use Rattle.table.specs.LoopLaws.{take-next, take-none}
 use Rattle.pending.specs.declared.Lut.{Lut}
 use Rattle.pending.specs.Luts.{lutReads, lutTable}
+use Rattle.pending.specs.Pendings.{MergeKept}
 use Rattle.mapper_laws.specs.declared.Mapping.{Mapping}
 use Rattle.mapper_laws.specs.CodeRun.{noTable}
-use Rattle.mapper_laws.specs.CodeMap.{Sheetable}
+use Rattle.mapper_laws.specs.CodeMap.{Sheetable, mostTables}
+use Rattle.level_sheets.specs.Lined.{netLevel}
+use Rattle.level_mapping.specs.FastMapping.{LevelsLow}
 use Rattle.joined_mapper.specs.JoinedMap.{circuitOf, JoinedMapped}
+use Rattle.joined_level_mapper.specs.JoinedFast.{JoinedFast}
 use Rattle.part.specs.Trusted.Parts.{inUse, tablesOf, available, Shaped}
 use Rattle.part.specs.Trusted.Sound.{Sound}
 use Rattle.part.specs.Trusted.SoundTest.{sound}
 use Rattle.part.specs.SoundLaws.{sound-reflects, used-count}
 use Rattle.part.specs.Trusted.Reading.{readOf}
 use Rattle.part.specs.Trusted.Answers.{Answer, accepted, refused}
-use Rattle.part.specs.Trusted.Ways.{Way, least, NumberBy}
+use Rattle.part.specs.Trusted.Ways.{Way, least, fastest, reading, NumberBy}
 use Rattle.part.specs.WayLaws.{chosen-number}
 use Rattle.part.specs.Trusted.Add.{extended, isDriven, isRead, Fill, Offer, Add}
 use Rattle.part.specs.Trusted.AddAnswers.{addingAnswer}
@@ -190,35 +198,72 @@ module _ (p : Part) (shape : Shaped p) (h : Sound p) (out : ℕ) (m : Mapping) (
         offer-room w s o (chosen-number w p s new (c old-count)) (stored p m) accepted
         (rw (le-leb (length new) (available p) (omega (arith, l, new-count))) (record { new = new; chosen = c old-count; part = stored-extended; answer = refl }))
 
--- ---- a mapping of a sheet in the way `least`
+-- ---- a mapping of a sheet
 
 pub sheet-mappable : (p : Part) → Sound p → (s : CodeSheet) → WellFormed (drawnSheet s) → Sheetable (p .k) (p .used) s
 sheet-mappable p h s w = record { table = h .k-range; before = omega (arith, h .used-fits, h .capacity-range .1); formed = w }
 
+-- tables of a cover of it, after any others of that count, can be stored: a new table drives no net or the sheet's
+cover-storable : (K used : ℕ) (s : CodeSheet) (m : Mapping) → length (m .tables) ≡ mostTables → m .count ≤ mostTables →
+    ((i : ℕ) → i < m .count → MergeKept (getD (m .tables) i noTable)) → ((old : List LookupTable) → length old ≡ used → CoverTables codeBase K old (newTables m) (circuitOf s)) →
+    WellFormed (drawnSheet s) → Storable (s .out) m
+cover-storable K used s m room few kept tables w = record {
+  net = w .out-net;
+  room = room;
+  few = few;
+  kept = kept;
+  drives = every-numbered (λ t. t .drives ≤ greatestNet) (length olds) (newTables m)
+      (λ q i. ⊎-elim (λ z. omega (arith, z)) (λ d. omega (arith, d .0, w .out-net))
+      (added-tidy codeBase K olds (newTables m) (circuitOf s) (tables olds (length-replicate used (lutTable noTable))) q i .0));
+}
+  where
+    olds : List LookupTable
+    olds = replicate used (lutTable noTable)
+
+-- in the way `least`
 module _ (K used : ℕ) (s : CodeSheet) (m : Mapping) (j : JoinedMapped K used s m) where
   -- its tables are those of a least cover, after any others of that count
   mapped-least : (old : List LookupTable) → length old ≡ used → LeastCoverTables codeBase K old (newTables m) (circuitOf s)
   mapped-least old e = subst (LeastCoverTables codeBase K old (newTables m)) (j .covers) (j .mapped .least old e)
 
-  -- a new table drives no net or the sheet's
   pub mapped-storable : WellFormed (drawnSheet s) → Storable (s .out) m
-  mapped-storable w = record {
-    net = w .out-net;
-    room = j .mapped .room;
-    few = j .mapped .few;
-    kept = j .mapped .kept;
-    drives = every-numbered (λ t. t .drives ≤ greatestNet) (length olds) (newTables m)
-        (λ q i. ⊎-elim (λ z. omega (arith, z)) (λ d. omega (arith, d .0, w .out-net))
-        (added-tidy codeBase K olds (newTables m) (circuitOf s) (mapped-least olds (length-replicate used (lutTable noTable)) .added) q i .0));
-  }
-    where
-      olds : List LookupTable
-      olds = replicate used (lutTable noTable)
+  mapped-storable = cover-storable K used s m (j .mapped .room) (j .mapped .few) (j .mapped .kept) (λ old e. mapped-least old e .added)
 
 -- so an offer of it is one of the sheet
 pub mapped-offered : (p : Part) (s : CodeSheet) (m : Mapping) → JoinedMapped (p .k) (p .used) s m → (q : Part) (a : Answer) → Offered p (s .out) m q a →
     Offer least p (circuitOf s) q a
 mapped-offered p s m j q a o = o least (circuitOf s) refl (mapped-least (p .k) (p .used) s m j (tablesOf p))
+
+-- in the way `fastest`: by the levels of the part's codes, none of which is high
+pub levels-low : {levels : List ℕ} {ts : List LookupTable} → LevelsStand levels ts → LevelsLow levels
+levels-low {ts = ts} l = record { places = omega (arith, l .places); low = λ n. omega (arith, l .same n, codes-most codeBase ts n, l .room) }
+
+module _ (K used : ℕ) (levels : List ℕ) (s : CodeSheet) (m : Mapping) (j : JoinedFast K used (netLevel levels) s m) where
+  fast-cover : (old : List LookupTable) → length old ≡ used →
+      (c : CoverTables codeBase K old (newTables m) (circuitOf s)) × Fastest (netLevel levels) K (circuitOf s .tree) (m .count) (coverLevel (netLevel levels) (c .cover))
+  fast-cover old e =
+      subst (λ u. (c : CoverTables codeBase K old (newTables m) u) × Fastest (netLevel levels) K (u .tree) (m .count) (coverLevel (netLevel levels) (c .cover))) (j .covers)
+      (j .mapped .fastest old e)
+
+  pub fast-storable : WellFormed (drawnSheet s) → Storable (s .out) m
+  fast-storable = cover-storable K used s m (j .mapped .room) (j .mapped .few) (j .mapped .kept) (λ old e. fast-cover old e .0)
+
+  -- its tables are those of a cover with the least root level, and of those one of the fewest tables
+  fast-tables : (old : List LookupTable) → length old ≡ used → LevelsStand levels old → FastestCoverTables codeBase K old (newTables m) (circuitOf s)
+  fast-tables old e l =
+      let (c, f) = fast-cover old e in
+      let count : m .count ≡ length (newTables m) = sym (length-map (take (m .count) (m .tables)) lutTable ∙ length-take-le (m .count) (m .tables) (omega (arith, j .mapped .few, j .mapped .room))) in
+      let same : (xs : List ℕ) → Agree (netLevel levels) (codeLevels codeBase old) xs = λ xs x i. l .same x in
+      record {
+        added = c;
+        fastest =
+            subst (λ n. Fastest (codeLevels codeBase old) K (circuitOf s .tree) n (coverLevel (codeLevels codeBase old) (c .cover))) count
+            (subst (Fastest (codeLevels codeBase old) K (circuitOf s .tree) (m .count)) (split-level (netLevel levels) (codeLevels codeBase old) (c .covers .split) (same _)) (fastest-same (same _) f));
+      }
+
+pub fast-offered : (p : Part) (levels : List ℕ) → LevelsStand levels (tablesOf p) → (s : CodeSheet) (m : Mapping) → JoinedFast (p .k) (p .used) (netLevel levels) s m → (q : Part) (a : Answer) →
+    Offered p (s .out) m q a → Offer fastest p (circuitOf s) q a
+fast-offered p levels l s m j q a o = o fastest (circuitOf s) refl (λ e. fast-tables (p .k) (p .used) levels s m j (tablesOf p) e l)
 
 -- ---- a result as the part and the answer that it holds
 
@@ -226,24 +271,35 @@ module _ (r : Added) (q : Part) (a : Adding) (e : r ≡ record { part = q; answe
   pub offer-same : (p : Part) (out : ℕ) (m : Mapping) → Offered p out m q (addingAnswer a) → Offered p out m (r .part) (addingAnswer (r .answer))
   offer-same p out m = subst (λ x. Offered p out m (x .part) (addingAnswer (x .answer))) (sym e)
 
-  pub add-same : (p : Part) (text : List ℕ) → Add least p text q (addingAnswer a) → Add least p text (r .part) (addingAnswer (r .answer))
-  add-same p text = subst (λ x. Add least p text (x .part) (addingAnswer (x .answer))) (sym e)
+  pub add-same : (w : Way) (p : Part) (text : List ℕ) → Add w p text q (addingAnswer a) → Add w p text (r .part) (addingAnswer (r .answer))
+  add-same w p text = subst (λ x. Add w p text (x .part) (addingAnswer (x .answer))) (sym e)
 
 -- ---- 20, the sheet's refusals, and a sheet that was read
 
-module _ (p : Part) (text : List ℕ) where
-  pub add-unsound : sound p ≡ false → Add least p text p (refused 20 0)
+-- each way reads what was read, with its chained gates joined
+reading-unread : (w : Way) (text : List ℕ) (number line : ℕ) → readSheet text ≡ unread number line → reading w text ≡ unread number line
+unfolding readOf _>>=_
+reading-unread least text number line e = rw e refl
+reading-unread fastest text number line e = rw e refl
+
+reading-passed : (w : Way) (text : List ℕ) (s : DrawnSheet) → readSheet text ≡ passed s → reading w text ≡ passed (covered s)
+unfolding readOf _>>=_
+reading-passed least text s e = rw e refl
+reading-passed fastest text s e = rw e refl
+
+module _ (w : Way) (p : Part) (text : List ℕ) where
+  pub add-unsound : sound p ≡ false → Add w p text p (refused 20 0)
   unfolding Add
   add-unsound e = rw e (refl, refl)
 
   module _ (h : Sound p) where
-    pub add-misread : (number line : ℕ) → readSheet text ≡ unread number line → Add least p text p (refused number line)
-    unfolding Add readOf _>>=_
-    add-misread number line e = rw (reflects-true (sound-reflects p) h) (rw e (refl, refl))
+    pub add-misread : (number line : ℕ) → readSheet text ≡ unread number line → Add w p text p (refused number line)
+    unfolding Add
+    add-misread number line e = rw (reflects-true (sound-reflects p) h, reading-unread w text number line e) (refl, refl)
 
-    pub add-offered : (s : DrawnSheet) → readSheet text ≡ passed s → (q : Part) (a : Answer) → Offer least p (covered s) q a → Add least p text q a
-    unfolding Add readOf _>>=_
-    add-offered s e q a o = rw (reflects-true (sound-reflects p) h) (rw e o)
+    pub add-offered : (s : DrawnSheet) → readSheet text ≡ passed s → (q : Part) (a : Answer) → Offer w p (covered s) q a → Add w p text q a
+    unfolding Add
+    add-offered s e q a o = rw (reflects-true (sound-reflects p) h, reading-passed w text s e) o
 
 -- what the code read
 pub reading-is : (text : List ℕ) (r : CodeReading) → SheetRead text r → {a : CodeAnswer} → r .answer ≡ a → readSheet text ≡ answered a (drawnSheet (r .sheet))

@@ -3,13 +3,14 @@ ghost use mathlib.Core.Path.{_≡_};
 ghost use Rattle.table.specs.LevelTest.{LevelsStand};
 ghost use Rattle.part.specs.Trusted.Parts.{tablesOf};
 ghost use Rattle.part.specs.Trusted.Sound.{Sound};
-ghost use Rattle.part.specs.Trusted.Ways.{least};
+ghost use Rattle.part.specs.Trusted.Ways.{least, fastest};
 ghost use Rattle.part.specs.Trusted.Add.{Add};
 ghost use Rattle.part.specs.Storing.{Storable, Offered};
 ghost use Rattle.part.specs.Trusted.AddAnswers.{addingAnswer};
 use crate::Added;
 use crate::Adding;
 use crate::Part;
+use joined_level_mapper::map_joined_fast;
 use joined_mapper::map_joined;
 use mapper_laws::Mapping;
 use part_records::Uses;
@@ -96,6 +97,22 @@ impl Part {
         self.offer(sheet.out, mapping, levels)
     }
 
+    // Adds the sheet that the text is to a part that is sound, its tables chosen by the fewest levels. The array has the levels of the part's codes,
+    // before and after.
+    pub(crate) fn take_fast(self, text: &[u8], levels: &mut [u16]) -> Added
+        requires { ⌜ Sound self × LevelsStand (now levels) (tablesOf self) ⌝ }
+        ensures { λ r. ⌜ Add fastest self (now (text .entry)) (r .part) (addingAnswer (r .answer)) × LevelsStand (now (levels .exit)) (tablesOf (r .part)) ⌝ }
+    {
+        let reading = sheet_reader::read(text);
+        let answer = reading.answer;
+        if let ReadAnswer::Refused(why, line) = answer {
+            return self.refused(Adding::Misread(why, line));
+        }
+        let sheet = reading.sheet;
+        let mapping = map_joined_fast(sheet, self.k, self.used, levels);
+        self.offer(sheet.out, mapping, levels)
+    }
+
     // Adds the sheet that the text is. The conditions that refuse it are tested in 01's order: 20, the sheet's own, then an offer's.
     pub fn add(self, text: &[u8]) -> Added
         ensures { λ r. ⌜ Add least self (now (text .entry)) (r .part) (addingAnswer (r .answer)) ⌝ }
@@ -114,5 +131,26 @@ impl Part {
             return self.refused(Adding::Unsound);
         }
         self.take(text, &mut levels)
+    }
+
+    // Adds the sheet that the text is, its tables those of a cover with the least root level, and of those one of the fewest tables. The conditions
+    // that refuse it are those of an add, in the same order; 23 goes by that number of tables.
+    pub fn add_fast(self, text: &[u8]) -> Added
+        ensures { λ r. ⌜ Add fastest self (now (text .entry)) (r .part) (addingAnswer (r .answer)) ⌝ }
+    {
+        let reservation = self.reservation;
+        let tables = self.tables;
+        let mut levels = [0u16; CODE_ROOM];
+        if !part_records::sound(
+            self.k,
+            self.capacity,
+            self.used,
+            reservation,
+            tables,
+            &mut levels,
+        ) {
+            return self.refused(Adding::Unsound);
+        }
+        self.take_fast(text, &mut levels)
     }
 }

@@ -137,7 +137,7 @@ module _ (input : List ℕ) (p : Part) (at : ℕ) (sound : Sound p) (shape : Sha
       let text = sheetText (drop at input) .0 in
       let m : readSheet text ≡ unread (numberOf why) line = leaving-refused _ (numberOf why) line _ (sym (next-is (drop at input)) ∙ next-is-step i) in
       record {
-        add = subst (Add least p text p) (sym t) (add-misread p text sound (numberOf why) line m);
+        add = subst (Add least p text p) (sym t) (add-misread least p text sound (numberOf why) line m);
         rest = λ z. absurd (not-refused t z);
         shaped = shape;
         sound = sound;
@@ -149,7 +149,7 @@ module _ (input : List ℕ) (p : Part) (at : ℕ) (sound : Sound p) (shape : Sha
   stepped-offered i q a t o e =
       let f = read-front i in
       let text = sheetText (drop at input) .0 in
-      let g : Add least p text q (told t) = subst (Add least p text q) (sym e) (add-offered p text sound (drawnSheet (r .sheet)) (f .read) q a o) in
+      let g : Add least p text q (told t) = subst (Add least p text q) (sym e) (add-offered least p text sound (drawnSheet (r .sheet)) (f .read) q a o) in
       let k = kept p shape (add-case least p text q (told t) g) in
       record {
         add = g;

@@ -65,12 +65,12 @@ element-copy-out-first-line : tie.Need-element-copy-out-first-line Inv-loop μ-l
 element-copy-out-first-line c = last-inside (c .before .before .before)
 
 first-line-requires : tie.Need-first-line-requires Inv-loop μ-loop
-first-line-requires c κs = 
+first-line-requires c κs =
     let s = c .before .before .before .before in
     first-had (s .args .t1) (s .pre .0) (gates-room s) (gates-most s) _ _ _ (s .pre .1) (s .pre .2)
 
 add-bounds : tie.Need-add-bounds Inv-loop μ-loop
-add-bounds c = 
+add-bounds c =
     let s = c .before .before .before .before .before in
     omega (arith, first-low (s .args .t1) (s .pre .0) (gates-room s) (gates-most s) _ _ _ (s .pre .1) (s .pre .2) _ (c .first-line .ensures))
 
@@ -95,12 +95,11 @@ first-asked c =
     getD-set-same (replicate mostGates 0) n (getD (s .args .starts .now) n 0 + c .first-line .result) 0 (last-inside s)
 
 loop-holds : tie.Need-loop-holds Inv-loop μ-loop
-loop-holds c = 
+loop-holds c =
     let s = c .before .before .before .before .before in
     let l = last-inside s in
     let n = s .args .t1 .count - 1 in
-    let inputs-at : getD (set (replicate mostGates 0) n (s .args .k)) n 0 ≡ s .args .k = getD-set-same (replicate mostGates 0) n (s .args .k) 0 l in
-    (
+    let inputs-at : getD (set (replicate mostGates 0) n (s .args .k)) n 0 ≡ s .args .k = getD-set-same (replicate mostGates 0) n (s .args .k) 0 l in (
       omega arith,
       choose-start (s .args .t1) (s .pre .0) (gates-room s) (gates-most s) _ _ _ (s .pre .1) (s .pre .2) _ (c .first-line .ensures) _ _ _ (first-asked c) inputs-at,
       refl,
@@ -142,7 +141,7 @@ element-copy-out-gate : tie.Need-element-copy-out-gate Inv-loop μ-loop
 element-copy-out-gate c = inside c
 
 gather-fans-requires : tie.Need-gather-fans-requires Inv-loop μ-loop
-gather-fans-requires c κs = 
+gather-fans-requires c κs =
     let t = c .before .before in
     let s = start t in
     fast-reach (s .args .t1) (s .pre .0) (gates-room s) (gates-most s) (one-left t)
@@ -157,7 +156,7 @@ array-read-gate-plan-2 : tie.Need-array-read-gate-plan-2 Inv-loop μ-loop
 array-read-gate-plan-2 c = inside (c .before .before .before)
 
 gate-plan-requires : tie.Need-gate-plan-requires Inv-loop μ-loop
-gate-plan-requires c κs = 
+gate-plan-requires c κs =
     let t = c .before .before .before .before in
     let s = start t in
     let q = c .before .gather-fans .ensures in
@@ -177,7 +176,7 @@ array-set-from-plans : tie.Need-array-set-from-plans Inv-loop μ-loop
 array-set-from-plans c = inside (c .before .before .before .before .before .before)
 
 ask-requires : tie.Need-ask-requires Inv-loop μ-loop
-ask-requires c κs = 
+ask-requires c κs =
     let t = c .before .before .before .before .before .before .before .before in
     let s = start t in
     let q = c .before .before .before .before .before .gather-fans .ensures in
@@ -194,15 +193,14 @@ loop-less : tie.Need-loop-less Inv-loop μ-loop
 loop-less c = search needs
 
 loop-again : tie.Need-loop-again Inv-loop μ-loop
-loop-again c = 
+loop-again c =
     let t = c .before .before .before .before .before .before .before .before .before in
     let s = start t in
     let q = c .before .before .before .before .before .before .gather-fans .ensures in
     let g = c .before .before .before .before .gate-plan .ensures in
     let i = turn t .loop .inv in
     let v = c .ask .ensures in
-    let r = plan-root (s .args .t1) (s .pre .0) (gates-room s) (gates-most s) (one-left t) _ _ _ (s .pre .1) q v in
-    (
+    let r = plan-root (s .args .t1) (s .pre .0) (gates-room s) (gates-most s) (one-left t) _ _ _ (s .pre .1) q v in (
       omega (arith, one-left t),
       plan-more (s .args .t1) (s .pre .0) (gates-room s) (gates-most s) (one-left t) _ _ _ (s .pre .1) q _ _ (asking t) (g .ranged) (g .drafted) (g .none) v (i .4),
       r .0 ∙ i .2,
@@ -212,7 +210,7 @@ loop-again c =
     )
 
 returns : tie.Need-returns Inv-loop μ-loop
-returns c = 
+returns c =
     let t = c .before in
     let s = t .before .before .before .before .before .before in
     let e : t .loop .g ≡ 0 = omega (arith, c .loop-test .left) in

@@ -4,6 +4,7 @@ use borrow.Author.Tests.{not-true, not-false}
 use Rattle.table.specs.ResultLaws.{says-true}
 use Rattle.table.specs.LevelTest.{noLevels}
 use Rattle.part.specs.Trusted.SoundTest.{sound}
+use Rattle.part.specs.Trusted.Ways.{least}
 use Rattle.part.specs.SoundLaws.{sound-reflects}
 use Rattle.part.specs.StoringLaws.{add-same, add-unsound}
 use Rattle.part.specs.declared.Adding.the-variants.{Unsound}
@@ -25,8 +26,8 @@ unfolding sound
 returns c =
     let d = c .before .before .before in
     let a = d .before .before .before .before .before .args in
-    add-same (c .refused .result) (a .self) Unsound (c .refused .ensures) (a .self) (a .text .now)
-    (add-unsound (a .self) (a .text .now) (sym (d .sound .ensures .0) ∙ not-true _ (c .before .if1 .taken)))
+    add-same (c .refused .result) (a .self) Unsound (c .refused .ensures) least (a .self) (a .text .now)
+    (add-unsound least (a .self) (a .text .now) (sym (d .sound .ensures .0) ∙ not-true _ (c .before .if1 .taken)))
 
 slice-aggregate-take : tie.Need-slice-aggregate-take
 slice-aggregate-take c = search needs

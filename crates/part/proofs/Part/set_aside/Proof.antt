@@ -37,7 +37,7 @@ returns c =
     let a = s .args in
     subst (λ r. Reserves least (a .self) (a .text .now) (r .part) (addingAnswer (r .answer))) (sym (c .refused .ensures))
     (aside-refused (a .self) (a .text .now) (a .self) (numberOf (g .0 .0)) (g .0 .1 .0)
-    (add-misread (a .self) (a .text .now) (s .pre .0) (numberOf (g .0 .0)) (g .0 .1 .0) (reading-is (a .text .now) (r .read .result) (r .read .ensures) (g .1))))
+    (add-misread least (a .self) (a .text .now) (s .pre .0) (numberOf (g .0 .0)) (g .0 .1 .0) (reading-is (a .text .now) (r .read .result) (r .read .ensures) (g .1))))
 
 enum-told : tie.Need-enum-told
 enum-told c = search needs
@@ -78,7 +78,7 @@ sheet-added c =
     let s = r .before .before .before in
     let q = c .offer .result .part in
     let a = addingAnswer (c .offer .result .answer) in
-    add-offered (s .args .self) (s .args .text .now) (s .pre .0) (drawnSheet (r .read .result .sheet)) (sheet-read t) q a
+    add-offered least (s .args .self) (s .args .text .now) (s .pre .0) (drawnSheet (r .read .result .sheet)) (sheet-read t) q a
     (mapped-offered (s .args .self) (r .read .result .sheet) (m .map-joined .result) (m .map-joined .ensures) q a (c .offer .ensures .0))
 
 enum-told-2 : tie.Need-enum-told-2

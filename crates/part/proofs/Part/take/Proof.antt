@@ -8,6 +8,7 @@ use Rattle.sheet.specs.Trusted.Formed.{WellFormed}
 use Rattle.sheet.specs.ReadLaws.{read-formed}
 use Rattle.table.specs.LevelTest.{LevelsStand}
 use Rattle.part.specs.Trusted.Parts.{tablesOf}
+use Rattle.part.specs.Trusted.Ways.{least}
 use Rattle.part.specs.Trusted.AddAnswers.{addingAnswer}
 use Rattle.part.specs.StoringLaws.{sheet-mappable, mapped-storable, mapped-offered, add-same, add-misread, add-offered, reading-is}
 use Rattle.part.specs.declared.Adding.the-variants.{Misread}
@@ -30,8 +31,8 @@ returns c =
     let r = d .before .before in
     let s = r .before .before .before in
     let a = s .args in (
-      add-same (c .refused .result) (a .self) (Misread (g .0 .0) (g .0 .1 .0)) (c .refused .ensures) (a .self) (a .text .now)
-          (add-misread (a .self) (a .text .now) (s .pre .0) (numberOf (g .0 .0)) (g .0 .1 .0) (reading-is (a .text .now) (r .read .result) (r .read .ensures) (g .1))),
+      add-same (c .refused .result) (a .self) (Misread (g .0 .0) (g .0 .1 .0)) (c .refused .ensures) least (a .self) (a .text .now)
+          (add-misread least (a .self) (a .text .now) (s .pre .0) (numberOf (g .0 .0)) (g .0 .1 .0) (reading-is (a .text .now) (r .read .result) (r .read .ensures) (g .1))),
       subst (λ r. LevelsStand (now (a .levels)) (tablesOf (r .part))) (sym (c .refused .ensures)) (s .pre .1),
     )
 
@@ -74,7 +75,7 @@ returns-2 c =
     let s = r .before .before .before in
     let o = c .before .before .offer in
     let a = addingAnswer (o .result .answer) in (
-      add-offered (s .args .self) (s .args .text .now) (s .pre .0) (drawnSheet (r .read .result .sheet)) (sheet-read t) (o .result .part) a
+      add-offered least (s .args .self) (s .args .text .now) (s .pre .0) (drawnSheet (r .read .result .sheet)) (sheet-read t) (o .result .part) a
           (mapped-offered (s .args .self) (r .read .result .sheet) (m .map-joined .result) (m .map-joined .ensures) (o .result .part) a (o .ensures .0)),
       o .ensures .1,
     )
