@@ -1,0 +1,5 @@
+pub mod Trusted
+pub mod Contracts
+pub mod FastOpeningLaws
+pub mod FastOpeningLine
+pub mod Checks

@@ -1,0 +1,4 @@
+pub mod Trusted
+pub mod SlackText
+pub mod SlackLaws
+pub mod Checks
