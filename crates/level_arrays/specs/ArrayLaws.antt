@@ -1,20 +1,20 @@
 -- What stands in the arrays of a search is the least: at one bound, and at every bound from the first on.
-use Prim.Native.Nat.{ℕ, zero, suc, _+_, _-_, _*_, _^_, _≤_, _<_, min}
+use Prim.Native.Nat.{ℕ, zero, suc, _+_, _^_, _≤_, _<_}
 use native.Mathlib.Nat.{add-zero, add-suc}
 use native.Mathlib.Omega.{arith}
 use native.Mathlib.Decide.{decLt}
-use mathlib.Core.Path.{_≡_, refl, ap, sym, _∙_}
+use mathlib.Core.Path.{_≡_}
 use mathlib.Core.Logic.{by-cases}
 use mathlib.Core.Bool.{Bool}
 use mathlib.Core.List.{List, [], _∷_}
 use lib.ListN.{length, getD}
-use lib.Pow.{pow-pos, pow-mono}
+use lib.Pow.{pow-mono}
 use Rattle.tree.specs.Trusted.Tree.{Node}
 use Rattle.plan.specs.Masks.{select}
 use Rattle.plan.specs.MaskLaws.{top-bit}
 use Rattle.levels.specs.Gives.{Gives, AtMost, LeastEntry}
 use Rattle.levels.specs.GivesLaws.{gives-wide}
-use Rattle.levels.specs.Groups.{Groups, GroupChosen, LevelRow, LevelRows}
+use Rattle.levels.specs.Groups.{GroupChosen, LevelRow, LevelRows}
 use Rattle.levels.specs.GroupLaws.{groups-gives, own-first, own-next}
 use Rattle.levels.specs.EntryLaws.{entry-none}
 use Rattle.levels.specs.RowLaws.{row-one, row-step}

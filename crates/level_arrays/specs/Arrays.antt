@@ -9,10 +9,9 @@ use lib.ListN.{length, getD}
 use Rattle.lists.specs.Trusted.Lists.{_∈_}
 use Rattle.lists.specs.Sequences.{upto}
 use Rattle.cover.specs.Trusted.Cover.{pick}
-use Rattle.plan.specs.declared.Plan.{Plan}
 use Rattle.plan.specs.declared.Token.{Token}
 use Rattle.plan.specs.declared.Token.the-variants.{Push as push, Join as join}
-use Rattle.plan.specs.Limits.{masks, mostSteps}
+use Rattle.plan.specs.Limits.{mostSteps}
 use Rattle.plan.specs.Masks.{select}
 use Rattle.plan.specs.Steps.{tokens}
 use Rattle.levels.specs.Groups.{LevelCell}

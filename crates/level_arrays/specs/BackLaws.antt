@@ -1,9 +1,9 @@
 -- Reading a plan back: what is asked of a gate can be read back from its arrays, and what is then asked of its fanins can be asked of them.
-use Prim.Native.Nat.{ℕ, zero, suc, _+_, _-_, _*_, _^_, _≤_, _<_, min}
+use Prim.Native.Nat.{ℕ, zero, suc, _+_, _-_, _*_, _^_, _≤_, _<_}
 use native.Mathlib.Omega.{arith}
 use native.Mathlib.Decide.{decLt}
 use mathlib.Core.Path.{_≡_, refl, ap, sym, _∙_}
-use mathlib.Core.Logic.{_⊎_, inl, inr, ⊎-elim, by-cases, _≢_}
+use mathlib.Core.Logic.{_⊎_, inr, ⊎-elim, by-cases, _≢_}
 use mathlib.Core.Bool.{Bool}
 use mathlib.Core.List.{List, [], _∷_}
 use lib.ListN.{length, getD}
@@ -11,10 +11,9 @@ use lib.Pow.{pow-pos, pow-mono, pow-lt}
 use Rattle.lists.specs.ListLaws.{every-head}
 use Rattle.tree.specs.declared.Kind.{Kind}
 use Rattle.tree.specs.Trusted.Tree.{Node, leaf, gate, Edges}
-use Rattle.plan.specs.Masks.{select}
 use Rattle.plan.specs.MaskLaws.{top-bit, select-all}
 use Rattle.levels.specs.Gives.{fanins, Gives, drawn, placed, AtMost, LeastEntry}
-use Rattle.levels.specs.GivesLaws.{gives-higher, gives-narrow, gives-above, gate-out}
+use Rattle.levels.specs.GivesLaws.{gives-higher, gives-narrow, gives-above}
 use Rattle.levels.specs.Groups.{Groups, LevelRows}
 use Rattle.levels.specs.GroupLaws.{groups-gives, groups-higher}
 use Rattle.levels.specs.EntryLaws.{entry-one, entry-fanins, entry-higher}

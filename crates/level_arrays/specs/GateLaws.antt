@@ -1,10 +1,9 @@
 -- The lines that are kept of a gate are its own; and those of the root tell the least root level and the fewest tables.
-use Prim.Native.Nat.{ℕ, zero, suc, _+_, _-_, _*_, _^_, _≤_, _<_}
-use native.Mathlib.Nat.{add-zero}
+use Prim.Native.Nat.{ℕ, zero, suc, _+_, _-_, _^_, _≤_, _<_}
 use native.Mathlib.Omega.{arith}
 use native.Mathlib.Decide.{decLt}
-use mathlib.Core.Path.{_≡_, refl}
-use mathlib.Core.Logic.{_⊎_, ⊎-elim, by-cases}
+use mathlib.Core.Path.{_≡_}
+use mathlib.Core.Logic.{⊎-elim, by-cases}
 use mathlib.Core.Bool.{Bool}
 use mathlib.Core.List.{List, [], _∷_}
 use lib.Dec.{T}
@@ -17,14 +16,14 @@ use Rattle.tree.specs.declared.Kind.{Kind}
 use Rattle.tree.specs.Trusted.Tree.{Node, gate, Edges}
 use Rattle.tree.specs.Measures.{many, proper, propers, leaves}
 use Rattle.levels.specs.Trusted.Levels.{Fastest}
-use Rattle.levels.specs.Gives.{fanins, size, Nets, Gives, AtMost, LeastEntry}
+use Rattle.levels.specs.Gives.{fanins, size, Gives, AtMost, LeastEntry}
 use Rattle.levels.specs.GivesLaws.{fanins-many, gives-narrow, gives-held}
 use Rattle.levels.specs.EntryLaws.{entry-no-input, entry-below}
 use Rattle.levels.specs.Fastest.{entry-fastest}
 use Rattle.levels.specs.Found.{some-gives*}
 use Rattle.levels.specs.Lines.{Greatest, LevelSettled, LevelLines}
 use Rattle.levels.specs.LineLaws.{start-enough, look-entry, row-whole, settled-few, line-final}
-use Rattle.level_arrays.specs.Arrays.{big, entryAt, lineAt, fanRow, Searched, GreatestFan, startAt, LinesKept}
+use Rattle.level_arrays.specs.Arrays.{big, lineAt, fanRow, Searched, GreatestFan, startAt, LinesKept}
 use Rattle.level_arrays.specs.ArrayLaws.{FanEntries, searched-rows}
 use Rattle.level_arrays.specs.Askable.{FanLines}
 use Rattle.level_arrays.specs.declared.Fans.{Fans}

@@ -17,8 +17,6 @@ pub const FANIN_ROOM: usize = 80;
 pub const ARRAYS_ROOM: usize = 90112;
 
 // A line has a place for each number of inputs, from 1 to 6. A gate has at most 256 lines, one for each bound, and a sheet 255 gates.
-pub const MOST_LINES: usize = 256;
-
 pub const STORE_ROOM: usize = 391680;
 
 // A row, by number of inputs.

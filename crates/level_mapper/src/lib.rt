@@ -1,7 +1,6 @@
 // Mapping a sheet to the fewest levels, and among those to the fewest tables: the lines of every gate, then a plan for each, from the last gate on, and the run of the
 // plans.
 ghost use Rattle.mapper_laws.specs.CodeMap.{Sheetable};
-ghost use Rattle.sheet.specs.Trusted.Answers.{drawnSheet};
 ghost use Rattle.level_sheets.specs.Lined.{netLevel};
 ghost use Rattle.level_mapping.specs.FastMapping.{NetsLow, LinesFound, LineRooms, PlansChosen, FastMapped};
 use level_arrays::ARRAYS_ROOM;

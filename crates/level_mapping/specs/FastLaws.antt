@@ -2,29 +2,29 @@
 use Prim.Native.Nat.{ℕ, zero, suc, _+_, _-_, _*_, _^_, _≤_, _<_}
 use native.Mathlib.Numerals.{add-one}
 use native.Mathlib.Omega.{arith}
-use mathlib.Core.Path.{_≡_, refl, sym, ap, subst, _∙_}
+use mathlib.Core.Path.{_≡_, sym, ap, subst, _∙_}
 use mathlib.Core.List.{List}
 use lib.ListN.{length, getD, set, length-set}
-use Rattle.lists.specs.Trusted.Lists.{_∈_, Every}
+use Rattle.lists.specs.Trusted.Lists.{_∈_}
 use Rattle.lists.specs.ListLaws.{getD-any}
 use Rattle.plan.specs.declared.Plan.{Plan}
 use Rattle.levels.specs.Trusted.Levels.{level, Fastest}
-use Rattle.levels.specs.Demands.{Demand, demand}
+use Rattle.levels.specs.Demands.{demand}
 use Rattle.sheet.specs.declared.Sheet.{Sheet}
 use Rattle.sheet.specs.declared.Gate.{Gate as SheetGate}
 use Rattle.sheet.specs.Trusted.Limits.{mostGates}
-use Rattle.sheet.specs.Trusted.Sheet.{DrawnGate, faninNets, faninGates, leafNets}
+use Rattle.sheet.specs.Trusted.Sheet.{DrawnGate, faninNets}
 use Rattle.sheet.specs.Trusted.Answers.{drawnGate, drawnSheet}
 use Rattle.sheet.specs.Trusted.Trees.{treeOf}
-use Rattle.sheet.specs.PlaceLaws.{noGate, noSheetGate, sheet-gates, few-gates, sheet-gate, gate-counted, gate-reads}
-use Rattle.level_arrays.specs.Arrays.{big, lineAt, fanRow, startAt, FansGood, GreatestFan, LinesKept, Ranged, Falling, ReadsBack, Drafted}
+use Rattle.sheet.specs.PlaceLaws.{noGate, noSheetGate, sheet-gates, sheet-gate, gate-counted, gate-reads}
+use Rattle.level_arrays.specs.Arrays.{big, lineAt, fanRow, startAt, FansGood, LinesKept, Ranged, Falling, ReadsBack, Drafted}
 use Rattle.level_arrays.specs.declared.Fans.{Fans}
 use Rattle.level_arrays.specs.declared.Draft.{Draft}
 use Rattle.level_sheets.specs.SheetTrees.{faninsAt, gather-out, ReadsAt, reads-once}
-use Rattle.level_sheets.specs.Lined.{FansOf, FansReach, LowNets, Lined, netLevel}
+use Rattle.level_sheets.specs.Lined.{FansOf, FansReach, Lined, netLevel}
 use Rattle.level_sheets.specs.LinedLaws.{lined-start, lined-next, lined-good, by-fanin}
-use Rattle.level_sheets.specs.PlansMeet.{noDemand, PlansMeet, lastDemand}
-use Rattle.level_sheets.specs.Asking.{demandAt, demandsOf, Asking, AskedOf}
+use Rattle.level_sheets.specs.PlansMeet.{noDemand, lastDemand}
+use Rattle.level_sheets.specs.Asking.{demandsOf, Asking, AskedOf}
 use Rattle.level_sheets.specs.AskingLaws.{is-asked, asking-falls, asking-kept, asking-next, demands-at}
 use Rattle.level_sheets.specs.RootLaws.{root-some, root-fastest, root-demand, asking-start, asking-end}
 use Rattle.mapper_laws.specs.declared.Mapping.{Mapping}

@@ -1,5 +1,5 @@
 -- What the functions of the mapping to the fewest levels promise. Internal definitions: the laws are in FastLaws.
-use Prim.Native.Nat.{ℕ, suc, _+_, _-_, _≤_, _<_}
+use Prim.Native.Nat.{ℕ, suc, _-_, _≤_, _<_}
 use mathlib.Core.Path.{_≡_}
 use mathlib.Core.List.{List}
 use lib.ListN.{length, getD}

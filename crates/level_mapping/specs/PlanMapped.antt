@@ -10,7 +10,7 @@ use Rattle.cover.specs.Trusted.Tables.{LookupTable}
 use Rattle.cover.specs.Trusted.CoverTables.{CoverTables}
 use Rattle.plan.specs.declared.Plan.{Plan}
 use Rattle.levels.specs.Trusted.Levels.{level}
-use Rattle.levels.specs.Demands.{Demand, demand, LevelStanding}
+use Rattle.levels.specs.Demands.{Demand, LevelStanding}
 use Rattle.sheet.specs.declared.Sheet.{Sheet}
 use Rattle.sheet.specs.Trusted.Sheet.{DrawnGate}
 use Rattle.sheet.specs.Trusted.Trees.{treesOf}

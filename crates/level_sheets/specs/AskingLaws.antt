@@ -3,9 +3,9 @@ use Prim.Native.Nat.{ℕ, zero, suc, _+_, _-_, _*_, _^_, _≤_, _<_}
 use native.Mathlib.Omega.{arith}
 use native.Mathlib.Decide.{decLt}
 use mathlib.Core.Path.{_≡_, refl, sym, ap, ap₂, subst, _∙_}
-use mathlib.Core.Logic.{by-cases, inl, inr, ⊎-elim, _⊎_, _≢_}
+use mathlib.Core.Logic.{by-cases, inl, inr, _⊎_, _≢_}
 use mathlib.Core.Bool.{Bool, true, false}
-use mathlib.Core.List.{List, [], _∷_, _++_, map, append-nil}
+use mathlib.Core.List.{List, [], _∷_, _++_, append-nil}
 use lib.ListN.{length, getD, set, length-map}
 use lib.Seq.{getD-set-same, getD-set-other}
 use Rattle.lists.specs.Trusted.Lists.{_∈_}
@@ -13,8 +13,7 @@ use Rattle.lists.specs.Sequences.{Paired, no-pair, pair, upto}
 use Rattle.lists.specs.Cases.{if-leb}
 use Rattle.lists.specs.ListLaws.{every-at, map-at}
 use Rattle.lists.specs.NumberLaws.{upto-length, upto-at}
-use Rattle.tree.specs.declared.Kind.{Kind}
-use Rattle.tree.specs.Trusted.Tree.{Node, leaf, gate, Edges}
+use Rattle.tree.specs.Trusted.Tree.{Node, leaf, gate}
 use Rattle.cover.specs.Trusted.Cover.{pick}
 use Rattle.plan.specs.declared.Plan.{Plan}
 use Rattle.plan.specs.Limits.{mostSteps}
@@ -23,14 +22,12 @@ use Rattle.plan.specs.Masks.{select}
 use Rattle.plan.specs.MaskLaws.{select-all}
 use Rattle.sheet.specs.declared.Source.{Source}
 use Rattle.sheet.specs.declared.Source.the-variants.{Net, Gate}
-use Rattle.sheet.specs.declared.Edge.{Edge}
-use Rattle.sheet.specs.Trusted.Sheet.{DrawnGate, DrawnSheet}
+use Rattle.sheet.specs.Trusted.Sheet.{DrawnSheet}
 use Rattle.sheet.specs.Trusted.Trees.{nodeOf, edgesOf, treesOf}
 use Rattle.sheet.specs.Trusted.Formed.{WellFormed}
 use Rattle.sheet.specs.PlaceLaws.{noGate, noEdge, earlier-at, every-source}
 use Rattle.levels.specs.Gives.{fanins}
 use Rattle.levels.specs.Lines.{look}
-use Rattle.levels.specs.LineLaws.{start-enough}
 use Rattle.levels.specs.Demands.{Demand, demand, DemandPlanned}
 use Rattle.level_arrays.specs.Arrays.{big, entryAt, lineAt, fanLine, fanRow, startAt, Ranged, Falling, ReadsBack, draftDemand, draftDemands, NetEntries, PlacesNone, Drafted}
 use Rattle.level_arrays.specs.Askable.{Askable, FanLines}
@@ -38,7 +35,7 @@ use Rattle.level_arrays.specs.BackLaws.{arrays-fall, whole-entry, asked-kept, s
 use Rattle.level_arrays.specs.declared.Fans.{Fans}
 use Rattle.level_arrays.specs.declared.Draft.{Draft}
 use Rattle.level_sheets.specs.SheetTrees.{fanins-length, fanins-at, faninsAt, ReadsAt, reads-before, reads-once, read-somewhere, gate-tree}
-use Rattle.level_sheets.specs.Lined.{FanOf, FansOf, LowNets, Lined}
+use Rattle.level_sheets.specs.Lined.{FansOf, LowNets, Lined}
 use Rattle.level_sheets.specs.LinedLaws.{by-fanin, lined-fans}
 use Rattle.level_sheets.specs.PlansMeet.{isNet, readsNet, Asked, PlanFor, noPlan}
 use Rattle.level_sheets.specs.Asking.{gateEntry, demandAt, demandsOf, ReadFrom, Asking, AskedOf}

@@ -1,6 +1,5 @@
 -- The lines of a sheet's gates: those of one gate more, from its fanins'.
 use Prim.Native.Nat.{ℕ, zero, suc, _+_, _-_, _*_, _≤_, _<_}
-use native.Mathlib.Numerals.{add-one}
 use native.Mathlib.Omega.{arith}
 use native.Mathlib.Decide.{decLt}
 use mathlib.Core.Path.{_≡_, refl, sym, ap, subst, _∙_}
@@ -8,30 +7,27 @@ use mathlib.Core.Logic.{by-cases, _≢_}
 use mathlib.Core.Bool.{Bool, false}
 use mathlib.Core.List.{List, [], _∷_}
 use lib.Dec.{T}
-use lib.ListN.{length, getD, set, length-set, length-append}
+use lib.ListN.{length, getD, set, length-append}
 use lib.Seq.{getD-set-same, getD-set-other}
-use Rattle.lists.specs.Trusted.Lists.{Every, _∈_, first}
-use Rattle.lists.specs.Cases.{by-eqb}
+use Rattle.lists.specs.Trusted.Lists.{_∈_, first}
 use Rattle.lists.specs.ListLaws.{every-at}
-use Rattle.tree.specs.declared.Kind.{Kind}
 use Rattle.tree.specs.Trusted.Tree.{Node, leaf, gate, Edges}
 use Rattle.tree.specs.Measures.{leaves, leaves*, proper}
 use Rattle.cover.specs.Trusted.Cover.{pick}
 use Rattle.sheet.specs.declared.Source.{Source}
 use Rattle.sheet.specs.declared.Source.the-variants.{Net, Gate}
-use Rattle.sheet.specs.declared.Edge.{Edge}
 use Rattle.sheet.specs.Trusted.Sheet.{DrawnGate, DrawnSheet, netOf, gateOf, faninNets, faninGates, leafNets}
-use Rattle.sheet.specs.Trusted.Trees.{nodeOf, edgesOf, treesOf}
+use Rattle.sheet.specs.Trusted.Trees.{edgesOf, treesOf}
 use Rattle.sheet.specs.Trusted.Formed.{WellFormed}
 use Rattle.sheet.specs.PlaceLaws.{noGate, noEdge, earlier-at}
 use Rattle.levels.specs.Gives.{fanins, size, LeastEntry}
 use Rattle.levels.specs.Lines.{LevelLines}
 use Rattle.levels.specs.LineLaws.{lines-net, lines-gate}
-use Rattle.level_arrays.specs.Arrays.{big, lineAt, fanLine, FansGood, GreatestFan, LinesKept}
+use Rattle.level_arrays.specs.Arrays.{big, lineAt, fanLine, FansGood, LinesKept}
 use Rattle.level_arrays.specs.Askable.{FanLines}
 use Rattle.level_arrays.specs.GateLaws.{kept-lines}
 use Rattle.level_arrays.specs.declared.Fans.{Fans}
-use Rattle.level_sheets.specs.SheetTrees.{fanins-length, fanins-at, faninsAt, ReadsAt, reads-before, gate-tree, gate-proper, gate-leaves, gather-out}
+use Rattle.level_sheets.specs.SheetTrees.{fanins-length, fanins-at, faninsAt, reads-before, gate-tree, gate-proper, gate-leaves, gather-out}
 use Rattle.level_sheets.specs.Lined.{FanOf, FansOf, LowNets, Lined}
 
 -- the leaves of a gate's tree, counted

@@ -2,34 +2,32 @@
 -- gate has its plan, the plans meet what is asked.
 use Prim.Native.Nat.{ℕ, suc, _+_, _-_, _≤_, _<_}
 use native.Mathlib.Omega.{arith}
-use mathlib.Core.Path.{_≡_, refl, sym, ap, subst, _∙_}
+use mathlib.Core.Path.{_≡_, ap, subst, _∙_}
 use mathlib.Core.Logic.{inl, inr}
 use mathlib.Core.Bool.{Bool, false}
 use mathlib.Core.List.{List, [], _∷_}
-use lib.Dec.{T}
 use lib.ListN.{length, getD, length-map}
 use Rattle.lists.specs.NumberLaws.{upto-length}
 use Rattle.lists.specs.Sequences.{upto}
 use Rattle.lists.specs.ListLaws.{every-none, every-cons, every-head}
 use Rattle.tree.specs.declared.Kind.{Kind}
-use Rattle.tree.specs.Trusted.Tree.{Node, leaf, gate, Edges}
-use Rattle.tree.specs.Measures.{proper}
+use Rattle.tree.specs.Trusted.Tree.{gate, Edges}
 use Rattle.plan.specs.declared.Plan.{Plan}
 use Rattle.sheet.specs.Trusted.Sheet.{DrawnSheet}
 use Rattle.sheet.specs.Trusted.Trees.{edgesOf, treesOf, treeOf}
 use Rattle.sheet.specs.Trusted.Formed.{WellFormed}
 use Rattle.sheet.specs.PlaceLaws.{noGate}
 use Rattle.levels.specs.Trusted.Levels.{Fastest}
-use Rattle.levels.specs.Gives.{fanins, Gives, drawn, AtMost, LeastEntry}
+use Rattle.levels.specs.Gives.{fanins, drawn}
 use Rattle.levels.specs.GivesLaws.{gives-higher, gives-narrow, gate-out, nets-in, nets-out}
 use Rattle.levels.specs.EntryLaws.{entry-one, entry-fanins}
-use Rattle.levels.specs.Lines.{Greatest, LevelLines}
+use Rattle.levels.specs.Lines.{LevelLines}
 use Rattle.levels.specs.LineLaws.{look-entry}
 use Rattle.levels.specs.Demands.{demand}
 use Rattle.level_arrays.specs.Arrays.{big, lineAt}
 use Rattle.level_arrays.specs.Askable.{Askable}
 use Rattle.level_arrays.specs.GateLaws.{lines-fastest, last-some}
-use Rattle.level_sheets.specs.SheetTrees.{faninsAt, ReadsAt, reads-before, gate-tree, gate-proper}
+use Rattle.level_sheets.specs.SheetTrees.{faninsAt, gate-tree}
 use Rattle.level_sheets.specs.Lined.{Lined}
 use Rattle.level_sheets.specs.LinedLaws.{proper-gate, few-under}
 use Rattle.level_sheets.specs.PlansMeet.{PlansMeet}

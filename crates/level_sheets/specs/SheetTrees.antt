@@ -3,17 +3,16 @@ use Prim.Native.Nat.{ℕ, zero, suc, _+_, _-_, _≤_, _<_}
 use native.Mathlib.Nat.{zero-add}
 use native.Mathlib.Omega.{arith}
 use native.Mathlib.Decide.{decLt}
-use mathlib.Core.Path.{_≡_, refl, sym, ap, ap₂, subst, _∙_}
+use mathlib.Core.Path.{_≡_, refl, sym, ap, _∙_}
 use mathlib.Core.Logic.{by-cases, inl, inr}
 use mathlib.Core.Bool.{Bool}
 use mathlib.Core.List.{List, [], _∷_, _++_, List·Memᴰ·append-cases, List·Memᴰ·not-nil, List·Memᴰ·eq-of-singleton, Memᴰ·append-left, Memᴰ·append-right}
 use lib.Dec.{T}
 use lib.ListN.{length, getD, take, drop, length-append, List·getD-append, take-append-drop}
 use lib.Seq.{getD-append-add, length-take-le}
-use Rattle.lists.specs.Trusted.Lists.{_∈_, first, later, Every, Distinct, Permuted, gather, from}
+use Rattle.lists.specs.Trusted.Lists.{_∈_, first, later, Every, Distinct, gather, from}
 use Rattle.lists.specs.Cases.{and-split}
-use Rattle.lists.specs.ListLaws.{every-none, every-cons, every-head, every-at, every-append, every-left, every-right, permuted-to, permuted-from}
-use Rattle.tree.specs.declared.Kind.{Kind}
+use Rattle.lists.specs.ListLaws.{every-none, every-cons, every-at, every-append, permuted-to, permuted-from}
 use Rattle.tree.specs.Trusted.Tree.{Node, leaf, gate, Edges, none, edge}
 use Rattle.tree.specs.Measures.{leaves, leaves*, many, proper, propers}
 use Rattle.sheet.specs.declared.Source.{Source}
@@ -22,7 +21,7 @@ use Rattle.sheet.specs.declared.Edge.{Edge}
 use Rattle.sheet.specs.Trusted.Limits.{mostLeaves}
 use Rattle.sheet.specs.Trusted.Sheet.{DrawnGate, DrawnSheet, gateOf, faninGates, gatesRead}
 use Rattle.sheet.specs.Trusted.Trees.{treeAt, nodeOf, edgesOf, treesOf, treeOf}
-use Rattle.sheet.specs.Trusted.Formed.{Before, WellFormed}
+use Rattle.sheet.specs.Trusted.Formed.{WellFormed}
 use Rattle.sheet.specs.NumberLaws.{distinct-left, distinct-right, distinct-apart}
 use Rattle.sheet.specs.ReadLaws.{gates-distinct}
 use Rattle.sheet.specs.PlaceLaws.{noGate, noEdge, earlier-at}

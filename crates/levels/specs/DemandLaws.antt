@@ -20,7 +20,7 @@ use Rattle.plan.specs.Plans.{Fragment, drawn, made, marked, placeFragment, Plan
 use Rattle.plan.specs.PlanLaws.{runs-append, runs-split, last-join, some-mark}
 use Rattle.plan.specs.declared.Token.{Token}
 use Rattle.plan.specs.declared.Token.the-variants.{Join as join}
-use Rattle.levels.specs.Trusted.Levels.{level, levels, Fastest}
+use Rattle.levels.specs.Trusted.Levels.{level, levels}
 use Rattle.levels.specs.Demands.{Demand, demand, takenAs, DemandJoins, PlanMeets, fanin, binary, DemandPlanned, LevelStanding, LevelReady, ready-none, ready-edge, Fans, LevelBody}
 
 module _ (K : ℕ) (lev : ℕ → ℕ) where
@@ -173,11 +173,3 @@ module _ (K : ℕ) (lev : ℕ → ℕ) where
 
     pub level-cover : (m : ℕ) → CoverOf K (gate k es) (top (suc m) k body)
     level-cover m = record { split = split (b .matched); root = rooted; fits = (b .fans .many, b .fans .small, b .fans .fits) }
-
-    -- a plan that meets what is least makes a cover with the least root level and, among those, the fewest tables
-    pub body-fastest : {n ℓ : ℕ} → Fastest lev K (gate k es) (suc n) (suc ℓ) → d .bound ≤ ℓ → d .below ≤ n → (m : ℕ) →
-        CoverOf K (gate k es) (top (suc m) k body) × (level lev (top (suc m) k body) ≡ suc ℓ) × (tables (top (suc m) k body) ≡ suc n)
-    body-fastest {n} {ℓ} f u v m =
-        let o = level-cover m in
-        let e : level lev (top (suc m) k body) ≡ suc ℓ = omega (arith, b .fans .high, f .none-lower _ o) in
-        (o, e, omega (arith, b .fans .count, f .none-fewer _ o e))

@@ -1,10 +1,9 @@
 -- Laws of groups of a gate's fanins: a search that starts at the bound 0, or as many bounds below the one that is asked for as the
 -- gate has fanins but one, finds all that the fanins can give.
-use Prim.Native.Nat.{ℕ, zero, suc, _+_, _≤_, _<_, min}
+use Prim.Native.Nat.{ℕ, zero, suc, _+_, _≤_, min}
 use native.Mathlib.Omega.{arith}
-use native.Mathlib.Decide.{decLt}
 use mathlib.Core.Path.{_≡_, refl}
-use mathlib.Core.Logic.{_⊎_, ⊎-elim, by-cases}
+use mathlib.Core.Logic.{_⊎_, ⊎-elim}
 use mathlib.Core.Bool.{Bool}
 use mathlib.Core.List.{List, [], _∷_}
 use lib.ListN.{length, length-append}
@@ -149,14 +148,3 @@ module _ {K : ℕ} {lev : ℕ → ℕ} where
       where
         same : {m : ℕ} → suc ℓ ≡ suc m → m ≡ ℓ
         same h = omega arith
-
-    -- what K inputs allow needs no table of its own
-    pub own-more : {zs : List (Bool × Node)} {ℓ e q : ℕ} → 1 ≤ K → LeastEntry big (AtMost (Groups K lev from zs ℓ) K) e →
-        LeastEntry big (GroupChosen K lev from zs ℓ) q → e < big → e < q
-    own-more {ℓ = ℓ} {q = q} k x y b =
-        by-cases (decLt q big)
-        (λ l.
-        let p = y .some l in
-        let g = groups-higher ℓ (p .6) (omega (arith, p .4)) in
-        omega (arith, p .5, x .low (p .2) (p .1, gives-narrow k (groups-gives g), g)))
-        (λ l. omega arith)

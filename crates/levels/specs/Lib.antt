@@ -19,6 +19,5 @@ pub mod Found
 pub mod Lines
 pub mod LineLaws
 pub mod MaskDemands
-pub mod Bounds
 pub mod TieLaws
 pub mod Worked

@@ -35,9 +35,6 @@ module _ {lev : ℕ → ℕ} where
   pub greatest-net : (i : Bool) (n : ℕ) → Greatest lev ((i, leaf n) ∷ []) (lev n)
   greatest-net i n = record { nets = every-cons (every-cons (omega arith) (every-none _)) (every-none _); least = λ ℓ h. every-head (every-head h) }
 
-  pub greatest-none : Greatest lev [] 0
-  greatest-none = record { nets = every-none _; least = λ ℓ h. omega arith }
-
   pub greatest-more : {z : Bool × Node} {zs : List (Bool × Node)} {a b : ℕ} → Greatest lev (z ∷ []) a → Greatest lev zs b →
       Greatest lev (z ∷ zs) (max a b)
   greatest-more g h = record {
@@ -49,10 +46,6 @@ module _ {lev : ℕ → ℕ} where
   greatest-gate es g = record { nets = every-cons (nets-out es (g .nets)) (every-none _); least = λ ℓ s. g .least ℓ (nets-in es (every-head s)) }
 
 -- ---- where nothing changes any more
-
-module _ {K : ℕ} {lev : ℕ → ℕ} where
-  pub settled-higher : {zs : List (Bool × Node)} {ℓ ℓ′ : ℕ} → LevelSettled K lev zs ℓ → ℓ ≤ ℓ′ → LevelSettled K lev zs ℓ′
-  settled-higher {ℓ′ = ℓ′} s l b w c g = let p = s b w c g in (p .0, p .1, p .2, p .3, gives-higher ℓ′ (p .4) l)
 
 module _ {K : ℕ} {lev : ℕ → ℕ} {big : ℕ} where
   pub settled-entry : {zs : List (Bool × Node)} {ℓ ℓ′ w e : ℕ} → LevelSettled K lev zs ℓ → ℓ ≤ ℓ′ → LeastEntry big (AtMost (Gives K lev zs ℓ) w) e →

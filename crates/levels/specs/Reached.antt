@@ -1,22 +1,18 @@
--- What a group of fanins gives is reached by joins from demands that its fanins meet; and what a gate gives with no table of its
--- own is a demand that the gate itself meets.
-use Prim.Native.Nat.{ℕ, suc, _+_, _≤_, _<_}
+-- What a group of fanins gives is reached by joins from demands that its fanins meet.
+use Prim.Native.Nat.{ℕ, suc, _+_, _≤_}
 use native.Mathlib.Omega.{arith}
-use mathlib.Core.Path.{_≡_, refl, ap, subst}
-use mathlib.Core.Logic.{_⊎_, inl, inr, ⊎-elim}
 use mathlib.Core.Bool.{Bool, true, false}
 use mathlib.Core.List.{List, [], _∷_}
 use lib.Dec.{T}
-use lib.ListN.{length}
 use Rattle.lists.specs.Cases.{and-split}
 use Rattle.lists.specs.Sequences.{Mix, neither, left, right, Paired, no-pair, pair}
 use Rattle.lists.specs.ListLaws.{every-head}
 use Rattle.lists.specs.MixLaws.{mix-every}
 use Rattle.tree.specs.declared.Kind.{Kind}
 use Rattle.tree.specs.Trusted.Tree.{Node, gate, Edges, none, edge}
-use Rattle.tree.specs.Measures.{many, proper, propers}
-use Rattle.levels.specs.Gives.{fanins, Proper, Gives, net, drawn, both, placed, AtMost, LeastEntry}
-use Rattle.levels.specs.GivesLaws.{fanins-many, fanins-proper}
+use Rattle.tree.specs.Measures.{many, propers}
+use Rattle.levels.specs.Gives.{fanins, Proper, Gives, net, drawn, both, placed}
+use Rattle.levels.specs.GivesLaws.{fanins-proper}
 use Rattle.levels.specs.Demands.{
   Demand,
   demand,
@@ -116,38 +112,3 @@ module _ (K : ℕ) (lev : ℕ → ℕ) where
         flag = true;
         within = demand-raised (x .flag) (x .own) (x .within);
       }
-
-  -- ---- what a gate gives with no table of its own is a demand that it meets
-
-  joins-more : {a b d d′ : Demand} → DemandJoins K a b d → d ⊑ d′ → d′ .inputs ≤ K → DemandJoins K a b d′
-  joins-more j h i = record {
-    left = omega (arith, j .left, h .bound);
-    right = omega (arith, j .right, h .bound);
-    inputs = omega (arith, j .inputs, h .inputs);
-    most = i;
-    below = omega (arith, j .below, h .below);
-  }
-
-  held-more : {k : Kind} {es : Edges} {d d′ : Demand} → LevelHeld K lev (gate k es) d → d ⊑ d′ → d′ .inputs ≤ K → LevelHeld K lev (gate k es) d′
-  held-more (held-gate hs (DemandReaches.both l r m f g j)) h i = held-gate hs (DemandReaches.both l r m f g (joins-more j h i))
-
-  held-or-placed : {zs : List (Bool × Node)} {ℓ w c : ℕ} (k : Kind) (es : Edges) → T (many es) → Proper zs → zs ≡ fanins es →
-      Gives K lev zs ℓ w c →
-      LevelHeld K lev (gate k es) (demand ℓ w c) ⊎ ((p : ℕ) × (v : ℕ) × (d : ℕ) × (ℓ ≡ suc p) × (c ≡ suc d) × Gives K lev zs p v d)
-  held-or-placed k es t p e (net h) = absurd (omega (arith, fanins-many es t, ap length e))
-  held-or-placed k es t p e (drawn g) = absurd (omega (arith, fanins-many es t, ap length e))
-  held-or-placed k es t p e (both m g h f) =
-      let q = mix-every m p in
-      let x = reached-both m (reached (q .0) g) (reached (q .1) h) f in
-      inl (level-gate k es t (subst (λ zs. Each zs (x .0)) e (x .1)) (x .2))
-  held-or-placed k es t p e (placed g) = inr (_, _, _, refl, refl, g)
-
-  -- an entry that is not more than the one of the bound before for K inputs
-  pub entry-held : {big ℓ w e : ℕ} (k : Kind) (es : Edges) → T (proper (gate k es)) → w ≤ K →
-      LeastEntry big (AtMost (Gives K lev (fanins es) ℓ) w) e → e < big →
-      ((p v c : ℕ) → suc p ≡ ℓ → Gives K lev (fanins es) p v c → e ≤ c) → LevelHeld K lev (gate k es) (demand ℓ w e)
-  entry-held k es t l x b f =
-      let q = and-split (many es) (propers es) t in
-      let (v, i, g) = x .some b in
-      ⊎-elim (λ h. held-more h (omega arith) l) (λ h. absurd (omega (arith, h .4, f (h .0) (h .1) (h .2) (omega (arith, h .3)) (h .5))))
-      (held-or-placed k es (q .0) (fanins-proper es (q .1)) refl g)

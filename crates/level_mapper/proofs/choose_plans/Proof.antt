@@ -9,11 +9,8 @@ use lib.Seq.{getD-set-same}
 use Rattle.sheet.proofs.Gate.{the-field}
 use Rattle.sheet.specs.Trusted.Limits.{mostGates}
 use Rattle.sheet.specs.Trusted.Answers.{drawnSheet}
-use Rattle.level_arrays.specs.Arrays.{FansGood}
-use Rattle.level_arrays.specs.declared.Fans.{Fans}
-use Rattle.level_sheets.specs.Lined.{FansOf, netLevel}
+use Rattle.level_sheets.specs.Lined.{netLevel}
 use Rattle.level_sheets.specs.Asking.{Asking}
-use Rattle.level_mapping.specs.FastMapping.{FirstLine}
 use Rattle.level_mapping.specs.FastLaws.{fast-reach, plan-good, plan-apart, plan-back, plan-more, plan-low, plan-root, some-gate, first-had, first-low, choose-start, plans-chosen}
 use Rattle.level_mapper.proofs.choose_plans.Statement.{statement}
 use Rattle.level_mapper.proofs.choose_plans.Tie as tie

@@ -5,13 +5,10 @@ use native.Mathlib.Omega.{arith}
 use mathlib.Core.Path.{_≡_, refl}
 use borrow.Author.Needs.{needs}
 use borrow.Author.Count.{below-more}
-use lib.ListN.{length, getD}
 use Rattle.level_arrays.specs.Arrays.{big, lineAt}
 use Rattle.level_mapping.specs.FastLaws.{line-read}
 use Rattle.sheet_lines.proofs.first_line.Statement.{statement}
 use Rattle.sheet_lines.proofs.first_line.Tie as tie
-use Rattle.sheet_lines.proofs.first_line.Reads as reads
-use Rattle.sheet_lines.proofs.first_line.Lts as lts
 
 abbrev Inv-loop : tie.InvT-loop
 Inv-loop k g count store width last j₀ j = (width ≡ k) × (last + 1 ≡ count) × (j ≤ last) × ((i : ℕ) → i < j → big ≤ lineAt store g i k)
@@ -19,43 +16,33 @@ Inv-loop k g count store width last j₀ j = (width ≡ k) × (last + 1 ≡ coun
 abbrev μ-loop : tie.MeasureT-loop
 μ-loop k g count store width last j₀ j = last - j
 
--- src/lib.rt:43:16
 sub-last : tie.Need-sub-last Inv-loop μ-loop
 sub-last c = search needs
 
--- src/lib.rt:45:5
 loop-holds : tie.Need-loop-holds Inv-loop μ-loop
 loop-holds c = search needs
 
--- src/lib.rt:46:22
 mul-place : tie.Need-mul-place Inv-loop μ-loop
 mul-place c = search needs
 
--- src/lib.rt:46:32
 cast-place : tie.Need-cast-place Inv-loop μ-loop
 cast-place c = search needs
 
--- src/lib.rt:46:22
 add-place : tie.Need-add-place Inv-loop μ-loop
 add-place c = search needs
 
--- src/lib.rt:46:21
 mul-place-2 : tie.Need-mul-place-2 Inv-loop μ-loop
 mul-place-2 c = search needs
 
--- src/lib.rt:46:51
 sub-place : tie.Need-sub-place Inv-loop μ-loop
 sub-place c = search needs
 
--- src/lib.rt:46:21
 add-place-2 : tie.Need-add-place-2 Inv-loop μ-loop
 add-place-2 c = search needs
 
--- src/lib.rt:47:12
 element-copy-out-if1 : tie.Need-element-copy-out-if1 Inv-loop μ-loop
 element-copy-out-if1 c = search needs
 
--- src/lib.rt:48:13
 returns : tie.Need-returns Inv-loop μ-loop
 returns c =
     let t = c .before .before .before in
@@ -66,15 +53,12 @@ returns c =
       none = t .loop .inv .3;
     }
 
--- src/lib.rt:50:9
 add-j : tie.Need-add-j Inv-loop μ-loop
 add-j c = search needs
 
--- src/lib.rt:45:5
 loop-less : tie.Need-loop-less Inv-loop μ-loop
 loop-less c = search needs
 
--- src/lib.rt:45:5
 loop-again : tie.Need-loop-again Inv-loop μ-loop
 loop-again c =
     let t = c .before .before .before in
@@ -86,7 +70,6 @@ loop-again c =
           (omega (arith, c .if1 .left, line-read (t .before .args .store .now) (t .before .args .g) (t .loop .j) (t .before .args .k) (omega (arith, p .table)) (p .table .1) (p .gate) (omega (arith, p .lines, t .loop .inv)) (p .room))),
     )
 
--- src/lib.rt:38:1
 returns-2 : tie.Need-returns-2 Inv-loop μ-loop
 returns-2 c =
     let t = c .before in
