@@ -79,6 +79,7 @@ pub fn reason(number: u32) -> Option<&'static str> {
         31 => "a line of the list is missing, left over, or not laid out as the list has it",
         32 => "a rule of a sound part is broken at this line of the list, or the used count is above the capacity",
         33 => "a set of no sheets or of more than 16, or its lengths do not add up to its text's",
+        34 => "the wanted level must be from 0 to 1024",
         35 => "a reservation is already open",
         36 => "no reservation is open, or it is for another output net",
         _ => return None,

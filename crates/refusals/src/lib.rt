@@ -82,7 +82,7 @@ pub fn write(number: u32, out: &mut [u8]) -> usize
         a line of the list is missing, left over, or not laid out as the list has it\n\
         a rule of a sound part is broken at this line of the list, or the used count is above the capacity\n\
         a set of no sheets or of more than 16, or its lengths do not add up to its text's\n\
-        \n\
+        the wanted level must be from 0 to 1024\n\
         a reservation is already open\n\
         no reservation is open, or it is for another output net\n",
         number,

@@ -1,6 +1,6 @@
 -- What each refusal's number means, in plain words, and what asking for it does.
--- 01, "Turned down because of the input" and "Turned down because of the part"; 02, #101, for 31 and 32, #106, for 33, and #109, for
--- 35 and 36. Definitions only.
+-- 01, "Turned down because of the input" and "Turned down because of the part"; 02, #101, for 31 and 32, #106, for 33, #107, for 34, and
+-- #109, for 35 and 36. Definitions only.
 use Prim.Native.Nat.{ℕ}
 use Prim.Native.Char.{code}
 use Prim.Native.String.{String, [] as none, _∷_ as _then_}
@@ -38,6 +38,7 @@ refusals =
     31 means "a line of the list is missing, left over, or not laid out as the list has it" ∷
     32 means "a rule of a sound part is broken at this line of the list, or the used count is above the capacity" ∷
     33 means "a set of no sheets or of more than 16, or its lengths do not add up to its text's" ∷
+    34 means "the wanted level must be from 0 to 1024" ∷
     35 means "a reservation is already open" ∷
     36 means "no reservation is open, or it is for another output net" ∷ []
 
