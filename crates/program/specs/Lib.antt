@@ -1,4 +1,5 @@
 pub mod Trusted
 pub mod Contracts
 pub mod ProgramLaws
+pub mod AnsweredLaws
 pub mod RoomLaws

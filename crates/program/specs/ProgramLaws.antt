@@ -7,9 +7,11 @@ use lib.ListN.{drop}
 use Rattle.decimal.specs.Trusted.Number.{Number}
 use Rattle.part.specs.Trusted.Parts.{Shaped}
 use Rattle.part.specs.Trusted.Sound.{Sound}
+use Rattle.part.specs.Trusted.Ways.{least}
 use Rattle.part.specs.Trusted.Answers.{Answer, accepted, refused, Result}
 use Rattle.part.specs.OpenLaws.{opened-shaped, opened-sound, opened-empty}
 use Rattle.part.specs.AddLaws.{not-refused}
+use Rattle.listing.specs.Trusted.Listing.{listOf}
 use Rattle.opening.specs.Trusted.Opening.{openingNumbers, count, openedBy}
 use Rattle.opening.specs.Contracts.{told, startResult}
 use Rattle.opening.specs.declared.Start.{Start}
@@ -36,7 +38,7 @@ module _ (input : List ℕ) (s : Start) (e : startResult s ≡ openedBy (opening
   opening-refused d =
       subst (λ (r : Result). After r (drop 13 input) (refusalLine (s .told .number) 0 (s .told .line))) (with-answer (told-refused (s .told) d)) refl
 
-  pub opening-accepted : s .told .number ≡ 0 → (out : List ℕ) → SheetsPrint (s .part) 0 (drop 13 input) out → Prints input out
+  pub opening-accepted : s .told .number ≡ 0 → (out : List ℕ) → SheetsPrint least listOf (s .part) 0 (drop 13 input) out → Prints input out
   opening-accepted z out m = subst (λ (r : Result). After r (drop 13 input) out) (with-answer (told-accepted (s .told) z)) m
 
   pub opening-sound : s .told .number ≡ 0 → Sound (s .part)

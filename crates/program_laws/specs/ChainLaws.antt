@@ -15,6 +15,7 @@ use Rattle.part.specs.OpenLaws.{opened-shaped}
 use Rattle.demands.specs.Trusted.Calls.{Call, add, oneSheet, Chain, done, call}
 use Rattle.demands.specs.Theorems.{demand-2, demand-3}
 use Rattle.part.specs.declared.Part.{Part}
+use Rattle.listing.specs.Trusted.Listing.{listOf}
 use Rattle.opening.specs.Trusted.Opening.{openingNumbers, count, openedBy}
 use Rattle.printing.specs.Trusted.RefusalLine.{refusalLine}
 use Rattle.sheets.specs.Trusted.Sheets.{SheetsPrint, ended, stopped, added}
@@ -28,7 +29,7 @@ texts-some (stop number place l e) h = omega arith
 texts-some (next l e t) h = omega arith
 
 -- the calls, their results, and what these print
-mapped-calls : {p : Part} {n : ℕ} {text out : List ℕ} → SheetsPrint p n text out →
+mapped-calls : {p : Part} {n : ℕ} {text out : List ℕ} → SheetsPrint least listOf p n text out →
     (cs : List Call) × (rs : List CallResult) × Chain p cs rs × Texts text cs rs × (out ≡ printedBy p n rs)
 mapped-calls ended = ([], [], done, end, refl)
 mapped-calls {p} {text = text} (stopped q number place l a) =
@@ -39,7 +40,7 @@ mapped-calls {p} {text = text} (added q l a m) =
     let r = mapped-calls m in
     (_, oneSheet least s p q accepted ∷ r .1, call {c = add least s} (a, refl) (r .2), next l refl (r .3), r .4)
 
-pub mapped-run : (k capacity : ℕ) (text out : List ℕ) → (opened k capacity) .answer ≡ accepted → SheetsPrint ((opened k capacity) .part) 0 text out →
+pub mapped-run : (k capacity : ℕ) (text out : List ℕ) → (opened k capacity) .answer ≡ accepted → SheetsPrint least listOf ((opened k capacity) .part) 0 text out →
     Run k capacity text out
 mapped-run k capacity text out a m =
     let c = mapped-calls m in
@@ -60,4 +61,4 @@ prints-run input out x y e a h =
     let capacity = count y in
     let g : After (opened k capacity) (drop 13 input) out = subst (λ o. After (openedBy o) (drop 13 input) out) e h in
     mapped-run k capacity (drop 13 input) out a
-    (subst (λ b. elim b as (λ z. Type 0) [ accepted ↦ SheetsPrint ((opened k capacity) .part) 0 (drop 13 input) out | refused number place ↦ out ≡ refusalLine number 0 place ]) a g)
+    (subst (λ b. elim b as (λ z. Type 0) [ accepted ↦ SheetsPrint least listOf ((opened k capacity) .part) 0 (drop 13 input) out | refused number place ↦ out ≡ refusalLine number 0 place ]) a g)

@@ -1,3 +1,4 @@
 pub mod Trusted
 pub mod Contracts
 pub mod SheetsLaws
+pub mod SheetsBounds

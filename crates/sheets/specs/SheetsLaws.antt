@@ -24,13 +24,12 @@ use Rattle.sheet.specs.declared.Next.{Next}
 use Rattle.part.specs.Trusted.Parts.{Shaped}
 use Rattle.part.specs.Trusted.Sound.{Sound}
 use Rattle.part.specs.Trusted.Answers.{Answer, accepted, refused}
-use Rattle.part.specs.Trusted.Ways.{least}
+use Rattle.part.specs.Trusted.Ways.{Way}
 use Rattle.part.specs.WayLaws.{some-tables, chosen-number}
 use Rattle.part.specs.Trusted.Add.{Offer, Add}
 use Rattle.part.specs.AddLaws.{AddCase, unsound, misread, driven, read, full, taken, add-case, kept, not-refused}
 use Rattle.joined_mapper.specs.JoinedMap.{circuitOf}
 use Rattle.part.specs.StoringLaws.{add-misread, add-offered}
-use Rattle.listing.specs.Trusted.Listing.{listOf}
 use Rattle.part.specs.declared.Part.{Part}
 use Rattle.opening.specs.Contracts.{told}
 use Rattle.opening.specs.declared.Told.{Told}
@@ -66,17 +65,17 @@ told-misread n line why e =
 
 -- ---- an accepted sheet takes a table or more
 
-pub grown : (p : Part) (text : List ℕ) (q : Part) (a : Answer) → Add least p text q a → a ≡ accepted → p .used < q .used
-grown p text q a h e = of (add-case least p text q a h)
+pub grown : (w : Way) (p : Part) (text : List ℕ) (q : Part) (a : Answer) → Add w p text q a → a ≡ accepted → p .used < q .used
+grown w p text q a h e = of (add-case w p text q a h)
   where
-    of : AddCase least p text q a → p .used < q .used
+    of : AddCase w p text q a → p .used < q .used
     of (unsound n r) = absurd (not-refused (r .1) e)
     of (misread number place s i r) = absurd (not-refused (r .1) e)
     of (driven s h i d r) = absurd (not-refused (r .1) e)
     of (read s h i d l r) = absurd (not-refused (r .1) e)
     of (full s n h i f l m r) = absurd (not-refused (r .1) e)
     of (taken s h i f t room) =
-        omega (arith, some-tables least p s (length (t .new)) (chosen-number least p s (t .new) (t .chosen)), ap (λ (o : Part). o .used) (t .part))
+        omega (arith, some-tables w p s (length (t .new)) (chosen-number w p s (t .new) (t .chosen)), ap (λ (o : Part). o .used) (t .part))
 
 -- ---- the sheet at a place
 
@@ -110,8 +109,8 @@ front input at end s h w e =
     }
 
 -- one sheet of an input: the part and the answer after it, and the place after it where it is accepted
-pub record Stepped (input : List ℕ) (p : Part) (at : ℕ) (q : Part) (t : Told) (end : ℕ) : Type 0 where
-  pub add : Add least p (sheetText (drop at input) .0) q (told t)
+pub record Stepped (w : Way) (input : List ℕ) (p : Part) (at : ℕ) (q : Part) (t : Told) (end : ℕ) : Type 0 where
+  pub add : Add w p (sheetText (drop at input) .0) q (told t)
   pub rest : told t ≡ accepted → sheetText (drop at input) .1 ≡ drop end input
   pub shaped : Shaped q
   pub sound : Sound q
@@ -130,14 +129,14 @@ module _ (input : List ℕ) (p : Part) (at : ℕ) (sound : Sound p) (shape : Sha
   pub next-formed : r .answer ≡ Read → WellFormed (drawnSheet (r .sheet))
   next-formed i = read-formed (sheetText (drop at input) .0) (drawnSheet (r .sheet)) (read-front i .read)
 
-  pub stepped-refused : (why : Refusal) (line n : ℕ) → r .answer ≡ Misread why line → n ≡ numberOf why →
-      Stepped input p at p (record { number = n; line = line }) (r .end)
-  stepped-refused why line n i e =
+  pub stepped-refused : (w : Way) (why : Refusal) (line n : ℕ) → r .answer ≡ Misread why line → n ≡ numberOf why →
+      Stepped w input p at p (record { number = n; line = line }) (r .end)
+  stepped-refused w why line n i e =
       let t = told-misread n line why e in
       let text = sheetText (drop at input) .0 in
       let m : readSheet text ≡ unread (numberOf why) line = leaving-refused _ (numberOf why) line _ (sym (next-is (drop at input)) ∙ next-is-step i) in
       record {
-        add = subst (Add least p text p) (sym t) (add-misread least p text sound (numberOf why) line m);
+        add = subst (Add w p text p) (sym t) (add-misread w p text sound (numberOf why) line m);
         rest = λ z. absurd (not-refused t z);
         shaped = shape;
         sound = sound;
@@ -145,83 +144,83 @@ module _ (input : List ℕ) (p : Part) (at : ℕ) (sound : Sound p) (shape : Sha
         within = λ z. absurd (not-refused t z);
       }
 
-  pub stepped-offered : r .answer ≡ Read → (q : Part) (a : Answer) (t : Told) → Offer least p (circuitOf (r .sheet)) q a → told t ≡ a → Stepped input p at q t (r .end)
-  stepped-offered i q a t o e =
+  pub stepped-offered : (w : Way) → r .answer ≡ Read → (q : Part) (a : Answer) (t : Told) → Offer w p (circuitOf (r .sheet)) q a → told t ≡ a → Stepped w input p at q t (r .end)
+  stepped-offered w i q a t o e =
       let f = read-front i in
       let text = sheetText (drop at input) .0 in
-      let g : Add least p text q (told t) = subst (Add least p text q) (sym e) (add-offered least p text sound (drawnSheet (r .sheet)) (f .read) q a o) in
-      let k = kept p shape (add-case least p text q (told t) g) in
+      let g : Add w p text q (told t) = subst (Add w p text q) (sym e) (add-offered w p text sound (drawnSheet (r .sheet)) (f .read) q a o) in
+      let k = kept p shape (add-case w p text q (told t) g) in
       record {
         add = g;
         rest = λ z. f .rest;
         shaped = k .shaped;
         sound = k .sound sound;
-        grown = grown p text q (told t) g;
+        grown = grown w p text q (told t) g;
         within = λ z. (f .after, h .within);
       }
 
 -- ---- sheets one after the other
 
 -- `sheet` sheets were accepted up to the place: what comes of the rest is what comes of all
-pub record SheetsSoFar (input : List ℕ) (opened : Part) (start : ℕ) (part : Part) (at sheet : ℕ) : Type 0 where
+pub record SheetsSoFar (w : Way) (input : List ℕ) (opened : Part) (start : ℕ) (part : Part) (at sheet : ℕ) : Type 0 where
   pub shaped : Shaped part
   pub sound : Sound part
   pub few : sheet ≤ part .used
-  pub whole : (out : List ℕ) → SheetsPrint part sheet (drop at input) out → SheetsPrint opened 0 (drop start input) out
+  pub whole : (final : Part → List ℕ) (out : List ℕ) → SheetsPrint w final part sheet (drop at input) out → SheetsPrint w final opened 0 (drop start input) out
 
-pub sheets-start : (input : List ℕ) (opened : Part) (start : ℕ) → Shaped opened → Sound opened → SheetsSoFar input opened start opened start 0
-sheets-start input opened start shape s = record { shaped = shape; sound = s; few = omega arith; whole = λ out m. m }
+pub sheets-start : (w : Way) (input : List ℕ) (opened : Part) (start : ℕ) → Shaped opened → Sound opened → SheetsSoFar w input opened start opened start 0
+sheets-start w input opened start shape s = record { shaped = shape; sound = s; few = omega arith; whole = λ final out m. m }
 
-module _ {input : List ℕ} {opened part : Part} {start at sheet : ℕ} (h : SheetsSoFar input opened start part at sheet) where
+module _ {w : Way} {input : List ℕ} {opened part : Part} {start at sheet : ℕ} (h : SheetsSoFar w input opened start part at sheet) where
   pub few-sheets : sheet ≤ 800
   few-sheets = omega (arith, h .few, h .sound .used-fits, h .sound .capacity-range)
 
-  so-far-all : length input ≤ at → SheetsPrint opened 0 (drop start input) (listOf part)
-  so-far-all l = h .whole (listOf part) (subst (λ t. SheetsPrint part sheet t (listOf part)) (sym (nothing (drop at input) (omega (arith, length-drop at input)))) ended)
+  so-far-all : (final : Part → List ℕ) → length input ≤ at → SheetsPrint w final opened 0 (drop start input) (final part)
+  so-far-all final l = h .whole final (final part) (subst (λ t. SheetsPrint w final part sheet t (final part)) (sym (nothing (drop at input) (omega (arith, length-drop at input)))) ended)
     where
       nothing : (xs : List ℕ) → length xs ≡ 0 → xs ≡ []
       nothing [] e = refl
       nothing (x ∷ xs) e = absurd (omega arith)
 
-  module _ (q : Part) (t : Told) (end : ℕ) (l : at < length input) (s : Stepped input part at q t end) where
+  module _ (q : Part) (t : Told) (end : ℕ) (l : at < length input) (s : Stepped w input part at q t end) where
     left : 0 < length (drop at input)
     left = omega (arith, length-drop at input)
 
-    pub sheets-more : t .number ≡ 0 → SheetsSoFar input opened start q end (sheet + 1)
+    pub sheets-more : t .number ≡ 0 → SheetsSoFar w input opened start q end (sheet + 1)
     sheets-more z =
         let e = told-accepted t z in
         record {
           shaped = s .shaped;
           sound = s .sound;
           few = omega (arith, h .few, s .grown e);
-          whole = λ out m. h .whole out
-              (added q left (subst (Add least part (sheetText (drop at input) .0) q) e (s .add))
-              (subst (λ x. SheetsPrint q (suc sheet) x out) (sym (s .rest e)) (subst (λ n. SheetsPrint q n (drop end input) out) (add-one sheet) m)));
+          whole = λ final out m. h .whole final out
+              (added q left (subst (Add w part (sheetText (drop at input) .0) q) e (s .add))
+              (subst (λ x. SheetsPrint w final q (suc sheet) x out) (sym (s .rest e)) (subst (λ n. SheetsPrint w final q n (drop end input) out) (add-one sheet) m)));
         }
 
-    so-far-stop : (t .number ≡ 0 → ⊥) → SheetsPrint opened 0 (drop start input) (refusalLine (t .number) (sheet + 1) (t .line))
-    so-far-stop d =
-        subst (λ n. SheetsPrint opened 0 (drop start input) (refusalLine (t .number) n (t .line))) (sym (add-one sheet))
-        (h .whole _ (stopped q (t .number) (t .line) left (subst (Add least part (sheetText (drop at input) .0) q) (told-refused t d) (s .add))))
+    so-far-stop : (final : Part → List ℕ) → (t .number ≡ 0 → ⊥) → SheetsPrint w final opened 0 (drop start input) (refusalLine (t .number) (sheet + 1) (t .line))
+    so-far-stop final d =
+        subst (λ n. SheetsPrint w final opened 0 (drop start input) (refusalLine (t .number) n (t .line))) (sym (add-one sheet))
+        (h .whole final _ (stopped q (t .number) (t .line) left (subst (Add w part (sheetText (drop at input) .0) q) (told-refused t d) (s .add))))
 
     -- the loop's ends
-    pub ended-stop : (t .number ≡ 0 → ⊥) → Ended opened (drop start input) (record { part = q; told = t; sheet = sheet + 1 })
+    pub ended-stop : (t .number ≡ 0 → ⊥) → Ended w opened (drop start input) (record { part = q; told = t; sheet = sheet + 1 })
     ended-stop d = record {
-      mapped = subst (SheetsPrint opened 0 (drop start input)) (sym (ap (λ b. cond b (listOf q) (refusalLine (t .number) (sheet + 1) (t .line))) (ne-eqb (t .number) 0 d))) (so-far-stop d);
+      mapped = λ final. subst (SheetsPrint w final opened 0 (drop start input)) (sym (ap (λ b. cond b (final q) (refusalLine (t .number) (sheet + 1) (t .line))) (ne-eqb (t .number) 0 d))) (so-far-stop final d);
       sound = s .sound;
     }
 
     pub on-the-way : t .number ≡ 0 → (at < end) × (end ≤ length input)
     on-the-way z = s .within (told-accepted t z)
 
-  pub ended-all : length input ≤ at → Ended opened (drop start input) (record { part = part; told = record { number = 0; line = 0 }; sheet = sheet })
-  ended-all l = record { mapped = so-far-all l; sound = h .sound }
+  pub ended-all : length input ≤ at → Ended w opened (drop start input) (record { part = part; told = record { number = 0; line = 0 }; sheet = sheet })
+  ended-all l = record { mapped = λ final. so-far-all final l; sound = h .sound }
 
 -- ---- what is printed at the end, by the answer
 
-module _ {p : Part} {text : List ℕ} (r : End) (m : SheetsPrint p 0 text (endLine r)) where
-  pub refused-line : (r .told .number ≡ 0 → ⊥) → SheetsPrint p 0 text (refusalLine (r .told .number) (r .sheet) (r .told .line))
-  refused-line d = subst (λ b. SheetsPrint p 0 text (cond b (listOf (r .part)) (refusalLine (r .told .number) (r .sheet) (r .told .line)))) (ne-eqb (r .told .number) 0 d) m
+module _ {w : Way} {final : Part → List ℕ} {p : Part} {text : List ℕ} (r : End) (m : SheetsPrint w final p 0 text (endLine final r)) where
+  pub refused-line : (r .told .number ≡ 0 → ⊥) → SheetsPrint w final p 0 text (refusalLine (r .told .number) (r .sheet) (r .told .line))
+  refused-line d = subst (λ b. SheetsPrint w final p 0 text (cond b (final (r .part)) (refusalLine (r .told .number) (r .sheet) (r .told .line)))) (ne-eqb (r .told .number) 0 d) m
 
-  pub accepted-list : r .told .number ≡ 0 → SheetsPrint p 0 text (listOf (r .part))
-  accepted-list z = subst (λ b. SheetsPrint p 0 text (cond b (listOf (r .part)) (refusalLine (r .told .number) (r .sheet) (r .told .line)))) (eq-eqb (r .told .number) 0 z) m
+  pub accepted-list : r .told .number ≡ 0 → SheetsPrint w final p 0 text (final (r .part))
+  accepted-list z = subst (λ b. SheetsPrint w final p 0 text (cond b (final (r .part)) (refusalLine (r .told .number) (r .sheet) (r .told .line)))) (eq-eqb (r .told .number) 0 z) m

@@ -4,6 +4,7 @@ ghost use mathlib.Core.Path.{_≡_};
 ghost use lib.ListN.{drop};
 ghost use Rattle.part.specs.Trusted.AddAnswers.{addingAnswer};
 ghost use Rattle.part.specs.Trusted.Sound.{Sound};
+ghost use Rattle.part.specs.Trusted.Ways.{least};
 ghost use Rattle.opening.specs.Contracts.{told as toldAnswer};
 ghost use Rattle.sheets.specs.Contracts.{Ended};
 use joined_mapper::map_joined;
@@ -21,7 +22,8 @@ pub struct End {
     pub sheet: u16,
 }
 
-fn tell_adding(a: Adding) -> Told
+// The answer of an add as a number and a line.
+pub fn tell_adding(a: Adding) -> Told
     ensures { λ r. ⌜ toldAnswer r ≡ addingAnswer a ⌝ }
 {
     match a {
@@ -61,7 +63,7 @@ fn tell_adding(a: Adding) -> Told
 // capacity bounds their number. The levels of the part's codes go along from sheet to sheet.
 pub fn add_sheets(opened: Part, input: &[u8], start: usize) -> End
     requires { ⌜ Sound opened × (opened .used ≡ 0) ⌝ }
-    ensures { λ r. ⌜ Ended opened (drop start (now (input .entry))) r ⌝ }
+    ensures { λ r. ⌜ Ended least opened (drop start (now (input .entry))) r ⌝ }
 {
     let mut added = Added {
         part: opened,

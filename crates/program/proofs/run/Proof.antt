@@ -2,6 +2,8 @@ use Prim.Native.Nat.{ℕ}
 use native.Mathlib.Nat.{pos-of-ne-zero}
 use mathlib.Core.List.{List}
 use lib.ListN.{drop}
+use Rattle.part.specs.Trusted.Ways.{least}
+use Rattle.listing.specs.Trusted.Listing.{listOf}
 use Rattle.sheets.specs.Trusted.Sheets.{SheetsPrint}
 use Rattle.sheets.specs.SheetsLaws.{refused-line, accepted-list}
 use Rattle.program.specs.Trusted.Program.{Prints}
@@ -12,7 +14,7 @@ use Rattle.program.proofs.run.Tie as tie
 
 -- what comes of the sheets is what is printed
 mapped : (c : tie.After-add-sheets) {out : List ℕ} → let r = c .before .before .before .before .before in let input = r .before .before .before .args .input .now in
-    SheetsPrint (r .read-opening .result .part) 0 (drop 13 input) out → Prints input out
+    SheetsPrint least listOf (r .read-opening .result .part) 0 (drop 13 input) out → Prints input out
 mapped c m =
     let r = c .before .before .before .before .before in
     opening-accepted (r .before .before .before .args .input .now) (r .read-opening .result) (r .read-opening .ensures) (c .before .before .if1 .left) _ m
@@ -48,7 +50,7 @@ returns-2 : tie.Need-returns-2
 returns-2 c =
     let m = c .before .before .before .before .before .before .before in
     let p = c .before .before .print-refusal2 in
-    record { line = _; prints = mapped m (refused-line (m .add-sheets .result) (m .add-sheets .ensures .mapped) (c .before .before .before .before .if2 .taken)); written = p .ensures }
+    record { line = _; prints = mapped m (refused-line (m .add-sheets .result) (m .add-sheets .ensures .mapped listOf) (c .before .before .before .before .if2 .taken)); written = p .ensures }
 
 print-list-requires : tie.Need-print-list-requires
 print-list-requires c κs = c .before .before .before .before .before .add-sheets .ensures .sound
@@ -59,7 +61,7 @@ same-length-3 c = search needs
 returns-3 : tie.Need-returns-3
 returns-3 c =
     let m = c .before .before .before .before .before .before .before .before in
-    record { line = _; prints = mapped m (accepted-list (m .add-sheets .result) (m .add-sheets .ensures .mapped) (c .before .before .before .before .before .if2 .left)); written = c .before .before .print-list .ensures }
+    record { line = _; prints = mapped m (accepted-list (m .add-sheets .result) (m .add-sheets .ensures .mapped listOf) (c .before .before .before .before .before .if2 .left)); written = c .before .before .print-list .ensures }
 
 pub run-spec : {M : Type 1} → statement M
 run-spec =

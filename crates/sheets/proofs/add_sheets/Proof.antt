@@ -11,6 +11,7 @@ use Rattle.table.specs.LevelTest.{noLevels, LevelsStand}
 use Rattle.table.specs.LevelTestLaws.{levels-none}
 use Rattle.part.specs.Trusted.Parts.{tablesOf}
 use Rattle.part.specs.Trusted.AddAnswers.{addingAnswer}
+use Rattle.part.specs.Trusted.Ways.{least}
 use Rattle.part.specs.StoringLaws.{sheet-mappable, mapped-storable, mapped-offered}
 use Rattle.part.proofs.Shape.{shaped}
 use Rattle.sheets.specs.SheetsLaws.{number-some, SheetsSoFar, sheets-start, sheets-more, few-sheets, on-the-way, ended-stop, ended-all, Stepped, next-formed, stepped-refused, stepped-offered}
@@ -19,7 +20,7 @@ use Rattle.sheets.proofs.add_sheets.Tie as tie
 
 abbrev Inv-loop : tie.InvT-loop
 Inv-loop input start added₀ levels₀ at₀ sheet₀ added levels at sheet =
-    SheetsSoFar input (added₀ .part) start (added .part) at sheet × LevelsStand levels (tablesOf (added .part))
+    SheetsSoFar least input (added₀ .part) start (added .part) at sheet × LevelsStand levels (tablesOf (added .part))
 
 abbrev μ-loop : tie.MeasureT-loop
 μ-loop input start added₀ levels₀ at₀ sheet₀ added levels at sheet = length input - at
@@ -33,7 +34,7 @@ sheet-formed c =
     next-formed (l .before .before .args .input .now) (l .loop .added .part) (l .loop .at) (l .loop .inv .0 .sound) (l .loop .inv .0 .shaped) (omega arith) (n .read-next .result) (n .read-next .ensures) (c .enum-told .given .1)
 
 sheet-stepped : (c : tie.After-tell-adding Inv-loop μ-loop) → let o = c .before .before in let n = o .before .before .before .before .before in let l = n .before .before in
-    Stepped (l .before .before .args .input .now) (l .loop .added .part) (l .loop .at) (o .offer .result .part) (c .tell-adding .result) (n .read-next .result .end)
+    Stepped least (l .before .before .args .input .now) (l .loop .added .part) (l .loop .at) (o .offer .result .part) (c .tell-adding .result) (n .read-next .result .end)
 sheet-stepped c =
     let o = c .before .before in
     let m = o .before .before in
@@ -42,7 +43,7 @@ sheet-stepped c =
     let l = n .before .before in
     let q = o .offer .result .part in
     let a = addingAnswer (o .offer .result .answer) in
-    stepped-offered (l .before .before .args .input .now) (l .loop .added .part) (l .loop .at) (l .loop .inv .0 .sound) (l .loop .inv .0 .shaped) (omega arith) (n .read-next .result) (n .read-next .ensures) (t .enum-told .given .1)
+    stepped-offered (l .before .before .args .input .now) (l .loop .added .part) (l .loop .at) (l .loop .inv .0 .sound) (l .loop .inv .0 .shaped) (omega arith) (n .read-next .result) (n .read-next .ensures) least (t .enum-told .given .1)
     q a (c .tell-adding .result) (mapped-offered (l .loop .added .part) (n .read-next .result .sheet) (m .map-joined .result) (m .map-joined .ensures) q a (o .offer .ensures .0)) (c .tell-adding .ensures)
 
 -- ---- the needs
@@ -53,7 +54,7 @@ loop-holds c =
     let a = c .before .args in
     let t = c .before .good .0 .1 .1 .1 .1 .1 .1 .0 in
     let none : [] ≡ tablesOf (a .opened) = ap (λ n. map tableOf (take n (a .opened .tables))) (sym (c .before .pre .1)) in
-    (sheets-start (a .input .now) (a .opened) (a .start) (shaped (a .opened) (t .0) (t .1 .0 .1) (t .1 .1)) (c .before .pre .0), subst (LevelsStand noLevels) none levels-none)
+    (sheets-start least (a .input .now) (a .opened) (a .start) (shaped (a .opened) (t .0) (t .1 .0 .1) (t .1 .1)) (c .before .pre .0), subst (LevelsStand noLevels) none levels-none)
 
 add-sheet : tie.Need-add-sheet Inv-loop μ-loop
 add-sheet c = record { fits = omega (arith, few-sheets (c .before .loop .inv .0)) }
@@ -74,7 +75,7 @@ returns c =
     let n = d .before .before in
     let l = n .before .before in
     ended-stop (l .loop .inv .0) (l .loop .added .part) (record { number = c .before .number .result; line = g .0 .1 .0 }) (n .read-next .result .end) (omega arith)
-    (stepped-refused (l .before .before .args .input .now) (l .loop .added .part) (l .loop .at) (l .loop .inv .0 .sound) (l .loop .inv .0 .shaped) (omega arith) (n .read-next .result) (n .read-next .ensures) (g .0 .0) (g .0 .1 .0) (c .before .number .result) (g .1) (c .before .number .ensures))
+    (stepped-refused (l .before .before .args .input .now) (l .loop .added .part) (l .loop .at) (l .loop .inv .0 .sound) (l .loop .inv .0 .shaped) (omega arith) (n .read-next .result) (n .read-next .ensures) least (g .0 .0) (g .0 .1 .0) (c .before .number .result) (g .1) (c .before .number .ensures))
     (λ z. omega (arith, number-some (g .0 .0), c .before .number .ensures, z))
 
 enum-told : tie.Need-enum-told Inv-loop μ-loop
