@@ -15,6 +15,9 @@ extern "C" {
 /* The bytes of the longest list: this much room is always enough for pailinstant_map and for all that adds sheets to a list. */
 #define PAILINSTANT_LONGEST 60819
 
+/* The bytes of the longest list and a slack line for each of its tables: this much room is always enough for pailinstant_map_fast. */
+#define PAILINSTANT_LONGEST_FAST 71219
+
 /* The numbers of the longest list: this much room is always enough for pailinstant_read_list. */
 #define PAILINSTANT_NUMBERS 8003
 
@@ -33,6 +36,10 @@ extern "C" {
 /* Writes what the mapping program prints for the input, the list or one line of a refusal, to the front of `output`, and gives how many
  * bytes that is. Where the room is too small it writes nothing and gives 0. */
 size_t pailinstant_map(const uint8_t *input, size_t input_len, uint8_t *output, size_t output_len);
+
+/* The same of the mapping program for the fewest levels, map_fast: its opening line has the wanted level as a third field, and after the list
+ * stands a line with the slack of each sheet's output net. */
+size_t pailinstant_map_fast(const uint8_t *input, size_t input_len, uint8_t *output, size_t output_len);
 
 /* Writes what the refusal `number` means, as plain words without an end mark, to the front of `output`, and gives how many bytes that is:
  * at most 128. Where the room is too small, or the number is no refusal, it writes nothing and gives 0. */

@@ -7,6 +7,10 @@ extern "C" {
     /// bytes, and gives how many bytes it wrote: none where the room is too small, which `LONGEST` bytes never are.
     fn pailinstant_map(input: *const u8, input_len: usize, output: *mut u8, output_len: usize) -> c_ulong;
 
+    /// As `pailinstant_map`, of the second mapping program, which is given a wanted level on the opening line; `LONGEST_FAST` bytes are
+    /// always room enough.
+    fn pailinstant_map_fast(input: *const u8, input_len: usize, output: *mut u8, output_len: usize) -> c_ulong;
+
     /// Writes what the refusal `number` means to `output`, which has room for `output_len` bytes, and gives how many bytes it wrote: none
     /// where the room is too small, or the number is no refusal.
     fn pailinstant_refusal(number: u32, output: *mut u8, output_len: usize) -> c_ulong;
@@ -82,19 +86,10 @@ pub fn map<'a>(input: &[u8], output: &'a mut [u8]) -> &'a [u8] {
     &output[..count as usize]
 }
 
-#[cfg(feature = "fast")]
-extern "C" {
-    /// As `pailinstant_map`, of the second mapping program, which is given a wanted level on the opening line; `LONGEST_FAST` bytes are
-    /// always room enough.
-    fn pailinstant_map_fast(input: *const u8, input_len: usize, output: *mut u8, output_len: usize) -> c_ulong;
-}
-
 /// The bytes of the longest list, and of a line of two fields for each of 800 sheets.
-#[cfg(feature = "fast")]
 pub const LONGEST_FAST: usize = LONGEST + 800 * 13;
 
 /// What the second mapping program prints for `input`, written to the front of `output`; `output` has `LONGEST_FAST` bytes or more.
-#[cfg(feature = "fast")]
 pub fn map_fast<'a>(input: &[u8], output: &'a mut [u8]) -> &'a [u8] {
     assert!(output.len() >= LONGEST_FAST, "room for the longest list and the slack of each sheet");
     // SAFETY: both pointers are to bytes that are ours for the whole call, as many as the lengths say, and the two do not overlap.

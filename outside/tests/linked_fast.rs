@@ -1,5 +1,5 @@
 //! The second mapping program (request 107) of the archive, linked in, against the checker.
-#![cfg(feature = "fast")]
+#![cfg(feature = "linked")]
 
 mod common;
 

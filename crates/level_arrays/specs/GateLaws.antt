@@ -2,7 +2,7 @@
 use Prim.Native.Nat.{ℕ, zero, suc, _+_, _-_, _^_, _≤_, _<_}
 use native.Mathlib.Omega.{arith}
 use native.Mathlib.Decide.{decLt}
-use mathlib.Core.Path.{_≡_}
+use mathlib.Core.Path.{_≡_, sym, ap, _∙_}
 use mathlib.Core.Logic.{⊎-elim, by-cases}
 use mathlib.Core.Bool.{Bool}
 use mathlib.Core.List.{List, [], _∷_}
@@ -21,12 +21,23 @@ use Rattle.levels.specs.GivesLaws.{fanins-many, gives-narrow, gives-held}
 use Rattle.levels.specs.EntryLaws.{entry-no-input, entry-below}
 use Rattle.levels.specs.Fastest.{entry-fastest}
 use Rattle.levels.specs.Found.{some-gives*}
+use Rattle.levels.specs.Groups.{LevelRows}
 use Rattle.levels.specs.Lines.{Greatest, LevelSettled, LevelLines}
-use Rattle.levels.specs.LineLaws.{start-enough, look-entry, row-whole, settled-few, line-final}
-use Rattle.level_arrays.specs.Arrays.{big, lineAt, fanRow, Searched, GreatestFan, startAt, LinesKept}
+use Rattle.levels.specs.LineLaws.{start-enough, look-entry, row-whole, settled-few, settled-later, line-final}
+use Rattle.levels.specs.StillLaws.{rows-settled}
+use Rattle.level_arrays.specs.Arrays.{big, entryAt, lineAt, fanRow, Searched, GreatestFan, startAt, SearchStill, LinesKept}
 use Rattle.level_arrays.specs.ArrayLaws.{FanEntries, searched-rows}
 use Rattle.level_arrays.specs.Askable.{FanLines}
 use Rattle.level_arrays.specs.declared.Fans.{Fans}
+
+less-one : (d m count : ℕ) → m + 2 ≡ count → d + count - 1 ≡ suc (d + m)
+less-one d m count e = omega arith
+
+less-none : (d m count : ℕ) → m + 2 ≡ count → d + count ≡ suc (d + suc m)
+less-none d m count e = omega arith
+
+start-below : (a m n : ℕ) → startAt n a ≤ a + m
+start-below a m n = omega arith
 
 every-index : {A : Type 0} (P : A → Type 0) (xs : List A) (z : A) → ((i : ℕ) → i < length xs → P (getD xs i z)) → Every P xs
 every-index P [] z f = every-none _
@@ -55,26 +66,57 @@ module _ (K : ℕ) (lev : ℕ → ℕ) (two : 2 ≤ K) (k : Kind) (es : Edges) (
     whole : Searched K (length (fanins es)) start (a - start + count) (fanRow store f) (x .arrays) (λ i. 0)
     whole = rw n at (x .searched)
 
+    -- the arrays from the greatest level on
+    rows-at : (j : ℕ) → j < count → LevelRows K lev start big (fanins es) (a + j) (entryAt (x .arrays (suc (a - start + j))) 0) (2 ^ length (fanins es))
+    rows-at j l =
+        let rows = searched-rows K lev (fanins es) z (omega arith) whole (λ i m. fan-entries K lev (fanins es) z store f fans (start + i)) (a - start + j) (omega arith) in
+        let e : start + (a - start + j) ≡ a + j = omega arith in
+        rw e at rows
+
     line-exact : (j w : ℕ) → j < count → w ≤ K → LeastEntry big (AtMost (Gives K lev (fanins es) (a + j)) w) (lineAt store′ g j w)
     line-exact j zero l b = entry-no-input
     line-exact j (suc w) l b =
-        let rows = searched-rows K lev (fanins es) z (omega arith) whole (λ i m. fan-entries K lev (fanins es) z store f fans (start + i)) (a - start + j) (omega arith) in
-        let e : start + (a - start + j) ≡ a + j = omega arith in
         let q = fanins-many es (and-split (many es) (propers es) drawn .0) in
         rw (x .kept j (suc w) l (omega arith) b, n)
         (row-whole (fanins es) (start-enough a (length (fanins es)) (a + j) (omega arith) (omega arith))
-        (rw e at (rows (2 ^ length (fanins es) - 1) (omega (arith, pow-mono q)) (omega (arith, pow-pos (length (fanins es)))))) b)
+        (rows-at j l (2 ^ length (fanins es) - 1) (omega (arith, pow-mono q)) (omega (arith, pow-pos (length (fanins es))))) b)
 
     greatest : Greatest lev (fanins es) a
     greatest = greatest-fan K lev (fanins es) z store f fans n (x .greatest)
 
+    -- where the search stands still
+    still-settled : (last : ℕ) → last ≡ a - start + count → SearchStill K f a count (x .arrays) last → (m : ℕ) → m + 2 ≡ count →
+        LevelSettled K lev (fanins es) (a + (count - 1))
+    still-settled last d y m e =
+        let i = ap (λ p. p - 1) d ∙ less-one (a - start) m count e in
+        let j = d ∙ less-none (a - start) m count e in
+        let u : a + suc m ≡ suc (a + m) = omega arith in
+        let v : count - 2 ≡ m = omega (arith, e) in
+        let w : count - 1 ≡ suc m = omega (arith, e) in
+        let best = entryAt (x .arrays (suc (a - start + m))) 0 in
+        let same : (s t : ℕ) → s < 2 ^ length (fanins es) → t ≤ K → entryAt (x .arrays (suc (a - start + suc m))) 0 s t ≡ best s t =
+        λ s t l b. rw (i, j) at (y .same s t (rw n l) b) in
+        let next : LevelRows K lev start big (fanins es) (suc (a + m)) best (2 ^ length (fanins es)) =
+        λ s o l t b. rw (sym u, sym (same s t l b)) (rows-at (suc m) (omega (arith, e)) s o l t b) in
+        let single : (h : ℕ) → h < length (fanins es) → LevelSettled K lev (getD (fanins es) h z ∷ []) (a + m) =
+        λ h l. settled-later (fans h l .final) (a + m) (rw v at (y .fans h (rw n l))) in
+        let q = fanins-many es (and-split (many es) (propers es) drawn .0) in
+        let one : best (2 ^ length (fanins es) - 1) 1 < big =
+        rw (sym (same (2 ^ length (fanins es) - 1) 1 (omega (arith, pow-pos (length (fanins es)))) (omega (arith, two)))) (rw (n, j) at (y .one)) in
+        rw w
+        (settled-later
+        (rows-settled K lev start big (fanins es) (a + m) (omega (arith, two)) (start-below a m (length (fanins es)))
+        (every-index (λ p. LevelSettled K lev (p ∷ []) (a + m)) (fanins es) z single)
+        best (rows-at m (omega (arith, e))) next (omega (arith, q)) one (start-enough a (length (fanins es)) (a + m) (omega (arith, q)) (omega arith)))
+        (a + suc m) (omega (arith, u)))
+
     last-settled : LevelSettled K lev (fanins es) (a + (count - 1))
     last-settled =
         let y = line-exact (count - 1) 1 (omega (arith, x .some .0)) (omega arith) in
-        settled-few a few (greatest .nets)
-        (⊎-elim (λ l. omega arith)
-        (λ e. omega (arith, line-final k es {j = count - 1} two drawn greatest (omega (arith, few)) y)) (x .last))
-        y
+        let below : a + lineAt store′ g (count - 1) 1 ≤ a + (count - 1) → LevelSettled K lev (fanins es) (a + (count - 1)) = λ l. settled-few a few (greatest .nets) l y in
+        ⊎-elim (λ l. below (omega arith))
+        (⊎-elim (λ e. below (omega (arith, line-final k es {j = count - 1} two drawn greatest (omega (arith, few)) y)))
+        (λ r. still-settled _ (ap (λ c. a - startAt c a + count) n) r (count - 2) (omega (arith, r .two)))) (x .last)
 
     pub kept-lines : LevelLines K lev big (fanins es) a (count - 1) (lineAt store′ g)
     kept-lines = record { greatest = greatest; exact = λ j w l b. line-exact j w (omega (arith, x .some .0)) b; final = last-settled }

@@ -3,7 +3,7 @@ use Prim.Native.Nat.{ℕ, suc, _+_, _-_, _*_, _^_, _≤_, _<_, min}
 use native.Mathlib.Omega.{arith}
 use native.Mathlib.Decide.{decLt}
 use mathlib.Core.Path.{_≡_, refl, sym, ap, _∙_}
-use mathlib.Core.Logic.{_⊎_, _≢_, by-cases}
+use mathlib.Core.Logic.{_⊎_, _≢_, ⊎-elim, inl, inr, by-cases}
 use mathlib.Core.Bool.{cond}
 use mathlib.Core.List.{List}
 use lib.Dec.{eqb}
@@ -12,7 +12,7 @@ use Rattle.lists.specs.Cases.{by-eqb}
 use Rattle.cover.specs.Trusted.Cover.{pick}
 use Rattle.plan.specs.Limits.{masks}
 use Rattle.level_arrays.specs.declared.Fans.{Fans}
-use Rattle.level_arrays.specs.Arrays.{big, entryAt, ArrayFilled, ownAbove, lineAt, fanRow, FansGood, Searched, GreatestFan, startAt, LinesKept}
+use Rattle.level_arrays.specs.Arrays.{big, entryAt, ArrayFilled, ownAbove, lineAt, fanRow, FansGood, Searched, GreatestFan, startAt, SearchStill, LinesKept}
 use Rattle.level_rows.specs.Rows.{pick-some}
 use Rattle.level_rows.specs.Runs.{RunWritten}
 use Rattle.level_lines.specs.Looked.{FansStored, RowsLooked}
@@ -66,11 +66,12 @@ module _ {K g : ℕ} {f : Fans} (good : FansGood K g f) (old store : List ℕ) (
       ∙ sym (fan-line old f ℓ h w j (omega arith) p refl))
       (λ p. look-net store f ℓ h w (omega arith) (omega arith) ∙ sym (look-net old f ℓ h w (omega arith) (omega arith)))
 
--- ---- the search: i bounds are done, `array` is the last one's, and `count` lines are kept
+-- ---- the search: i bounds are done, `array` is the last one's, `earlier` that of the one before, and `count` lines are kept
 
-pub record LinesSo (K g : ℕ) (f : Fans) (a : ℕ) (old store own array : List ℕ) (i count : ℕ) : Type 0 where
+pub record LinesSo (K g : ℕ) (f : Fans) (a : ℕ) (old store own earlier array : List ℕ) (i count : ℕ) : Type 0 where
   pub arrays : ℕ → List ℕ
   pub latest : arrays i ≡ array
+  pub prior : (p : ℕ) → suc p ≡ i → arrays p ≡ earlier
   pub searched : Searched K (f .count) (startAt (f .count) a) i (fanRow old f) arrays (λ i. 0)
   pub owns : (s : ℕ) → s < 2 ^ (f .count) → getD own s big ≡ ownAbove K array 0 s
   pub kept : (j w : ℕ) → j < count → 1 ≤ w → w ≤ K → lineAt store g j w ≡ entryAt (arrays (suc (a - startAt (f .count) a + j))) 0 (2 ^ (f .count) - 1) w
@@ -78,12 +79,20 @@ pub record LinesSo (K g : ℕ) (f : Fans) (a : ℕ) (old store own array : List 
   pub before : (i : ℕ) → i < g * 1536 → getD store i big ≡ getD old i big
   pub room : length store ≡ length old
 
+-- the last two bounds have the same array
+pub record LinesStill (K : ℕ) (f : Fans) (a : ℕ) (earlier array : List ℕ) (count : ℕ) : Type 0 where
+  pub two : 2 ≤ count
+  pub one : entryAt array 0 (2 ^ (f .count) - 1) 1 < big
+  pub fans : (h : ℕ) → h < f .count → getD (f .levels) h 0 + (getD (f .lines) h 0 - 1) ≤ a + (count - 2)
+  pub same : (s w : ℕ) → s < 2 ^ (f .count) → w ≤ K → entryAt array 0 s w ≡ entryAt earlier 0 s w
+
 module _ {K g : ℕ} {f : Fans} {a : ℕ} {old : List ℕ} where
   -- no bound is done
-  pub bounds-start : {own array : List ℕ} → ((s : ℕ) → getD own s big ≡ big) → ((s : ℕ) → getD array s big ≡ big) → LinesSo K g f a old old own array 0 0
+  pub bounds-start : {own earlier array : List ℕ} → ((s : ℕ) → getD own s big ≡ big) → ((s : ℕ) → getD array s big ≡ big) → LinesSo K g f a old old own earlier array 0 0
   bounds-start {array = array} p q = record {
     arrays = λ i. array;
     latest = refl;
+    prior = λ p e. absurd (omega arith);
     searched = record { first = λ h r l o j. q (0 + (2 ^ h + r) * 8 + K); next = λ i l. absurd (omega arith) };
     owns = λ s l. p s ∙ ap (λ x. min big (suc x)) (sym (q (0 + s * 8 + K)));
     kept = λ j w l. absurd (omega arith);
@@ -93,15 +102,16 @@ module _ {K g : ℕ} {f : Fans} {a : ℕ} {old : List ℕ} where
   }
 
   -- one bound more
-  pub bounds-turn : FansGood K g f → {store own array rows looked next lift : List ℕ} {i count : ℕ} (ℓ : ℕ) → startAt (f .count) a + i ≡ ℓ →
-      LinesSo K g f a old store own array i count → RowsLooked store f ℓ rows looked →
+  pub bounds-turn : FansGood K g f → {store own earlier array rows looked next lift : List ℕ} {i count : ℕ} (ℓ : ℕ) → startAt (f .count) a + i ≡ ℓ →
+      LinesSo K g f a old store own earlier array i count → RowsLooked store f ℓ rows looked →
       ArrayFilled K (f .count) (λ h w. getD looked (h * 8 + w) big) (λ s. getD own s big) next 0 (2 ^ (f .count)) →
-      ((s : ℕ) → s < 2 ^ (f .count) → getD lift s big ≡ ownAbove K next 0 s) → LinesSo K g f a old store lift next (suc i) count
+      ((s : ℕ) → s < 2 ^ (f .count) → getD lift s big ≡ ownAbove K next 0 s) → LinesSo K g f a old store lift array next (suc i) count
   bounds-turn good {store} {next = next} {i = i} ℓ e p looked filled lifts =
       let few = good .some .table .1 in
       let other = extended-other (p .arrays) (suc i) next in record {
         arrays = extended (p .arrays) (suc i) next;
         latest = extended-same (p .arrays) (suc i) next;
+        prior = λ q z. let y : q ≡ i = omega arith in rw y (other i (λ y. omega arith) ∙ p .latest);
         searched = record {
           first = λ h r l o j. ap (λ x. entryAt x 0 (2 ^ h + r) K) (other 0 (λ z. omega arith)) ∙ p .searched .first h r l o j;
           next = λ j l.
@@ -121,12 +131,13 @@ module _ {K g : ℕ} {f : Fans} {a : ℕ} {old : List ℕ} where
       }
 
   -- one line more
-  pub bounds-keep : {store own array next : List ℕ} {i count : ℕ} (end : ℕ) → end ≡ 2 ^ (f .count) → K ≤ 6 →
-      LinesSo K g f a old store own array i count → i ≡ suc (a - startAt (f .count) a + count) →
-      RunWritten store next ((g * 256 + count) * 6) 6 (λ w. getD array ((end - 1) * 8 + (1 + w)) big) → LinesSo K g f a old next own array i (count + 1)
+  pub bounds-keep : {store own earlier array next : List ℕ} {i count : ℕ} (end : ℕ) → end ≡ 2 ^ (f .count) → K ≤ 6 →
+      LinesSo K g f a old store own earlier array i count → i ≡ suc (a - startAt (f .count) a + count) →
+      RunWritten store next ((g * 256 + count) * 6) 6 (λ w. getD array ((end - 1) * 8 + (1 + w)) big) → LinesSo K g f a old next own earlier array i (count + 1)
   bounds-keep {array = array} {count = count} end z few p e q = record {
     arrays = p .arrays;
     latest = p .latest;
+    prior = p .prior;
     searched = p .searched;
     owns = p .owns;
     kept = λ j w l k m.
@@ -145,19 +156,27 @@ module _ {K g : ℕ} {f : Fans} {a : ℕ} {old : List ℕ} where
   }
 
   -- the lines are all
-  pub bounds-done : {store own array : List ℕ} {i count : ℕ} → GreatestFan f a → LinesSo K g f a old store own array i count →
-      i ≡ a - startAt (f .count) a + count → (1 ≤ count) × (count ≤ 256) → (lineAt store g (count - 1) 1 ≤ count - 1) ⊎ (count ≡ 256) →
-      LinesKept K g f old store a count
-  bounds-done greatest p e some last = record {
+  pub bounds-done : {store own earlier array : List ℕ} {i count : ℕ} → GreatestFan f a → LinesSo K g f a old store own earlier array i count →
+      i ≡ a - startAt (f .count) a + count → (1 ≤ count) × (count ≤ 256) →
+      (lineAt store g (count - 1) 1 ≤ count - 1) ⊎ ((count ≡ 256) ⊎ LinesStill K f a earlier array count) → LinesKept K g f old store a count
+  bounds-done {earlier = earlier} {array = array} {i = i} {count = count} greatest p e some last = record {
     greatest = greatest;
     arrays = p .arrays;
     searched = rw e at (p .searched);
     kept = p .kept;
     some = some;
-    last = last;
+    last = ⊎-elim inl (λ x. inr (⊎-elim inl (λ y. inr (rw e at (still y))) x)) last;
     before = p .before;
     room = p .room;
   }
+    where
+      still : LinesStill K f a earlier array count → SearchStill K f a count (p .arrays) i
+      still y = record {
+        two = y .two;
+        one = rw (p .latest) (y .one);
+        fans = y .fans;
+        same = λ s w l b. rw (p .latest, p .prior (i - 1) (omega (arith, e, y .two))) (y .same s w l b);
+      }
 
 -- ---- the loop: the bound is the next one's
 
@@ -166,11 +185,15 @@ pub record Lining (K g : ℕ) (f : Fans) (a : ℕ) (old store rows own array : L
   pub ahead : count ≡ bound - a
   pub few : count < 256
   pub sizes : (length rows ≡ 80) × (length own ≡ masks) × (length array ≡ 8192)
-  pub lines : LinesSo K g f a old store own array (bound - startAt (f .count) a) count
+  pub lines : (earlier : List ℕ) × LinesSo K g f a old store own earlier array (bound - startAt (f .count) a) count
 
 -- no level is high
 pub greatest-low : {K g a : ℕ} {f : Fans} → FansGood K g f → GreatestFan f a → a ≤ 2000
 greatest-low good greatest = let m = greatest .met in omega (arith, good .low (m .0) (m .1), m .2)
+
+-- the rows change up to the greatest level at least
+pub change-above : {f : Fans} {a r : ℕ} → GreatestFan f a → ((h : ℕ) → h < f .count → getD (f .levels) h 0 + (getD (f .lines) h 0 - 1) ≤ r) → a ≤ r
+change-above greatest p = let m = greatest .met in omega (arith, p (m .0) (m .1), m .2)
 
 -- the fanins' lines are in the store
 pub fans-stored : {K g : ℕ} {f : Fans} → FansGood K g f → g < 255 → FansStored f

@@ -25,3 +25,7 @@ pub record FansStored (f : Fans) : Type 0 where
 pub record RowsLooked (store : List ℕ) (f : Fans) (bound : ℕ) (rows looked : List ℕ) : Type 0 where
   pub is : (h w : ℕ) → h < f .count → w ≤ 6 → getD looked (h * 8 + w) big ≡ fanRow store f bound h w
   pub room : length looked ≡ length rows
+
+-- two arrays are the same in the first n places
+abbrev pub SameRows : List ℕ → List ℕ → ℕ → Type 0
+SameRows x y n = (i : ℕ) → i < n → getD y i big ≡ getD x i big

@@ -18,6 +18,7 @@ pub mod FillLaws
 pub mod Found
 pub mod Lines
 pub mod LineLaws
+pub mod StillLaws
 pub mod MaskDemands
 pub mod TieLaws
 pub mod Worked

@@ -47,6 +47,11 @@ module _ {lev : ℕ → ℕ} where
 
 -- ---- where nothing changes any more
 
+module _ {K : ℕ} {lev : ℕ → ℕ} where
+  -- so at a higher bound
+  pub settled-later : {zs : List (Bool × Node)} {ℓ : ℕ} → LevelSettled K lev zs ℓ → (m : ℕ) → ℓ ≤ m → LevelSettled K lev zs m
+  settled-later s m l ℓ′ w c g = let (v, e, i, j, h) = s ℓ′ w c g in (v, e, i, j, gives-higher m h l)
+
 module _ {K : ℕ} {lev : ℕ → ℕ} {big : ℕ} where
   pub settled-entry : {zs : List (Bool × Node)} {ℓ ℓ′ w e : ℕ} → LevelSettled K lev zs ℓ → ℓ ≤ ℓ′ → LeastEntry big (AtMost (Gives K lev zs ℓ) w) e →
       LeastEntry big (AtMost (Gives K lev zs ℓ′) w) e

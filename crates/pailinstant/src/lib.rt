@@ -6,7 +6,7 @@ ghost use Rattle.list_reading.specs.Trusted.ReadList.{readList};
 ghost use Rattle.list_numbers.specs.Trusted.Numbers.{listCode, numbersRead};
 ghost use Rattle.list_sets.specs.Trusted.ListSets.{AddedToList};
 ghost use Rattle.list_reservations.specs.Trusted.ListReservations.{ReservedOnList, CommittedToList, WithdrawnFromList};
-ghost use Rattle.pailinstant.specs.Calls.{PrintedInto};
+ghost use Rattle.pailinstant.specs.Calls.{printedBytes, PrintedInto, FastPrintedInto};
 use list_numbers::answer_code;
 use list_numbers::hand_over;
 use list_reader::read_list;
@@ -17,16 +17,34 @@ use list_sets::add_to_list;
 use printing::Printed;
 use program::run;
 
+// How many bytes were printed: none where the buffer is too short.
+fn printed_bytes(outcome: Printed) -> usize
+    ensures { λ n. ⌜ n ≡ printedBytes outcome ⌝ }
+{
+    match outcome {
+        Printed::Wrote(n) => n,
+        Printed::NoRoom => 0,
+    }
+}
+
 // Maps a whole input, as the mapping program does, and gives how many bytes it printed into the buffer: the list, or the line of the
 // first refusal. A buffer that is too short is left as it is, and gives 0; one with `program::LONGEST` bytes is never too short.
 #[no_mangle]
 pub extern "C" fn pailinstant_map(input: &[u8], output: &mut [u8]) -> usize
     ensures { λ r. ⌜ PrintedInto (now (input .entry)) r (now (output .exit)) (now (output .entry)) ⌝ }
 {
-    match run(input, output) {
-        Printed::Wrote(n) => n,
-        Printed::NoRoom => 0,
-    }
+    let outcome = run(input, output);
+    printed_bytes(outcome)
+}
+
+// Maps a whole input to the fewest levels, as the program `map_fast` does; otherwise as `pailinstant_map`. A buffer with
+// `fast_program::LONGEST_FAST` bytes is never too short.
+#[no_mangle]
+pub extern "C" fn pailinstant_map_fast(input: &[u8], output: &mut [u8]) -> usize
+    ensures { λ r. ⌜ FastPrintedInto (now (input .entry)) r (now (output .exit)) (now (output .entry)) ⌝ }
+{
+    let outcome = fast_program::run(input, output);
+    printed_bytes(outcome)
 }
 
 // The list of refusals: writes what a refusal's number means, as a plain sentence, into the buffer, and gives how many bytes that is. A

@@ -17,12 +17,13 @@ use outside::samples::{chain, full_part, full_sheets, input};
 use outside::set::add_set;
 use outside::sheet::Kind;
 use outside::tool::finish;
-use outside::{list, program};
+use outside::{fast_program, list, program};
 
 /// What is done with a text.
 #[derive(Clone, Copy)]
 enum Task {
     Map,
+    MapFast,
     Read,
     AddSet,
 }
@@ -55,6 +56,11 @@ fn ands(k: usize, gates: usize) -> Sample {
     Sample::new(format!("chain of {gates} ANDs, joined, K {k}"), input(k, 800, &[sheet]), Task::Map)
 }
 
+/// The same input for the second mapping program, with a wanted level.
+fn fast(sample: Sample) -> Sample {
+    Sample::new(format!("{}, levels", sample.name), sample.text.replacen('\n', "   500\n", 1), Task::MapFast)
+}
+
 /// The list of a full part, cut to its first tables.
 fn listed(tables: usize) -> Sample {
     let mut part = list::read(program::print(full_part().as_bytes()).as_bytes()).expect("the list of a full part");
@@ -81,6 +87,11 @@ fn samples() -> Vec<Sample> {
     samples.extend([800, 400, 200, 1].map(listed));
     samples.push(ands(6, 255));
     samples.extend([0, 84].map(added));
+    samples.extend([2, 6].map(|k| fast(one("chain of 255 gates", k, 255, 2))));
+    samples.extend([2, 6].map(|k| fast(one("28 gates of ten fanins", k, 28, 10))));
+    samples.extend([2, 6].map(|k| fast(ands(k, 255))));
+    samples.push(fast(Sample::new("full part of 800 tables, K 6".into(), full_part(), Task::Map)));
+    samples.extend([2, 5, 10].map(|fanins| fast(one(&format!("one gate of {fanins} fanins"), 4, 1, fanins))));
     samples
 }
 
@@ -97,6 +108,7 @@ fn own(sample: &Sample) {
     let text = black_box(sample.text.as_bytes());
     match sample.task {
         Task::Map => drop(black_box(program::print(text))),
+        Task::MapFast => drop(black_box(fast_program::print(text))),
         Task::Read => drop(black_box(list::read(text))),
         Task::AddSet => {
             drop(black_box(add_set(&list::read(text).expect("a list"), sample.sheets.as_bytes(), &sample.lengths).map(|part| part.list())))
@@ -116,6 +128,7 @@ impl Proved {
     fn of(task: Task) -> Proved {
         let (bytes, numbers) = match task {
             Task::Map | Task::AddSet => (outside::linked::LONGEST, 0),
+            Task::MapFast => (outside::linked::LONGEST_FAST, 0),
             Task::Read => (0, outside::linked::NUMBERS),
         };
         Proved { output: vec![0; bytes], numbers: vec![0; numbers] }
@@ -125,6 +138,7 @@ impl Proved {
         let text = black_box(sample.text.as_bytes());
         match sample.task {
             Task::Map => drop(black_box(outside::linked::map(text, &mut self.output))),
+            Task::MapFast => drop(black_box(outside::linked::map_fast(text, &mut self.output))),
             Task::Read => drop(black_box(outside::linked::read_list(text, &mut self.numbers))),
             Task::AddSet => drop(black_box(outside::linked::add_set(text, sample.sheets.as_bytes(), &sample.lengths, &mut self.output))),
         }
@@ -145,14 +159,14 @@ fn measure(rounds: usize, sample: &Sample) {
         ours = ours.min(time(calls, || own(sample)));
         theirs = theirs.min(time(calls, || proved.run(sample)));
     }
-    println!("{:<34}{ours:>14.1}{theirs:>14.1}{:>10.2}", sample.name, theirs / ours);
+    println!("{:<44}{ours:>14.1}{theirs:>14.1}{:>10.2}", sample.name, theirs / ours);
 }
 
 #[cfg(not(feature = "linked"))]
 fn measure(rounds: usize, sample: &Sample) {
     let calls = calls(sample);
     let ours = (0..rounds).map(|_| time(calls, || own(sample))).fold(f64::MAX, f64::min);
-    println!("{:<34}{ours:>14.1}", sample.name);
+    println!("{:<44}{ours:>14.1}", sample.name);
 }
 
 /// The input of this row.
@@ -195,7 +209,7 @@ fn run() -> Result<String, String> {
         _ => (),
     }
     let rounds = arguments.first().map_or(Ok(50), |rounds| rounds.parse().map_err(|_| format!("{rounds:?} is no number")))?;
-    println!("{:<34}{:>14}{:>14}{:>10}", "input", "independent", "proved", "ratio");
+    println!("{:<44}{:>14}{:>14}{:>10}", "input", "independent", "proved", "ratio");
     for sample in samples() {
         measure(rounds, &sample);
     }

@@ -2,7 +2,7 @@
 //!
 //!     differ_fast [--count N] [--seed S] [--first I] [--save FOLDER] own | linked | command PROGRAM
 //!
-//! `own` is the independent mapper, `linked` the archive linked in (feature `fast`), `command` a program that reads standard input and
+//! `own` is the independent mapper, `linked` the archive linked in (feature `linked`), `command` a program that reads standard input and
 //! writes standard output. What is printed is checked, and a refusal compared with what is known from the input's making, too. The first ten
 //! failing inputs are saved. A run in which a kind of inputs, a refusal, or one of the things that accepted inputs show does not occur fails.
 
@@ -20,13 +20,13 @@ type Mapper = dyn FnMut(&[u8]) -> Result<Vec<u8>, String>;
 fn mapper(words: &[String]) -> Result<Box<Mapper>, String> {
     match &words.iter().map(String::as_str).collect::<Vec<&str>>()[..] {
         ["own"] | [] => Ok(Box::new(|input| Ok(print(input).into_bytes()))),
-        #[cfg(feature = "fast")]
+        #[cfg(feature = "linked")]
         ["linked"] => {
             let mut output = vec![0; outside::linked::LONGEST_FAST];
             Ok(Box::new(move |input| Ok(outside::linked::map_fast(input, &mut output).to_vec())))
         }
-        #[cfg(not(feature = "fast"))]
-        ["linked"] => Err("built without the feature `fast`".into()),
+        #[cfg(not(feature = "linked"))]
+        ["linked"] => Err("built without the feature `linked`".into()),
         &["command", program] => {
             let program = program.to_string();
             Ok(Box::new(move |input| run_program(&program, input).map_err(|error| format!("{program}: {error}"))))

@@ -5,22 +5,22 @@ use native.Mathlib.Omega.{arith}
 use mathlib.Core.Path.{_≡_, refl, _∙_}
 use mathlib.Core.Logic.{_⊎_, ⊎-elim, inl, inr}
 use borrow.Author.Needs.{needs}
-use mathlib.Core.List.{List}
+use mathlib.Core.List.{List, []}
 use lib.Pow.{pow-pos, pow-mono}
 use lib.ListN.{getD}
 use Rattle.plan.specs.Limits.{masks}
 use Rattle.lists.specs.ListLaws.{getD-any}
 use Rattle.level_arrays.specs.Arrays.{big, lineAt, startAt, LinesKept}
 use Rattle.level_rows.specs.Runs.{RunWritten}
-use Rattle.level_lines.proofs.Lining.{all-big, LinesSo, bounds-start, bounds-turn, bounds-keep, bounds-done, Lining, greatest-low, fans-stored}
+use Rattle.level_lines.proofs.Lining.{all-big, LinesSo, LinesStill, bounds-start, bounds-turn, bounds-keep, bounds-done, Lining, greatest-low, change-above, fans-stored}
 use Rattle.level_lines.proofs.gate_lines.Statement.{statement}
 use Rattle.level_lines.proofs.gate_lines.Tie as tie
 
 abbrev Inv-loop : tie.InvT-loop
-Inv-loop k f a g store₀ n steps rows₀ own₀ array₀ bound₀ count₀ store rows own array bound count = Lining k g f a store₀ store rows own array bound count
+Inv-loop k f a g store₀ n steps change rows₀ own₀ array₀ bound₀ count₀ store rows own array bound count = Lining k g f a store₀ store rows own array bound count
 
 abbrev μ-loop : tie.MeasureT-loop
-μ-loop k f a g store₀ n steps rows₀ own₀ array₀ bound₀ count₀ store rows own array bound count = a + 256 - bound
+μ-loop k f a g store₀ n steps change rows₀ own₀ array₀ bound₀ count₀ store rows own array bound count = a + 256 - bound
 
 -- the places before: the call of `fill`, the loop's head, and the function's entry
 abbrev fill-of : tie.After-lift Inv-loop μ-loop → tie.After-fill Inv-loop μ-loop
@@ -30,7 +30,7 @@ abbrev loop-of : tie.After-fill Inv-loop μ-loop → tie.At-loop Inv-loop μ-loo
 loop-of c = c .before .before .before .before .before .before .before
 
 abbrev start-of : tie.At-loop Inv-loop μ-loop → tie.Start Inv-loop μ-loop
-start-of c = c .before .before .before .before
+start-of c = c .before .before .before .before .before
 
 -- the masks end within their room
 ended : (c : tie.After-fill Inv-loop μ-loop) → (1 ≤ c .fill .result) × (c .fill .result ≤ masks)
@@ -45,13 +45,13 @@ turned : (c : tie.After-lift Inv-loop μ-loop) →
     let e = fill-of c in
     let l = loop-of e .loop in
     let a = start-of (loop-of e) .args in
-    LinesSo (a .k) (a .g) (a .f) (a .a) (a .store .now) (l .store) (c .lift .last .1 .1 .1 .1 .0) (e .fill .last .1 .1 .1 .1 .0)
-    (suc (l .bound - startAt (a .f .count) (a .a))) (l .count)
+    LinesSo (a .k) (a .g) (a .f) (a .a) (a .store .now) (l .store) (c .lift .last .1 .1 .1 .1 .0) (l .array)
+    (e .fill .last .1 .1 .1 .1 .0) (suc (l .bound - startAt (a .f .count) (a .a))) (l .count)
 turned c =
     let e = fill-of c in
     let l = loop-of e .loop in
     let s = start-of (loop-of e) in
-    bounds-turn (s .pre .0) (l .bound) (omega (arith, l .inv .from)) (l .inv .lines) (e .before .before .before .before .look-rows .ensures) (e .fill .ensures .1)
+    bounds-turn (s .pre .0) (l .bound) (omega (arith, l .inv .from)) (l .inv .lines .1) (e .before .before .before .before .look-rows .ensures) (e .fill .ensures .1)
     (λ m h. c .lift .ensures .1 m (omega (arith, e .fill .ensures .0)))
 
 -- and one line more
@@ -61,8 +61,8 @@ kept-line : (c : tie.After-lift Inv-loop μ-loop) {next : List ℕ} →
     let a = start-of (loop-of e) .args in
     a .a ≤ l .bound →
     RunWritten (l .store) next ((a .g * 256 + l .count) * 6) 6 (λ w. getD (e .fill .last .1 .1 .1 .1 .0) ((e .fill .result - 1) * 8 + (1 + w)) big) →
-    LinesSo (a .k) (a .g) (a .f) (a .a) (a .store .now) next (c .lift .last .1 .1 .1 .1 .0) (e .fill .last .1 .1 .1 .1 .0)
-    (suc (l .bound - startAt (a .f .count) (a .a))) (l .count + 1)
+    LinesSo (a .k) (a .g) (a .f) (a .a) (a .store .now) next (c .lift .last .1 .1 .1 .1 .0) (l .array)
+    (e .fill .last .1 .1 .1 .1 .0) (suc (l .bound - startAt (a .f .count) (a .a))) (l .count + 1)
 kept-line c t q =
     let e = fill-of c in
     let l = loop-of e .loop in
@@ -76,7 +76,7 @@ again : (c : tie.After-lift Inv-loop μ-loop) (store : List ℕ) (count : ℕ) �
     let a = start-of (loop-of e) .args in
     let own = c .lift .last .1 .1 .1 .1 .0 in
     let array = e .fill .last .1 .1 .1 .1 .0 in
-    LinesSo (a .k) (a .g) (a .f) (a .a) (a .store .now) store own array (suc (l .bound - startAt (a .f .count) (a .a))) count →
+    LinesSo (a .k) (a .g) (a .f) (a .a) (a .store .now) store own (l .array) array (suc (l .bound - startAt (a .f .count) (a .a))) count →
     count ≡ l .bound + 1 - a .a → count < 256 →
     Lining (a .k) (a .g) (a .f) (a .a) (a .store .now) store (e .before .before .before .before .look-rows .last .1 .1 .1 .0) own array (l .bound + 1) count
 again c store count p ahead few =
@@ -90,19 +90,25 @@ again c store count p ahead few =
       ahead = ahead;
       few = few;
       sizes = (e .before .before .before .before .look-rows .ensures .room ∙ i .sizes .0, c .lift .ensures .0, e .fill .ensures .2 ∙ i .sizes .2);
-      lines = rw z p;
+      lines = (l .array, rw z p);
     }
 
 -- after a line is kept: the turn that keeps it, and all lines where it is the last
 abbrev lift-of : tie.After-keep-line Inv-loop μ-loop → tie.After-lift Inv-loop μ-loop
 lift-of c = c .before .before .before .before
 
+-- and after it is asked whether the search stands still
+abbrev kept-of : tie.After-stands-still Inv-loop μ-loop → tie.After-keep-line Inv-loop μ-loop
+kept-of c = c .before .before .before .before
+
 done : (c : tie.After-keep-line Inv-loop μ-loop) →
     let l = loop-of (fill-of (lift-of c)) in
     let a = start-of l .args in
     let n = l .loop .count + 1 in
     let store = c .keep-line .last .1 .1 .1 .1 .0 in
-    (lineAt store (a .g) (n - 1) 1 ≤ n - 1) ⊎ (n ≡ 256) → LinesKept (a .k) (a .g) (a .f) (a .store .now) store (a .a) n
+    (lineAt store (a .g) (n - 1) 1 ≤ n - 1)
+    ⊎ ((n ≡ 256) ⊎ LinesStill (a .k) (a .f) (a .a) (l .loop .array) (fill-of (lift-of c) .fill .last .1 .1 .1 .1 .0) n) →
+    LinesKept (a .k) (a .g) (a .f) (a .store .now) store (a .a) n
 done c last =
     let l = loop-of (fill-of (lift-of c)) in
     let t = c .before .before .before .if2 .taken in
@@ -118,9 +124,14 @@ cast-steps c = search needs
 sub-steps : tie.Need-sub-steps Inv-loop μ-loop
 sub-steps c = search needs
 
+last-change-requires : tie.Need-last-change-requires Inv-loop μ-loop
+last-change-requires c κs =
+    let g = c .before .before .pre .0 in
+    (g .some .fanins .1, g .rooms .0, g .rooms .1, λ h l. (g .low h l, g .few h l))
+
 loop-holds : tie.Need-loop-holds Inv-loop μ-loop
 loop-holds c =
-    let s = c .before .before .before in
+    let s = c .before .before .before .before in
     let b : c .if1 .bound ≡ startAt (s .args .f .count) (s .args .a) = ⊎-elim (λ w. omega arith) (λ w. omega arith) (c .if1 .came) in
     let z : c .if1 .bound - startAt (s .args .f .count) (s .args .a) ≡ 0 = omega arith in
     record {
@@ -128,14 +139,14 @@ loop-holds c =
       ahead = omega arith;
       few = omega arith;
       sizes = (refl, refl, refl);
-      lines = rw z (bounds-start (all-big 1024) (all-big 8192));
+      lines = ([], rw z (bounds-start (all-big 1024) (all-big 8192)));
     }
 
 look-rows-requires : tie.Need-look-rows-requires Inv-loop μ-loop
 look-rows-requires c κs =
     let l = c .before .before in
     let s = start-of l in
-    (fans-stored (s .pre .0) (s .pre .1), l .loop .inv .lines .room ∙ s .pre .3, l .loop .inv .sizes .0)
+    (fans-stored (s .pre .0) (s .pre .1), l .loop .inv .lines .1 .room ∙ s .pre .3, l .loop .inv .sizes .0)
 
 slice-aggregate-fill : tie.Need-slice-aggregate-fill Inv-loop μ-loop
 slice-aggregate-fill c = search needs
@@ -165,7 +176,7 @@ keep-line-requires c κs =
     let l = loop-of e in
     let i = l .loop .inv in
     let p = start-of l .pre in
-    (omega (arith, ended e), p .1, i .few, e .fill .ensures .2 ∙ i .sizes .2, i .lines .room ∙ p .3)
+    (omega (arith, ended e), p .1, i .few, e .fill .ensures .2 ∙ i .sizes .2, i .lines .1 .room ∙ p .3)
 
 sub-one : tie.Need-sub-one Inv-loop μ-loop
 sub-one c = omega (arith, ended (fill-of (lift-of c)))
@@ -195,11 +206,39 @@ returns c =
     let r = getD-any array ((e .fill .result - 1) * 8 + 1) 0 big (omega (arith, ended e, e .fill .ensures .2, l .inv .sizes .2)) in
     done d (inl (rw z (omega (arith, d .keep-line .ensures .is 0 (omega arith), r, c .if3 .taken))))
 
-add-count : tie.Need-add-count Inv-loop μ-loop
-add-count c = omega (arith, loop-of (fill-of (lift-of (c .before))) .loop .inv .few)
+stands-still-requires : tie.Need-stands-still-requires Inv-loop μ-loop
+stands-still-requires c κs =
+    let e = fill-of (lift-of (c .before .before .before)) in
+    let z = loop-of e .loop .inv .sizes .2 in
+    (ended e .1, z, e .fill .ensures .2 ∙ z)
+
+add-result-2 : tie.Need-add-result-2 Inv-loop μ-loop
+add-result-2 c = omega (arith, loop-of (fill-of (lift-of (kept-of (c .before)))) .loop .inv .few)
 
 returns-2 : tie.Need-returns-2 Inv-loop μ-loop
-returns-2 c = done (c .before .before) (inr (c .if4 .taken))
+returns-2 c =
+    let d = kept-of (c .before) in
+    let e = fill-of (lift-of d) in
+    let l = loop-of e in
+    let s = start-of l in
+    let (one, higher, same) = c .before .stands-still .ensures (c .if4 .taken) in
+    let array = e .fill .last .1 .1 .1 .1 .0 in
+    let r = getD-any array ((e .fill .result - 1) * 8 + 1) 0 big (omega (arith, ended e, e .fill .ensures .2, l .loop .inv .sizes .2)) in
+    let z : 0 + (2 ^ s .args .f .count - 1) * 8 + 1 ≡ (e .fill .result - 1) * 8 + 1 = omega (arith, e .fill .ensures .0) in
+    done d
+    (inr
+    (inr record {
+      two = omega (arith, l .loop .inv .ahead, higher, change-above (s .pre .2) (l .before .before .last-change .ensures .0));
+      one = rw z (omega (arith, one, r));
+      fans = λ h b. omega (arith, l .loop .inv .ahead, higher, l .before .before .last-change .ensures .0 h b);
+      same = λ m w b k. same (0 + m * 8 + w) (omega (arith, e .fill .ensures .0, s .pre .0 .some .table .1));
+    }))
+
+add-count : tie.Need-add-count Inv-loop μ-loop
+add-count c = omega (arith, loop-of (fill-of (lift-of (kept-of (c .before)))) .loop .inv .few)
+
+returns-3 : tie.Need-returns-3 Inv-loop μ-loop
+returns-3 c = done (kept-of (c .before .before)) (inr (inl (c .if5 .taken)))
 
 add-bound : tie.Need-add-bound Inv-loop μ-loop
 add-bound c =
@@ -218,8 +257,8 @@ loop-again c =
     let i = loop-of (fill-of o) .loop .inv in
     ⊎-elim
     (λ w.
-    rw (w .6, w .7)
-    (again o _ _ (kept-line o (w .0 .taken) (w .3 .ensures)) (omega (arith, i .ahead, w .0 .taken)) (omega (arith, i .few, w .5 .left))))
+    rw (w .10, w .11)
+    (again o _ _ (kept-line o (w .0 .taken) (w .3 .ensures)) (omega (arith, i .ahead, w .0 .taken)) (omega (arith, i .few, w .9 .left))))
     (λ w. rw (w .1, w .2) (again o _ _ (turned o) (omega (arith, i .ahead, w .0 .left)) (i .few)))
     (c .before .if2 .came)
 
@@ -232,6 +271,7 @@ gate-lines-spec =
     cast-n
     cast-steps
     sub-steps
+    last-change-requires
     loop-holds
     look-rows-requires
     slice-aggregate-fill
@@ -247,8 +287,11 @@ gate-lines-spec =
     cast-if3
     add-result
     returns
-    add-count
+    stands-still-requires
+    add-result-2
     returns-2
+    add-count
+    returns-3
     add-bound
     loop-less
     loop-again)
