@@ -15,7 +15,7 @@ use Rattle.level_arrays.specs.declared.Fans.{Fans}
 use Rattle.level_arrays.specs.Arrays.{big, entryAt, ArrayFilled, ownAbove, lineAt, fanRow, FansGood, Searched, GreatestFan, startAt, SearchStill, LinesKept}
 use Rattle.level_rows.specs.Rows.{pick-some}
 use Rattle.level_rows.specs.Runs.{RunWritten}
-use Rattle.level_lines.specs.Looked.{FansStored, RowsLooked}
+use Rattle.level_lines.specs.Looked.{FansStored, RowsLooked, SameRows}
 use Rattle.level_lines.proofs.Looking.{fan-below, look-net, fan-line}
 
 -- an array that has no entry
@@ -178,13 +178,14 @@ module _ {K g : ℕ} {f : Fans} {a : ℕ} {old : List ℕ} where
         same = λ s w l b. rw (p .latest, p .prior (i - 1) (omega (arith, e, y .two))) (y .same s w l b);
       }
 
--- ---- the loop: the bound is the next one's
+-- ---- the loop: the bound is the next one's, and `before` has the rows of `array`
 
-pub record Lining (K g : ℕ) (f : Fans) (a : ℕ) (old store rows own array : List ℕ) (bound count : ℕ) : Type 0 where
+pub record Lining (K g : ℕ) (f : Fans) (a : ℕ) (old store rows own array before : List ℕ) (bound count : ℕ) : Type 0 where
   pub from : startAt (f .count) a ≤ bound
   pub ahead : count ≡ bound - a
   pub few : count < 256
-  pub sizes : (length rows ≡ 80) × (length own ≡ masks) × (length array ≡ 8192)
+  pub sizes : (length rows ≡ 80) × (length own ≡ masks) × (length array ≡ 8192) × (length before ≡ 8192)
+  pub same : SameRows array before (2 ^ (f .count) * 8)
   pub lines : (earlier : List ℕ) × LinesSo K g f a old store own earlier array (bound - startAt (f .count) a) count
 
 -- no level is high

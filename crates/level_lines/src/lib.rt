@@ -121,6 +121,19 @@ fn same_rows(x: &[u8; ARRAY_ROOM], y: &[u8; ARRAY_ROOM], end: usize) -> bool
     true
 }
 
+// Copies the rows of the first masks.
+fn copy_rows(array: &[u8; ARRAY_ROOM], end: usize, copy: &mut [u8; ARRAY_ROOM])
+    requires { ⌜ (end ≤ masks) × (length (now array) ≡ 8192) × (length (now copy) ≡ 8192) ⌝ }
+    ensures { λ r. ⌜ RunWritten (now (copy .entry)) (now (copy .exit)) 0 (end * 8) (λ i. getD (now (array .entry)) i big) ⌝ }
+{
+    let places = end * 8;
+    let mut i: usize = 0;
+    while i < places {
+        copy[i] = array[i];
+        i += 1;
+    }
+}
+
 // Whether the search stands still at a bound: `one` is its entry for one input, x the array of the bound before and y its own.
 fn stands_still(
     one: u8,
@@ -153,10 +166,10 @@ pub fn gate_lines(k: u8, f: Fans, a: u16, g: usize, store: &mut [u8; STORE_ROOM]
     let mut rows = [NONE; FANIN_ROOM];
     let mut own = [NONE; MASKS];
     let mut array = [NONE; ARRAY_ROOM];
+    let mut before = [NONE; ARRAY_ROOM];
     let mut bound = if a < steps { 0 } else { a - steps };
     let mut count: u16 = 0;
     loop {
-        let before = array;
         look_rows(f, bound, store, &mut rows);
         let end = fill(k, n, &rows, &own, &mut array, 0);
         lift(k, end, &array, 0, &mut own);
@@ -174,6 +187,7 @@ pub fn gate_lines(k: u8, f: Fans, a: u16, g: usize, store: &mut [u8; STORE_ROOM]
                 return count;
             }
         }
+        copy_rows(&array, end, &mut before);
         bound += 1;
     }
 }

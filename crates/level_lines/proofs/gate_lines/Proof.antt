@@ -17,10 +17,10 @@ use Rattle.level_lines.proofs.gate_lines.Statement.{statement}
 use Rattle.level_lines.proofs.gate_lines.Tie as tie
 
 abbrev Inv-loop : tie.InvT-loop
-Inv-loop k f a g store₀ n steps change rows₀ own₀ array₀ bound₀ count₀ store rows own array bound count = Lining k g f a store₀ store rows own array bound count
+Inv-loop k f a g store₀ n steps change rows₀ own₀ array₀ before₀ bound₀ count₀ store rows own array before bound count = Lining k g f a store₀ store rows own array before bound count
 
 abbrev μ-loop : tie.MeasureT-loop
-μ-loop k f a g store₀ n steps change rows₀ own₀ array₀ bound₀ count₀ store rows own array bound count = a + 256 - bound
+μ-loop k f a g store₀ n steps change rows₀ own₀ array₀ before₀ bound₀ count₀ store rows own array before bound count = a + 256 - bound
 
 -- the places before: the call of `fill`, the loop's head, and the function's entry
 abbrev fill-of : tie.After-lift Inv-loop μ-loop → tie.After-fill Inv-loop μ-loop
@@ -70,16 +70,16 @@ kept-line c t q =
     bounds-keep (e .fill .result) (e .fill .ensures .0) (s .pre .0 .some .table .1) (turned c) (omega (arith, l .inv .ahead)) q
 
 -- the next turn, where the bound is one more
-again : (c : tie.After-lift Inv-loop μ-loop) (store : List ℕ) (count : ℕ) →
+again : (c : tie.After-lift Inv-loop μ-loop) (store copy : List ℕ) (count : ℕ) →
     let e = fill-of c in
     let l = loop-of e .loop in
     let a = start-of (loop-of e) .args in
     let own = c .lift .last .1 .1 .1 .1 .0 in
     let array = e .fill .last .1 .1 .1 .1 .0 in
     LinesSo (a .k) (a .g) (a .f) (a .a) (a .store .now) store own (l .array) array (suc (l .bound - startAt (a .f .count) (a .a))) count →
-    count ≡ l .bound + 1 - a .a → count < 256 →
-    Lining (a .k) (a .g) (a .f) (a .a) (a .store .now) store (e .before .before .before .before .look-rows .last .1 .1 .1 .0) own array (l .bound + 1) count
-again c store count p ahead few =
+    count ≡ l .bound + 1 - a .a → count < 256 → RunWritten (l .before) copy 0 (e .fill .result * 8) (λ i. getD array i big) →
+    Lining (a .k) (a .g) (a .f) (a .a) (a .store .now) store (e .before .before .before .before .look-rows .last .1 .1 .1 .0) own array copy (l .bound + 1) count
+again c store copy count p ahead few q =
     let e = fill-of c in
     let l = loop-of e .loop in
     let a = start-of (loop-of e) .args in
@@ -89,7 +89,8 @@ again c store count p ahead few =
       from = omega (arith, i .from);
       ahead = ahead;
       few = few;
-      sizes = (e .before .before .before .before .look-rows .ensures .room ∙ i .sizes .0, c .lift .ensures .0, e .fill .ensures .2 ∙ i .sizes .2);
+      sizes = (e .before .before .before .before .look-rows .ensures .room ∙ i .sizes .0, c .lift .ensures .0, e .fill .ensures .2 ∙ i .sizes .2, q .room ∙ i .sizes .3);
+      same = λ j b. let z : 0 + j ≡ j = omega arith in rw z at (q .is j (omega (arith, e .fill .ensures .0)));
       lines = (l .array, rw z p);
     }
 
@@ -138,7 +139,8 @@ loop-holds c =
       from = omega arith;
       ahead = omega arith;
       few = omega arith;
-      sizes = (refl, refl, refl);
+      sizes = (refl, refl, refl, refl);
+      same = λ i l. refl;
       lines = ([], rw z (bounds-start (all-big 1024) (all-big 8192)));
     }
 
@@ -209,8 +211,14 @@ returns c =
 stands-still-requires : tie.Need-stands-still-requires Inv-loop μ-loop
 stands-still-requires c κs =
     let e = fill-of (lift-of (c .before .before .before)) in
-    let z = loop-of e .loop .inv .sizes .2 in
-    (ended e .1, z, e .fill .ensures .2 ∙ z)
+    let z = loop-of e .loop .inv .sizes in
+    (ended e .1, z .3, e .fill .ensures .2 ∙ z .2)
+
+copy-rows-requires : tie.Need-copy-rows-requires Inv-loop μ-loop
+copy-rows-requires c κs =
+    let e = fill-of (c .before .before .before) in
+    let z = loop-of e .loop .inv .sizes in
+    (ended e .1, e .fill .ensures .2 ∙ z .2, z .3)
 
 add-result-2 : tie.Need-add-result-2 Inv-loop μ-loop
 add-result-2 c = omega (arith, loop-of (fill-of (lift-of (kept-of (c .before)))) .loop .inv .few)
@@ -231,7 +239,9 @@ returns-2 c =
       two = omega (arith, l .loop .inv .ahead, higher, change-above (s .pre .2) (l .before .before .last-change .ensures .0));
       one = rw z (omega (arith, one, r));
       fans = λ h b. omega (arith, l .loop .inv .ahead, higher, l .before .before .last-change .ensures .0 h b);
-      same = λ m w b k. same (0 + m * 8 + w) (omega (arith, e .fill .ensures .0, s .pre .0 .some .table .1));
+      same = λ m w b k.
+          same (0 + m * 8 + w) (omega (arith, e .fill .ensures .0, s .pre .0 .some .table .1))
+          ∙ l .loop .inv .same (0 + m * 8 + w) (omega (arith, s .pre .0 .some .table .1));
     }))
 
 add-count : tie.Need-add-count Inv-loop μ-loop
@@ -240,27 +250,31 @@ add-count c = omega (arith, loop-of (fill-of (lift-of (kept-of (c .before)))) .l
 returns-3 : tie.Need-returns-3 Inv-loop μ-loop
 returns-3 c = done (kept-of (c .before .before)) (inr (inl (c .if5 .taken)))
 
+-- at a turn's end
+abbrev turn-of : tie.After-row-known Inv-loop μ-loop → tie.After-lift Inv-loop μ-loop
+turn-of c = c .before .before .before .before .before
+
 add-bound : tie.Need-add-bound Inv-loop μ-loop
 add-bound c =
-    let l = loop-of (fill-of (c .before .before)) in
+    let l = loop-of (fill-of (turn-of c)) in
     let p = start-of l .pre in
     omega (arith, greatest-low (p .0) (p .2), l .loop .inv .ahead, l .loop .inv .few)
 
 loop-less : tie.Need-loop-less Inv-loop μ-loop
 loop-less c =
-    let l = loop-of (fill-of (c .before .before)) in
+    let l = loop-of (fill-of (turn-of c)) in
     omega (arith, l .loop .inv .ahead, l .loop .inv .few)
 
 loop-again : tie.Need-loop-again Inv-loop μ-loop
 loop-again c =
-    let o = c .before .before in
+    let o = turn-of c in
     let i = loop-of (fill-of o) .loop .inv in
     ⊎-elim
     (λ w.
     rw (w .10, w .11)
-    (again o _ _ (kept-line o (w .0 .taken) (w .3 .ensures)) (omega (arith, i .ahead, w .0 .taken)) (omega (arith, i .few, w .9 .left))))
-    (λ w. rw (w .1, w .2) (again o _ _ (turned o) (omega (arith, i .ahead, w .0 .left)) (i .few)))
-    (c .before .if2 .came)
+    (again o _ _ _ (kept-line o (w .0 .taken) (w .3 .ensures)) (omega (arith, i .ahead, w .0 .taken)) (omega (arith, i .few, w .9 .left)) (c .before .copy-rows .ensures)))
+    (λ w. rw (w .1, w .2) (again o _ _ _ (turned o) (omega (arith, i .ahead, w .0 .left)) (i .few) (c .before .copy-rows .ensures)))
+    (c .before .before .before .before .if2 .came)
 
 pub gate-lines-spec : {M : Type 1} → statement M
 gate-lines-spec =
@@ -292,6 +306,7 @@ gate-lines-spec =
     returns-2
     add-count
     returns-3
+    copy-rows-requires
     add-bound
     loop-less
     loop-again)
