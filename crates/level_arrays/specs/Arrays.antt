@@ -165,7 +165,7 @@ pub record Drafted (K n from top : ℕ) (a : List ℕ) (i s w : ℕ) (d e : Draf
   pub added : List Token
   pub planned : MaskMeets K (draftDemands n from a e) s added (demand (from + i - 1) w (entryAt a (i * 8192) s w))
   pub is : tokens (e .plan) ≡ tokens (d .plan) ++ added
-  -- (added later by the owner of this file) a placed operand has an entry of 1 or more, so it is no net: `places` follows the tokens, an operand more for each mask
+  -- a placed operand has an entry of 1 or more, so it is no net
   pub places : (net : ℕ → Bool) → NetEntries K n top net a → PlacesNone n s net added
   pub len : e .plan .len ≡ d .plan .len + length added
   pub few : length added + 1 ≡ 2 * length (select s (upto n))
