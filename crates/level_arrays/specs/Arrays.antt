@@ -83,12 +83,12 @@ pub record GreatestFan (f : Fans) (a : ℕ) : Type 0 where
 abbrev pub startAt : (n ℓ : ℕ) → ℕ
 startAt n ℓ = ℓ - (n - 1)
 
--- the last array, which has an entry for one input, is the one before it, and the fanins' lines do not change any more
-pub record SearchStill (K : ℕ) (f : Fans) (a count : ℕ) (arrays : ℕ → List ℕ) (last : ℕ) : Type 0 where
+-- the last array, which has an entry for one input, is the one before it, `earlier`, and the fanins' lines do not change any more
+pub record SearchStill (K : ℕ) (f : Fans) (a count : ℕ) (earlier array : List ℕ) : Type 0 where
   pub two : 2 ≤ count
-  pub one : entryAt (arrays last) 0 (2 ^ (f .count) - 1) 1 < big
+  pub one : entryAt array 0 (2 ^ (f .count) - 1) 1 < big
   pub fans : (h : ℕ) → h < f .count → getD (f .levels) h 0 + (getD (f .lines) h 0 - 1) ≤ a + (count - 2)
-  pub same : (s w : ℕ) → s < 2 ^ (f .count) → w ≤ K → entryAt (arrays last) 0 s w ≡ entryAt (arrays (last - 1)) 0 s w
+  pub same : (s w : ℕ) → s < 2 ^ (f .count) → w ≤ K → entryAt array 0 s w ≡ entryAt earlier 0 s w
 
 -- THE LINES OF A GATE with those fanins, by some search: `a` is the greatest level, `count` how many lines there are. The last is that of a bound that is
 -- as far above the greatest level as the entry for one input, or that of a bound at which the search stands still, or the last that there is room for
@@ -98,7 +98,8 @@ pub record LinesKept (K g : ℕ) (f : Fans) (store store′ : List ℕ) (a count
   pub searched : Searched K (f .count) (startAt (f .count) a) (a - startAt (f .count) a + count) (fanRow store f) arrays (λ i. 0)
   pub kept : (j w : ℕ) → j < count → 1 ≤ w → w ≤ K → lineAt store′ g j w ≡ entryAt (arrays (suc (a - startAt (f .count) a + j))) 0 (2 ^ (f .count) - 1) w
   pub some : (1 ≤ count) × (count ≤ 256)
-  pub last : (lineAt store′ g (count - 1) 1 ≤ count - 1) ⊎ ((count ≡ 256) ⊎ SearchStill K f a count arrays (a - startAt (f .count) a + count))
+  pub last : (lineAt store′ g (count - 1) 1 ≤ count - 1)
+      ⊎ ((count ≡ 256) ⊎ SearchStill K f a count (arrays (a - startAt (f .count) a + count - 1)) (arrays (a - startAt (f .count) a + count)))
   pub before : (i : ℕ) → i < g * 1536 → getD store′ i big ≡ getD store i big
   pub room : length store′ ≡ length store
 

@@ -85,7 +85,7 @@ module _ (K : ℕ) (lev : ℕ → ℕ) (two : 2 ≤ K) (k : Kind) (es : Edges) (
     greatest = greatest-fan K lev (fanins es) z store f fans n (x .greatest)
 
     -- where the search stands still
-    still-settled : (last : ℕ) → last ≡ a - start + count → SearchStill K f a count (x .arrays) last → (m : ℕ) → m + 2 ≡ count →
+    still-settled : (last : ℕ) → last ≡ a - start + count → SearchStill K f a count (x .arrays (last - 1)) (x .arrays last) → (m : ℕ) → m + 2 ≡ count →
         LevelSettled K lev (fanins es) (a + (count - 1))
     still-settled last d y m e =
         let i = ap (λ p. p - 1) d ∙ less-one (a - start) m count e in

@@ -79,13 +79,6 @@ pub record LinesSo (K g : ℕ) (f : Fans) (a : ℕ) (old store own earlier array
   pub before : (i : ℕ) → i < g * 1536 → getD store i big ≡ getD old i big
   pub room : length store ≡ length old
 
--- the last two bounds have the same array
-pub record LinesStill (K : ℕ) (f : Fans) (a : ℕ) (earlier array : List ℕ) (count : ℕ) : Type 0 where
-  pub two : 2 ≤ count
-  pub one : entryAt array 0 (2 ^ (f .count) - 1) 1 < big
-  pub fans : (h : ℕ) → h < f .count → getD (f .levels) h 0 + (getD (f .lines) h 0 - 1) ≤ a + (count - 2)
-  pub same : (s w : ℕ) → s < 2 ^ (f .count) → w ≤ K → entryAt array 0 s w ≡ entryAt earlier 0 s w
-
 module _ {K g : ℕ} {f : Fans} {a : ℕ} {old : List ℕ} where
   -- no bound is done
   pub bounds-start : {own earlier array : List ℕ} → ((s : ℕ) → getD own s big ≡ big) → ((s : ℕ) → getD array s big ≡ big) → LinesSo K g f a old old own earlier array 0 0
@@ -158,7 +151,7 @@ module _ {K g : ℕ} {f : Fans} {a : ℕ} {old : List ℕ} where
   -- the lines are all
   pub bounds-done : {store own earlier array : List ℕ} {i count : ℕ} → GreatestFan f a → LinesSo K g f a old store own earlier array i count →
       i ≡ a - startAt (f .count) a + count → (1 ≤ count) × (count ≤ 256) →
-      (lineAt store g (count - 1) 1 ≤ count - 1) ⊎ ((count ≡ 256) ⊎ LinesStill K f a earlier array count) → LinesKept K g f old store a count
+      (lineAt store g (count - 1) 1 ≤ count - 1) ⊎ ((count ≡ 256) ⊎ SearchStill K f a count earlier array) → LinesKept K g f old store a count
   bounds-done {earlier = earlier} {array = array} {i = i} {count = count} greatest p e some last = record {
     greatest = greatest;
     arrays = p .arrays;
@@ -170,13 +163,8 @@ module _ {K g : ℕ} {f : Fans} {a : ℕ} {old : List ℕ} where
     room = p .room;
   }
     where
-      still : LinesStill K f a earlier array count → SearchStill K f a count (p .arrays) i
-      still y = record {
-        two = y .two;
-        one = rw (p .latest) (y .one);
-        fans = y .fans;
-        same = λ s w l b. rw (p .latest, p .prior (i - 1) (omega (arith, e, y .two))) (y .same s w l b);
-      }
+      still : SearchStill K f a count earlier array → SearchStill K f a count (p .arrays (i - 1)) (p .arrays i)
+      still y = rw (p .latest, p .prior (i - 1) (omega (arith, e, y .two))) y
 
 -- ---- the loop: the bound is the next one's, and `before` has the rows of `array`
 

@@ -10,9 +10,9 @@ use lib.Pow.{pow-pos, pow-mono}
 use lib.ListN.{getD}
 use Rattle.plan.specs.Limits.{masks}
 use Rattle.lists.specs.ListLaws.{getD-any}
-use Rattle.level_arrays.specs.Arrays.{big, lineAt, startAt, LinesKept}
+use Rattle.level_arrays.specs.Arrays.{big, lineAt, startAt, SearchStill, LinesKept}
 use Rattle.level_rows.specs.Runs.{RunWritten}
-use Rattle.level_lines.proofs.Lining.{all-big, LinesSo, LinesStill, bounds-start, bounds-turn, bounds-keep, bounds-done, Lining, greatest-low, change-above, fans-stored}
+use Rattle.level_lines.proofs.Lining.{all-big, LinesSo, bounds-start, bounds-turn, bounds-keep, bounds-done, Lining, greatest-low, change-above, fans-stored}
 use Rattle.level_lines.proofs.gate_lines.Statement.{statement}
 use Rattle.level_lines.proofs.gate_lines.Tie as tie
 
@@ -108,7 +108,7 @@ done : (c : tie.After-keep-line Inv-loop μ-loop) →
     let n = l .loop .count + 1 in
     let store = c .keep-line .last .1 .1 .1 .1 .0 in
     (lineAt store (a .g) (n - 1) 1 ≤ n - 1)
-    ⊎ ((n ≡ 256) ⊎ LinesStill (a .k) (a .f) (a .a) (l .loop .array) (fill-of (lift-of c) .fill .last .1 .1 .1 .1 .0) n) →
+    ⊎ ((n ≡ 256) ⊎ SearchStill (a .k) (a .f) (a .a) n (l .loop .array) (fill-of (lift-of c) .fill .last .1 .1 .1 .1 .0)) →
     LinesKept (a .k) (a .g) (a .f) (a .store .now) store (a .a) n
 done c last =
     let l = loop-of (fill-of (lift-of c)) in
