@@ -1,4 +1,6 @@
 // Chained gates of a sheet (02, #104): whether an edge is between two, and whether any edge is joined.
+#![tactic(auto)]
+
 ghost use Rattle.std.specs.Prelude.{◌≡◌};
 ghost use Rattle.sheet.specs.Trusted.Answers.{drawn_sheet};
 ghost use Rattle.sheet.specs.Trusted.Formed.{WellFormed};

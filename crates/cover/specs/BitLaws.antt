@@ -60,6 +60,7 @@ index_lt (b ∷ bs) = double b (index bs) (length bs) (index_lt bs)
 
 -- the index made of the values of the codes `xs` gives each its value back
 pub bit_index : (e : ℕ → Bool) (c : ℕ) (xs : List ℕ) → c ∈ xs → bit (index (map e xs)) (place c xs) ≡ e c
+bit_index e c [] m = elim m [ ]
 bit_index e c (x ∷ xs) m =
     by_eqb (λ b. bit (index (map e (x ∷ xs))) (cond b 0 (suc (place c xs))) ≡ e c) c x (λ q. low (e x) (index (map e xs)) ∙ ap e (sym q))
     (λ n. high_bit (e x) (index (map e xs)) (place c xs) ∙ bit_index e c xs (not_first n m))

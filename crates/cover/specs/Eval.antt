@@ -68,6 +68,7 @@ numbered_is n (r ∷ rs) = every_cons (omega arith, omega arith, first refl)
 
 -- a number is that of one table
 pub numbered_one : (n : ℕ) (rs : List LookupTable) (p q : Placed) → p ∈ numbered n rs → q ∈ numbered n rs → p.0 ≡ q.0 → p ≡ q
+numbered_one n [] p q x3 _ h = elim x3 [ ]
 numbered_one n (r ∷ rs) p q (first e) (first f) h = e ∙ sym f
 numbered_one n (r ∷ rs) p q (first e) (later j) h = absurd (omega (arith, ap (λ x. x.0) e, (numbered_is (suc n) rs q j).0))
 numbered_one n (r ∷ rs) p q (later i) (first f) h = absurd (omega (arith, ap (λ x. x.0) f, (numbered_is (suc n) rs p i).0))

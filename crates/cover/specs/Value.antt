@@ -131,6 +131,7 @@ module _ (base : ℕ) (e : ℕ → Bool) where
 
   pub root_value_lem : {t : Node} {c : Cover} (n : ℕ) (v : Bool) → SplitOf t c → Rooted c → 0 < n →
       Every (ValuesHold base e) (records base c n v) → e n ≡ turned v (value t e)
+  root_value_lem n v same x10 pos h = elim x10 [ ]
   root_value_lem n v (split {k = k} {fs = fs} d) (rooted {n = m}) pos h =
       let own = placed (suc m) (gate_table base n v k fs) in
       let g = every_left (records* base fs k) own h in

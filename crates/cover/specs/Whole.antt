@@ -55,6 +55,7 @@ module _ (base : ℕ) where
 
   split_whole : {t : Node} {c : Cover} (n : ℕ) (v : Bool) → SplitOf t c → Rooted c → tables c ≡ 1 →
       records base c n v ≡ (root_number c, whole n v t) ∷ []
+  split_whole n v Rattle.cover.specs.Trusted.Cover.same x7 e = elim x7 [ ]
   split_whole n v (split {k = k} {fs = fs} d) (rooted {n = m}) e =
       let z : tables* fs ≡ 0 = omega arith in
       ap₂ (λ xs r. xs ++ ((suc m, r) ∷ [])) (length_none (records* base fs k) (records_length* base fs k ∙ z)) (gate_whole n v k fs d z)

@@ -1,1 +1,3 @@
 // Decompositions and covers of a tree, the tables of a cover, and their values: definitions and laws.
+#![tactic(auto)]
+

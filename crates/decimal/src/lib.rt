@@ -1,5 +1,7 @@
 // Decimal numbers in the columns of a field: what a field holds, and a value taken apart into its sign and its absolute value.
 // The formats are those of 01, "Sheet" and "List". The reader is the crate `decimal_reader`, the writer `decimal_writer`.
+#![tactic(auto)]
+
 ghost use Rattle.std.specs.Prelude.{◌≡◌};
 ghost use Rattle.decimal.specs.Trusted.Reading.{number_of_int};
 
@@ -7,21 +9,21 @@ ghost use Rattle.decimal.specs.Trusted.Reading.{number_of_int};
 pub const COLUMNS: usize = 6;
 
 // What the columns of a field hold.
-#[derive(Drop)]
+#[derive(Clone, Copy)]
 pub enum Field {
     Value(i32),
     NoNumber,
 }
 
 // Whether a number was written into its field.
-#[derive(Drop)]
+#[derive(Clone, Copy)]
 pub enum Written {
     Done,
     TooWide,
 }
 
 // What digits make: a number below 2^64, or none.
-#[derive(Drop)]
+#[derive(Clone, Copy)]
 pub enum Parsed {
     Natural(u64),
     Nothing,

@@ -1,4 +1,6 @@
 // The reader of a field: the decimal number in its six columns, or in any number of columns where it has no minus sign.
+#![tactic(auto)]
+
 ghost use Rattle.std.specs.Prelude.{◌≡◌, ◌+◌, ◌*◌, ◌^◌, ◌≤◌, ◌<◌, leb, length, drop};
 ghost use Rattle.decimal.specs.Trusted.Number.{columns, digits, natural, signed, in_word};
 ghost use Rattle.decimal.specs.Trusted.Reading.{field_answer, field_read, parsed, word_read};

@@ -1,5 +1,7 @@
 // Reads each line of a file as a field and as a number without a minus sign, and prints what it holds. Then writes numbers into a field of a line of dots, from the
 // second byte on, and prints the line and the answer.
+#![tactic(auto)]
+
 use decimal::{Field, Parsed, Written};
 use libc::STDOUT_FILENO;
 

@@ -1,4 +1,6 @@
 // The writer of a field: a number right-justified after blanks, into a whole field or into a part of a longer line.
+#![tactic(auto)]
+
 ghost use Rattle.std.specs.Prelude.{◌≡◌, length};
 ghost use Rattle.decimal.specs.Trusted.Columns.{field_of};
 ghost use Rattle.decimal.specs.Trusted.Reading.{number_of_int};

@@ -18,6 +18,7 @@ use Rattle.part.specs.declared.Part.{Part}
 
 -- a table of the list has a number
 numbered_in : (n : ℕ) (ts : List LookupTable) (t : LookupTable) → t ∈ ts → (p : Placed) × (p ∈ numbered n ts) × (p.1 ≡ t)
+numbered_in n [] t x' = elim x' [ ]
 numbered_in n (u ∷ ts) t (first e) = ((suc n, u), first refl, sym e)
 numbered_in n (u ∷ ts) t (later m) = let h = numbered_in (suc n) ts t m in (h.0, later h.1, h.2)
 

@@ -97,6 +97,7 @@ seen_both : (seen : Seen) (ns ms gs hs : List ℕ) → seen_with (seen_with seen
 seen_both seen ns ms gs hs = ap₂ (λ x y. record { nets = x; gates = y }) (append_assoc seen.nets ns ms) (append_assoc seen.gates gs hs)
 
 new_last : (xs : List ℕ) (x : ℕ) → Distinct (xs ++ (x ∷ [])) → ¬ (x ∈ xs)
+new_last [] x d x4 = elim x4 [ ]
 new_last (y ∷ ys) x d (first e) = every_right ys (x ∷ []) d.0 x (first refl) (sym e)
 new_last (y ∷ ys) x d (later m) = new_last ys x d.1 m
 

@@ -91,7 +91,7 @@ module _ {w : Way} (R : Part → Part → Type 0) (alike : (p q : Part) → R p 
       absurd (not_refused o (sym (adds_alike p q f g l (sheet_text text).0 r s a b).0 ∙ e))
   texts_by_agree {p} {q} (next {text = text} {r = r} h e t) (next {r = s} k o u) (call a c) (call b d) f g l =
       let x = adds_alike p q f g l (sheet_text text).0 r s a b in
-      let y = texts_by_agree t u c d (call_kept p f (add w (sheet_text text).0) r a).shaped (call_kept q g (add w (sheet_text text).0) s b).shaped x.1 in
+      let y = texts_by_agree {p = r.part} {q = s.part} t u c d (call_kept p f (add w (sheet_text text).0) r a).shaped (call_kept q g (add w (sheet_text text).0) s b).shaped x.1 in
       record { calls = ap (◌∷◌ (add w (sheet_text text).0)) y.calls; same = ap₂ ◌∷◌ x.0 y.same; used = ap₂ ◌∷◌ (alike r.part s.part x.1).used y.used; last = y.last }
 
   -- WHAT TWO RUNS PRINT: the line of one refusal; or lists that are the same as far as `ListsBy` says, with R of their last parts, from which L follows

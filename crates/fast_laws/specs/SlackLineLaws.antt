@@ -117,7 +117,7 @@ module _ (wanted : ℕ) where
   lines_after n (stop number place l e) (call a done) shape z = no_some (sym z ∙ ap (λ b. first_refusal n (b ∷ [])) e)
   lines_after {p} n (next {text = text} {r = r} {rs = rs} l e t) (call a c) shape z =
       let x = line_added wanted p shape (sheet_text text).0 r.part (subst (Add fastest p (sheet_text text).0 r.part) e a.0) in
-      let y = lines_after (suc n) t c (call_kept p shape (add fastest (sheet_text text).0) r a).shaped (sym (ap (λ b. first_refusal n (b ∷ answers rs)) e) ∙ z) in (
+      let y = lines_after {p = r.part} (suc n) t c (call_kept p shape (add fastest (sheet_text text).0) r a).shaped (sym (ap (λ b. first_refusal n (b ∷ answers rs)) e) ∙ z) in (
         slack_line wanted x.sheet.out x.root ++ y.0,
         y.1 ∙ ap (λ l. l ++ y.0) x.lines ∙ append_assoc (slack_lines wanted p) (slack_line wanted x.sheet.out x.root) y.0,
         sheet x.sheet x.number x.root x.read x.least_root y.2,

@@ -1,4 +1,6 @@
 // The opening line of an input with a wanted level: K, the capacity and the wanted level in three fields, and the part that they open.
+#![tactic(auto)]
+
 ghost use Rattle.std.specs.Prelude.{◌≡◌, ◌<◌};
 ghost use Rattle.decimal.specs.Trusted.Reading.{number_of_int};
 ghost use Rattle.part.specs.Trusted.Add.{opened};
@@ -18,7 +20,7 @@ pub const FAST_OPENING: usize = 19;
 pub const MOST_WANTED: u32 = 1024;
 
 // The part that the opening line gives, the answer and the wanted level, which is 0 where the line is refused.
-#[derive(Drop)]
+#[derive(Clone, Copy)]
 pub struct FastOpening {
     pub part: Part,
     pub told: Told,

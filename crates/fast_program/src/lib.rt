@@ -1,5 +1,7 @@
 // What the program for the fewest levels prints for an input: the list of the part that its sheets make and after it the slacks of its nets, or the
 // line of the first refusal.
+#![tactic(auto)]
+
 ghost use Rattle.std.specs.Prelude.{◌≡◌, ◌≤◌, length};
 ghost use Rattle.part.specs.Trusted.Sound.{Sound};
 ghost use Rattle.listing.specs.Lines.{table_lines};

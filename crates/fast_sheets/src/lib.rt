@@ -1,5 +1,7 @@
 // The sheets of an input, added to a part of no tables one after the other, each mapped to the fewest levels. `fast_program` alone calls
 // this, and proves that the part is sound and has none.
+#![tactic(auto)]
+
 ghost use Rattle.std.specs.Prelude.{◌≡◌, drop};
 ghost use Rattle.part.specs.Trusted.Sound.{Sound};
 ghost use Rattle.part.specs.Trusted.Ways.{fastest};

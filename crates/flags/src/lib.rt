@@ -1,4 +1,6 @@
 // Flags packed into words of 64: flag n is bit n % 64 of word n / 64. A word more for each 64 flags is all that a wider range costs.
+#![tactic(auto)]
+
 ghost use Rattle.std.specs.Prelude.{◌≡◌};
 ghost use Rattle.flags.specs.Flags.{flag_at, raised};
 

@@ -1,4 +1,6 @@
 // The fanins of a gate among its sheet's: how many there are, and which gate one reads.
+#![tactic(auto)]
+
 ghost use Rattle.std.specs.Prelude.{◌≡◌, ◌<◌, ◌≤◌};
 ghost use Rattle.lists.specs.Trusted.Lists.{Every};
 ghost use Rattle.sheet.specs.Trusted.Limits.{most_gates};

@@ -1,4 +1,6 @@
 // The gates of a sheet, joined under their drawn numbers (02, #104).
+#![tactic(auto)]
+
 ghost use Rattle.std.specs.Prelude.{◌≡◌, [], ◌+◌, ◌≤◌, ◌<◌};
 ghost use Rattle.tree.specs.Trusted.Limits.{most_fanins};
 ghost use Rattle.sheet.specs.Trusted.Answers.{drawn_sheet};

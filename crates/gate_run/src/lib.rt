@@ -1,4 +1,6 @@
 // The run of a gate's plan on pending tables.
+#![tactic(auto)]
+
 ghost use Rattle.std.specs.Prelude.{◌≡◌, ◌+◌, ◌<◌, ◌≤◌};
 ghost use Rattle.mapper_laws.specs.CodeRun.{pushed, placed_if, operand_at, replaced, held_if, joined, Joins, Holds, Advances, Advanced, Runnable, Ran};
 

@@ -39,7 +39,7 @@ place_leaves k n i = by_joins (λ t fs. leaves* fs ≡ leaves t) k n i (λ t u. 
 from_leaves : (k : Kind) (n : ℕ) (es : Edges) → leaves* (joined_from k n es) ≡ leaves* es
 from_leaves k n none = refl
 from_leaves k n (edge i t es) =
-    then_leaves (in_place k _ i t) _ ∙ ap₂ ◌++◌ (place_leaves k _ i t) (from_leaves k _ es)
+    then_leaves (in_place k _ i t) _ ∙ ap₂ ◌++◌ (place_leaves k _ i t) (from_leaves k (n + edge_count (in_place k (n + edge_count es) i t)) es)
 
 mutual
   -- THE SAME LEAVES, IN THE SAME ORDER
@@ -115,7 +115,7 @@ module _ (σ : ℕ → Bool) where
   from_values : (k : Kind) (n : ℕ) (es : Edges) → values (joined_from k n es) k σ ≡ values es k σ
   from_values k n none = refl
   from_values k n (edge i t es) =
-      then_values k (in_place k _ i t) _ ∙ ap₂ (meet k) (place_values k _ i t) (from_values k _ es)
+      then_values k (in_place k _ i t) _ ∙ ap₂ (meet k) (place_values k _ i t) (from_values k (n + edge_count (in_place k (n + edge_count es) i t)) es)
 
   mutual
     -- THE SAME VALUE
@@ -182,7 +182,7 @@ from_proper : (k : Kind) (n : ℕ) (es : Edges) → T (propers es) → T (proper
 from_proper k n none p = tt
 from_proper k n (edge i t es) p =
     let q = and_split (proper t) (propers es) p in
-    then_proper (in_place k _ i t) _ (place_proper k _ i t q.0) (from_proper k _ es q.1)
+    then_proper (in_place k _ i t) _ (place_proper k _ i t q.0) (from_proper k (n + edge_count (in_place k (n + edge_count es) i t)) es q.1)
 
 below_count : (es : Edges) → edge_count (joined_below es) ≡ edge_count es
 below_count none = refl
@@ -221,7 +221,7 @@ place_narrow k n i =
 
 from_narrow : (k : Kind) (n : ℕ) (es : Edges) → NarrowFanins es → NarrowFanins (joined_from k n es)
 from_narrow k n none p = tt
-from_narrow k n (edge i t es) p = then_narrow (in_place k _ i t) _ (place_narrow k _ i t p.0) (from_narrow k _ es p.1)
+from_narrow k n (edge i t es) p = then_narrow (in_place k _ i t) _ (place_narrow k _ i t p.0) (from_narrow k (n + edge_count (in_place k (n + edge_count es) i t)) es p.1)
 
 place_room : (k : Kind) (n : ℕ) (i : Bool) (t : Node) → n + 1 ≤ most_fanins → n + edge_count (in_place k n i t) ≤ most_fanins
 place_room k n i t r =

@@ -9,9 +9,9 @@ use Rattle.lists.specs.ListLaws.{inserted_left, permuted_refl, permuted_sym, per
 use Rattle.lists.specs.MixLaws.{paired_insert, paired_split, mix_append}
 use Rattle.tree.specs.declared.Kind.{Kind}
 use Rattle.tree.specs.declared.Kind.TheVariants.{And as and}
-use Rattle.tree.specs.Trusted.Tree.{Node, leaf, gate, Edges, none, edge, turned}
-use Rattle.cover.specs.Trusted.Cover.{Cover, top, Fanins, end, old, new, pick, arity, frontier, tables, tables*, width, widths, Fits, Fits*, SplitOf, split, Matched, done, match, Rooted, rooted, CoverOf, Least}
-use Rattle.joined.specs.Trusted.Joined.{turned_over, ◌then◌, joined_from, joined_tree, joined_below}
+use Rattle.tree.specs.Trusted.Tree.{Node, leaf, gate, Edges, none, edge, turned, edge_count}
+use Rattle.cover.specs.Trusted.Cover.{Cover, top, Fanins, end, old, new, pick, arity, frontier, tables, tables*, width, widths, Fits, Fits*, SplitOf, split, Matched, done, match, Rooted, rooted, CoverOf, Least, net}
+use Rattle.joined.specs.Trusted.Joined.{turned_over, ◌then◌, joined_from, joined_tree, joined_below, in_place}
 use Rattle.joined.specs.JoinedLaws.{by_joins}
 
 -- ---- matched fanins
@@ -145,6 +145,7 @@ module _ (K : ℕ) where
 
   -- the lower gate's fanins, as those of a new gate; what is counted does not depend on the kinds, so whether the edge is chained is not asked
   gate_redrawn : (i : Bool) (j : Kind) (es : Edges) → Redrawn i (gate j es) (turned_over i es)
+  gate_redrawn i j es (net _) x'' = elim x'' [ ]
   gate_redrawn i j es (top m _ fs) (split d) =
       let r = redrawn (turned_redrawn i es) fs d in
       (_, by_new (gate_kept m j r.2), r.1)
@@ -152,10 +153,11 @@ module _ (K : ℕ) where
   from_redrawn : (k : Kind) (n : ℕ) (es : Edges) → RedrawnEdges es (joined_from k n es)
   from_redrawn k n none = no_edge
   from_redrawn k n (edge i t es) =
-      one_edge (by_joins (Redrawn i) k _ i (λ t u. by_edge i (itself t)) (λ j es c l. gate_redrawn i j es) t) (from_redrawn k _ es)
+      one_edge (by_joins (Redrawn i) k _ i (λ t u. by_edge i (itself t)) (λ j es c l. gate_redrawn i j es) t) (from_redrawn k (n + edge_count (in_place k (n + edge_count es) i t)) es)
 
   mutual
     joined_no_worse : (t : Node) → NoWorse t (joined_tree t)
+    joined_no_worse (gate k es) (net _) s = elim s [ ]
     joined_no_worse (leaf n) c s = itself (leaf n) c s
     joined_no_worse (gate k es) (top m _ fs) (split d) =
         let r = redrawn (below_redrawn es) fs d in

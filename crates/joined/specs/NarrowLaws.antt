@@ -1,5 +1,5 @@
 -- Each gate of a sheet's joined tree has at most 10 fanins.
-use Rattle.std.specs.Prelude.{ℕ, zero, suc, ◌-◌, List, [], ◌∷◌, length, get_or}
+use Rattle.std.specs.Prelude.{ℕ, zero, suc, ◌-◌, List, [], ◌∷◌, ◌++◌, length, get_or}
 use Rattle.std.proofs.Common.{arith}
 use Rattle.lists.specs.Trusted.Lists.{Every}
 use Rattle.lists.specs.ListLaws.{every_none, every_cons, every_head, every_tail, every_append}
@@ -31,7 +31,7 @@ edges_narrow ts (f ∷ fs) h = (node f.source, edges_narrow ts fs h)
 trees_narrow : (ts : List Node) (gs : List DrawnGate) → Every FaninCount gs → Every Narrow ts → Every Narrow (trees_of ts gs)
 trees_narrow ts [] c h = h
 trees_narrow ts (g ∷ gs) c h =
-    trees_narrow _ gs (every_tail c)
+    trees_narrow (ts ++ (Node.gate g.kind (edges_of ts g.fanins) ∷ [])) gs (every_tail c)
     (every_append ts _ h (every_cons (omega (arith, (every_head c).1, edges_count ts g.fanins), edges_narrow ts g.fanins h) (every_none _)))
 
 pub sheet_narrow : (s : DrawnSheet) → WellFormed s → Narrow (joined_tree (tree_of s))

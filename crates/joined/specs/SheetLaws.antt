@@ -25,7 +25,7 @@ use Rattle.sheet.specs.ValueLaws.{sheet_value_lem}
 use Rattle.joined.specs.Trusted.Joined.{joined_tree}
 use Rattle.joined.specs.Trusted.Covered.{covered}
 use Rattle.joined.specs.Settled.{Settled}
-use Rattle.joined.specs.JoinedSheet.{gate_at, joined_gates, gone_gates, stay, staying, new_number, new_source, new_fanin, new_gate, staying_gates, joined_sheet}
+use Rattle.joined.specs.JoinedSheet.{gate_at, joined_gates, gone_gates, stay, staying, new_number, new_source, new_fanin, new_gate, staying_gates, joined_sheet, joined_gate}
 use Rattle.joined.specs.JoinedLaws.{joined_value}
 use Rattle.joined.specs.SettledLaws.{joined_settled}
 use Rattle.joined.specs.NumberingLaws.{from_below, from_last, Stays, not_gone, stay_one, staying_every, staying_length, staying_rest, staying_last, number_up, number_same, number_positive, numbers_rise, number_at, numbered_anew}
@@ -67,7 +67,7 @@ gather_itself (x ∷ xs) = ap (◌∷◌ x) (gather_itself xs)
 
 pub joined_length : (ds gs : List DrawnGate) → length (joined_gates ds gs) ≡ length gs
 joined_length ds [] = refl
-joined_length ds (g ∷ gs) = ap suc (joined_length _ gs)
+joined_length ds (g ∷ gs) = ap suc (joined_length (ds ++ joined_gate ds g ∷ []) gs)
 
 -- what gates bring, by their numbers
 in_order : {A : Type 0} (f : DrawnGate → List A) (ds gs all : List DrawnGate) → ds ++ gs ≡ all →
@@ -80,15 +80,15 @@ in_order f ds (x ∷ gs) all e =
     (in_order f (ds ++ (x ∷ [])) gs all (append_assoc ds (x ∷ []) gs ∙ e) ∙ ap (λ n. gather (λ g. f (gate_at all g)) (from (suc n) (length gs))) size)
 
 -- trees of which each is its gate's are the gates' trees
-trees_are : (us : List Node) {vs : List Node} {gs : List DrawnGate} (all : List Node) → us ++ vs ≡ all → Earlier (suc (length us)) gs →
+trees_are : (all us : List Node) {vs : List Node} {gs : List DrawnGate} → us ++ vs ≡ all → Earlier (suc (length us)) gs →
     Paired (λ v g. v ≡ tree_for all g) vs gs → trees_of us gs ≡ all
-trees_are us all e h no_pair = sym (append-nil us) ∙ e
-trees_are us all e h (pair {x = v} {y = g} {xs = vs} {ys = gs} p ps) =
+trees_are all us e h no_pair = sym (append-nil us) ∙ e
+trees_are all us e h (pair {x = v} {y = g} {xs = vs} {ys = gs} p ps) =
     let same : tree_for us g ≡ v =
     ap (Node.gate g.kind) (edges_same us all g.fanins (λ j m. let b = h.0 j m in sym (get_or-append us (v ∷ vs) (leaf 0) (j - 1) (omega arith)) ∙ ap (λ l. tree_at l j) e)) ∙ sym p in
     let size : suc (length us) ≡ length (us ++ (v ∷ [])) = omega (arith, length-append us (v ∷ [])) in
     ap (λ t. trees_of (us ++ (t ∷ [])) gs) same
-    ∙ trees_are (us ++ (v ∷ [])) all (append_assoc us (v ∷ []) vs ∙ e) (subst (λ n. Earlier (suc n) gs) size h.1) ps
+    ∙ trees_are all (us ++ (v ∷ [])) (append_assoc us (v ∷ []) vs ∙ e) (subst (λ n. Earlier (suc n) gs) size h.1) ps
 
 -- ---- gates with new numbers
 
@@ -255,7 +255,7 @@ module _ (gs : List DrawnGate) (some : 1 ≤ length gs) (earlier : Earlier 1 gs)
 
   kept_trees : trees_of [] (staying_gates gone joined) ≡ vs
   kept_trees =
-      trees_are [] vs refl kept_earlier
+      trees_are vs [] refl kept_earlier
       (paired_map (λ v g. v ≡ tree_for vs g) (tree_at us) (new gone joined) kept
       (λ g m. (stands g m).tree ∙ ap (Node.gate (gate_at joined g).kind) (new_edges gone us vs (gate_at joined g).fanins
       (λ j n. let k = kept_in g m in let r = reads_stay g m j n in new_at j r.0.0 (omega arith) r.1))))

@@ -1,4 +1,6 @@
 // Mapping a sheet with its chained gates joined to the fewest levels.
+#![tactic(auto)]
+
 ghost use Rattle.sheet.specs.Trusted.Answers.{drawn_sheet};
 ghost use Rattle.sheet.specs.Trusted.Formed.{WellFormed};
 ghost use Rattle.mapper_laws.specs.CodeMap.{Sheetable};

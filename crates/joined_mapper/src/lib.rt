@@ -1,4 +1,6 @@
 // Mapping a sheet with its chained gates joined.
+#![tactic(auto)]
+
 ghost use Rattle.mapper_laws.specs.CodeMap.{Sheetable};
 ghost use Rattle.joined_mapper.specs.JoinedMap.{JoinedMapped};
 

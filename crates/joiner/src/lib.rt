@@ -1,4 +1,6 @@
 // Joining the chained gates of a sheet that was read (02, #104): the joined gates that stay, written into a sheet and numbered anew.
+#![tactic(auto)]
+
 ghost use Rattle.std.specs.Prelude.{◌≡◌};
 ghost use Rattle.sheet.specs.Trusted.Answers.{drawn_sheet};
 ghost use Rattle.sheet.specs.Trusted.Formed.{WellFormed};

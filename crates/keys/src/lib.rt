@@ -1,4 +1,6 @@
 // What the search does with keys: the join of two, which operands it places, the order, and the most leaves.
+#![tactic(auto)]
+
 ghost use Rattle.std.specs.Prelude.{◌≡◌, true, false, min, ◌<◌};
 ghost use Rattle.plan.specs.Key.{join as join_of, cuts, ◌≼◌};
 ghost use Rattle.plan.specs.Volume.{volume as volumeOf};

@@ -8,7 +8,7 @@ use Rattle.std.proofs.Math.Logic.{⊎_elim, by_cases}
 use Rattle.std.proofs.Math.ListN.{get_or}
 use Rattle.std.proofs.lemmas.List.{length-map}
 use Rattle.std.proofs.Math.Pow.{pow-lt}
-use Rattle.lists.specs.Trusted.Lists.{here, Permuted, more}
+use Rattle.lists.specs.Trusted.Lists.{here, Permuted, more, there}
 use Rattle.lists.specs.Sequences.{Mix, left, right, upto}
 use Rattle.lists.specs.ListLaws.{permuted_refl, permuted_sym, permuted_trans, permuted_length, map_at}
 use Rattle.lists.specs.NumberLaws.{upto_length, upto_at}
@@ -23,6 +23,7 @@ use Rattle.level_arrays.specs.Alike.{Label, no_label, MasksAlike, RowsAlike, Own
 use Rattle.level_arrays.specs.declared.Fans.{Fans}
 
 permuted_one : {A : Type 0} {x y : A} → Permuted (x ∷ []) (y ∷ []) → x ≡ y
+permuted_one (more (there h) p) = elim h [ ]
 permuted_one (more here p) = refl
 
 -- a cell has one entry

@@ -1,5 +1,7 @@
 // The arrays of the search for the fewest levels: the types, what its functions promise, and the laws that they rest on. The code is in
 // `level_rows`, `level_lines` and `level_plans`.
+#![tactic(auto)]
+
 use plan::Plan;
 
 // Where a group of fanins cannot give so many inputs: no count of tables below is so large.
@@ -20,14 +22,14 @@ pub const ARRAYS_ROOM: usize = 90112;
 pub const STORE_ROOM: usize = 391680;
 
 // A row, by number of inputs.
-#[derive(Drop)]
+#[derive(Clone, Copy)]
 pub struct LevelRow {
     pub at: [u8; ROW_ROOM],
 }
 
 // The fanins of a gate, of which there are `count`: the greatest level of the nets under each, and how many lines the gate that it
 // reads has, 0 where it reads a net, and that gate's number, counted from 0.
-#[derive(Drop)]
+#[derive(Clone, Copy)]
 pub struct Fans {
     pub count: u8,
     pub levels: [u16; 10],
@@ -36,7 +38,7 @@ pub struct Fans {
 }
 
 // A gate's plan, and what each fanin is to give: inputs of a level within a bound, and so many at most.
-#[derive(Drop)]
+#[derive(Clone, Copy)]
 pub struct Draft {
     pub plan: Plan,
     pub bounds: [u16; 10],

@@ -1,4 +1,6 @@
 // The fanins of a gate in the search for the fewest levels: gathered from the sheet, and what a draft asks of the gates that they read.
+#![tactic(auto)]
+
 ghost use Rattle.std.specs.Prelude.{◌≡◌, ◌<◌, ◌≤◌, length};
 ghost use Rattle.sheet.specs.Trusted.Answers.{drawn_gate};
 ghost use Rattle.level_arrays.specs.Arrays.{GreatestFan};

@@ -1,4 +1,6 @@
 // The lines of a gate: what it can give at each bound on the level, from the greatest level of its nets on, as far as this changes.
+#![tactic(auto)]
+
 ghost use Rattle.std.specs.Prelude.{◌≡◌, true, ℕ, ◌+◌, ◌-◌, ◌*◌, ◌<◌, ◌≤◌, get_or, length};
 ghost use Rattle.plan.specs.Limits.{masks};
 ghost use Rattle.level_arrays.specs.Arrays.{big, FansGood, GreatestFan, fan_row, line_at, LinesKept};

@@ -1,5 +1,7 @@
 // Mapping a sheet to the fewest levels, and among those to the fewest tables: the lines of every gate, then a plan for each, from the last gate on, and the run of the
 // plans.
+#![tactic(auto)]
+
 ghost use Rattle.mapper_laws.specs.CodeMap.{Sheetable};
 ghost use Rattle.level_sheets.specs.Lined.{net_level};
 ghost use Rattle.level_mapping.specs.FastMapping.{NetsLow, LinesFound, LineRooms, PlansChosen, FastMapped};

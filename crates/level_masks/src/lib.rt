@@ -1,4 +1,6 @@
 // For each mask of a gate's fanins an alike one, itself or a smaller one: nets of one level are alike.
+#![tactic(auto)]
+
 ghost use Rattle.std.specs.Prelude.{◌≡◌, ◌^◌, ◌<◌, ◌≤◌, length};
 ghost use Rattle.plan.specs.Limits.{masks};
 ghost use Rattle.level_arrays.specs.Alike.{fan_labels, LikeMasks};

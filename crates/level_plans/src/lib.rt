@@ -1,5 +1,7 @@
 // The plan of a gate that is to give so many inputs of a level within a bound: read back from the arrays of the search, with what each of its fanins is to
 // give.
+#![tactic(auto)]
+
 ghost use Rattle.std.specs.Prelude.{◌≡◌, ◌^◌, ◌≤◌, ◌<◌, get_or, length};
 ghost use Rattle.plan.specs.Limits.{masks, most_steps};
 ghost use Rattle.plan.specs.Entries.{OneBit};
@@ -60,7 +62,7 @@ fn split_inputs(w: usize, e: u16, arrays: &[u8; ARRAYS_ROOM], x: usize, y: usize
 }
 
 // How a mask's entry is made: the submask that is one operand, and the inputs that the other one, the rest, gives at most.
-#[derive(Drop)]
+#[derive(Clone, Copy)]
 struct Halves {
     sub: usize,
     inputs: usize,
@@ -85,7 +87,7 @@ fn halves_of(top: usize, r: usize, w: usize, arrays: &[u8; ARRAYS_ROOM], at: usi
 }
 
 // From where an operand is read back: the number of an array and of inputs, and whether it is placed.
-#[derive(Drop)]
+#[derive(Clone, Copy)]
 struct Seek {
     slot: usize,
     inputs: usize,

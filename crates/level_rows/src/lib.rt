@@ -1,5 +1,7 @@
 // The array of the search for the fewest levels at one bound: for each set of a gate's fanins a row, which has for each number of inputs the fewest
 // tables below.
+#![tactic(auto)]
+
 ghost use Rattle.std.specs.Prelude.{◌≡◌, ℕ, ◌+◌, ◌*◌, ◌^◌, ◌<◌, ◌≤◌, get_or, length};
 ghost use Rattle.plan.specs.Limits.{masks};
 ghost use Rattle.level_arrays.specs.Arrays.{big, Searchable, ArrayFilled, own_above};

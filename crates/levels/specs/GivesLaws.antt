@@ -5,7 +5,7 @@ use Rattle.std.proofs.Common.{add-suc, arith, length-append}
 use Rattle.std.proofs.Math.Decide.{dec_lt}
 use Rattle.std.proofs.Math.Logic.{by_cases}
 use Rattle.lists.specs.Cases.{and_split}
-use Rattle.lists.specs.Trusted.Lists.{Every, Permuted, empty, more, here}
+use Rattle.lists.specs.Trusted.Lists.{Every, Permuted, empty, more, here, there}
 use Rattle.lists.specs.Sequences.{Mix, neither, left, right}
 use Rattle.lists.specs.ListLaws.{every_none, every_cons, every_head, every_tail, every_append, every_left, every_right}
 use Rattle.lists.specs.NumberLaws.{sum_mix}
@@ -42,6 +42,10 @@ size_fanins (edge i t es) = simp length-append (omega (arith, size_fanins es))
 
 module _ {K : ℕ} {lev : ℕ → ℕ} where
   pub gives_permuted : {xs ys : List (Bool × Node)} {ℓ w c : ℕ} → Gives K lev xs ℓ w c → Permuted ys xs → Gives K lev ys ℓ w c
+  gives_permuted (net h) (more here (more k _)) = elim k [ ]
+  gives_permuted (net h) (more (there k) _) = elim k [ ]
+  gives_permuted (drawn g) (more here (more k _)) = elim k [ ]
+  gives_permuted (drawn g) (more (there k) _) = elim k [ ]
   gives_permuted (net h) (more here empty) = net h
   gives_permuted (drawn g) (more here empty) = drawn g
   gives_permuted (both m g h f) p = let q = mix_permuted p m in both q.4 (gives_permuted g q.2) (gives_permuted h q.3) f

@@ -3,7 +3,7 @@
 use Rattle.std.specs.Prelude.{ℕ, zero, suc, ◌+◌, ◌≤◌, min, ◌≡◌, refl, ◌⊎◌, Bool, List, [], ◌∷◌, length}
 use Rattle.std.proofs.Common.{arith, ⊎_elim, length-append}
 use Rattle.lists.specs.Sequences.{Mix}
-use Rattle.lists.specs.Trusted.Lists.{Permuted, empty, more, here}
+use Rattle.lists.specs.Trusted.Lists.{Permuted, empty, more, here, there}
 use Rattle.lists.specs.ListLaws.{permuted_length}
 use Rattle.lists.specs.MixLaws.{mix_append, mix_permuted}
 use Rattle.tree.specs.Trusted.Tree.{Node}
@@ -57,6 +57,8 @@ module _ {K : ℕ} {lev : ℕ → ℕ} where
 
   pub groups_permuted : {from : ℕ} {xs ys : List (Bool × Node)} {ℓ w c : ℕ} → Groups K lev from xs ℓ w c → Permuted ys xs →
       Groups K lev from ys ℓ w c
+  groups_permuted (alone g) (more here (more k _)) = elim k [ ]
+  groups_permuted (alone g) (more (there k) _) = elim k [ ]
   groups_permuted (alone g) (more here empty) = alone g
   groups_permuted (joined m g h f) p = let q = mix_permuted p m in joined q.4 (groups_permuted g q.2) (groups_permuted h q.3) f
   groups_permuted (chosen l g) p = chosen l (groups_permuted g p)

@@ -1,4 +1,6 @@
 // One line of a list, written into a lent buffer that has room for it, and whether it has.
+#![tactic(auto)]
+
 ghost use Rattle.std.specs.Prelude.{◌≡◌, [], ◌∷◌, ◌+◌, ◌*◌, ◌≤◌, leb, length, take};
 ghost use Rattle.decimal.specs.Trusted.Columns.{field_of, fields_of};
 ghost use Rattle.list_line.specs.Trusted.TableLine.{table_line};

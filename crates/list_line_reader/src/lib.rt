@@ -1,4 +1,6 @@
 // One line of a list, read: line 0, and the line of a table. list_layout/specs/Trusted/Layout defines what they say.
+#![tactic(auto)]
+
 ghost use Rattle.std.specs.Prelude.{◌≡◌, map, ◌≤◌, drop};
 ghost use Rattle.decimal.specs.Trusted.Reading.{parsed};
 ghost use Rattle.list_layout.specs.Trusted.Layout.{first_number};

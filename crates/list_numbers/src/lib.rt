@@ -1,4 +1,6 @@
 // What a program in C is handed of a list that was read back: the part as a run of numbers, and the answer as one number.
+#![tactic(auto)]
+
 ghost use Rattle.std.specs.Prelude.{◌≡◌, [], ◌∷◌, ◌+◌, ◌*◌, ◌≤◌, length};
 ghost use Rattle.lists.specs.Trusted.Lists.{gather};
 ghost use Rattle.lists.specs.Trusted.Checked.{passed};

@@ -1,4 +1,6 @@
 // Reading a list back: the part that it was written from, or the first thing wrong with it.
+#![tactic(auto)]
+
 ghost use Rattle.std.specs.Prelude.{◌≡◌, ◌≤◌, length, drop};
 ghost use Rattle.table.specs.Trusted.Limits.{table_room};
 ghost use Rattle.part.specs.Trusted.Answers.{empty as emptyPart};

@@ -1,5 +1,7 @@
 // Reads each file that its arguments name as a list, and prints the name and what comes of it: the list of the part that was read and a
 // line with the levels of its records in use, or one line with minus the number of the refusal, 0 and the line.
+#![tactic(auto)]
+
 ghost use Rattle.std.specs.Prelude.{◌<◌};
 
 use libc::STDOUT_FILENO;

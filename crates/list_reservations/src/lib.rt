@@ -1,6 +1,8 @@
 // Reservations on the text of a list: tables set aside for a sheet, and the reservation closed by a commit or a withdrawal. A list does not
 // show what is reserved, so each function is handed the reservation beside it: the number of tables set aside, and the net that they are for,
 // both 0 where nothing is reserved.
+#![tactic(auto)]
+
 ghost use Rattle.std.specs.Prelude.{◌≡◌};
 ghost use Rattle.part.specs.Trusted.AddAnswers.{adding_answer};
 ghost use Rattle.list_reservations.specs.Trusted.ListReservations.{outcome_code, ReservedOnList, CommittedToList, WithdrawnFromList};

@@ -1,5 +1,7 @@
 // A set of sheets added to the text of a list: the list is read, the set is added to its part, and the new part's list is written. A list
 // does not show what is reserved, so the reservation is handed over beside it.
+#![tactic(auto)]
+
 ghost use Rattle.std.specs.Prelude.{◌≡◌, true, false};
 ghost use Rattle.part.specs.Trusted.Sound.{Sound};
 ghost use Rattle.part.specs.Trusted.AddAnswers.{adding_answer};
@@ -26,7 +28,7 @@ const NUMBER: u64 = 65536;
 const NO_ROOM: u8 = 14;
 
 // Whether a call was accepted, and the code of its refusal, 0 where it has none.
-#[derive(Drop)]
+#[derive(Clone, Copy)]
 pub struct CallOutcome {
     pub accepted: bool,
     pub code: u64,

@@ -1,4 +1,6 @@
 // The list of a part, written into a lent buffer: one line, or the whole list.
+#![tactic(auto)]
+
 ghost use Rattle.std.specs.Prelude.{◌≡◌, ◌+◌, ◌≤◌, length, true};
 ghost use Rattle.part.specs.Trusted.SoundTest.{sound as isSound};
 ghost use Rattle.list_line.specs.Trusted.Writes.{pasted};
@@ -12,7 +14,7 @@ use part::Part;
 const TOP: usize = 19;
 
 // What a write answers: how many bytes were written, or why none was. WriteAnswers in specs/Trusted gives the refusals' numbers.
-#[derive(Drop)]
+#[derive(Clone, Copy)]
 pub enum WriteAnswer {
     Wrote(usize),
     NotSound,
@@ -22,7 +24,7 @@ pub enum WriteAnswer {
 
 // Writes a line of the part's list from the place on: line 0, or the line of a table.
 pub fn write_line(p: Part, line: u32, buf: &mut [u8], at: usize) -> WriteAnswer
-    ensures* { λ r. ⌜ record { result = result_of r; bytes = buf.new } ≡ line_written p line buf.old at ⌝ }
+    ensures { record { result = result_of result; bytes = buf.new } ≡ line_written p line buf.old at }
 {
     if !p.sound() {
         return WriteAnswer::NotSound;
@@ -82,7 +84,7 @@ fn put_tables(buf: &mut [u8], at: usize, p: Part)
 // Writes the list of a sound part from the place on.
 pub fn write_sound_list(p: Part, buf: &mut [u8], at: usize) -> WriteAnswer
     requires { isSound p ≡ true }
-    ensures* { λ r. ⌜ record { result = result_of r; bytes = buf.new } ≡ list_written p buf.old at ⌝ }
+    ensures { record { result = result_of result; bytes = buf.new } ≡ list_written p buf.old at }
 {
     let width = TOP + tables_width(p);
     if !has_room(buf.len(), at, width) {
@@ -95,7 +97,7 @@ pub fn write_sound_list(p: Part, buf: &mut [u8], at: usize) -> WriteAnswer
 
 // Writes the part's list from the place on: every line, after one test of soundness.
 pub fn write_list(p: Part, buf: &mut [u8], at: usize) -> WriteAnswer
-    ensures* { λ r. ⌜ record { result = result_of r; bytes = buf.new } ≡ list_written p buf.old at ⌝ }
+    ensures { record { result = result_of result; bytes = buf.new } ≡ list_written p buf.old at }
 {
     if !p.sound() {
         return WriteAnswer::NotSound;

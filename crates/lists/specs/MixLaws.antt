@@ -83,5 +83,5 @@ module _ {A B : Type 0} {R : A → B → Type 0} where
   pub paired_mix : {xs : List A} {us vs ys : List B} → Mix us vs ys → Paired R xs ys →
       (ws : List A) × (zs : List A) × Mix ws zs xs × Paired R ws us × Paired R zs vs
   paired_mix neither no_pair = ([], [], neither, no_pair, no_pair)
-  paired_mix (left m) (pair h p) = let q = paired_mix m p in (_, q.1, left q.2, pair h q.3, q.4)
-  paired_mix (right m) (pair h p) = let q = paired_mix m p in (q.0, _, right q.2, q.3, pair h q.4)
+  paired_mix (left m) (pair {xs = xs} h p) = let q = paired_mix {xs = xs} m p in (_, q.1, left q.2, pair h q.3, q.4)
+  paired_mix (right m) (pair {xs = xs} h p) = let q = paired_mix {xs = xs} m p in (q.0, _, right q.2, q.3, pair h q.4)

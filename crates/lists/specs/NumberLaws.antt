@@ -134,6 +134,7 @@ is_other_lem : (x y : ℕ) → x ≢ y → is x y ≡ 0
 is_other_lem x y n = by_eqb (λ b. one_if b ≡ 0) x y (λ e. absurd (n e)) (λ n. refl)
 
 in_times : (x : ℕ) (ys : List ℕ) → x ∈ ys → 1 ≤ times x ys
+in_times x [] m = elim m [ ]
 in_times x (y ∷ ys) (first e) = omega (arith, is_same x y e)
 in_times x (y ∷ ys) (later m) = omega (arith, in_times x ys m)
 

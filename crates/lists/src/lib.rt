@@ -1,4 +1,6 @@
 // Laws of lists, of computed tests and of results that can be refused, for every crate above. They are all in specs/: the code is one test.
+#![tactic(auto)]
+
 ghost use Rattle.std.specs.Prelude.{◌≡◌};
 ghost use Rattle.lists.specs.Trusted.Tests.{within as in_range};
 

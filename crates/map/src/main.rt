@@ -1,6 +1,8 @@
 // The mapping program: standard input is a line with K and the capacity, then sheets; it prints the part's list, or one line for the first
 // refusal. What it prints is what `program::print` gives for the bytes read, which are the whole input, or as much of it as decides what is
 // printed.
+#![tactic(auto)]
+
 ghost use Rattle.std.specs.Prelude.{◌≡◌, length};
 ghost use Rattle.io.specs.Counts.{IsPrefixLen};
 ghost use Rattle.program_laws.specs.Front.{front_bytes};
@@ -12,7 +14,7 @@ use program::LONGEST;
 const ROOM: usize = 131072;
 
 // How many bytes were read, and whether a read failed.
-#[derive(Drop)]
+#[derive(Clone, Copy)]
 struct Got {
     count: usize,
     failed: bool,

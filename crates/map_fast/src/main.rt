@@ -1,6 +1,8 @@
 // The mapping program for the fewest levels: standard input is a line with K, the capacity and the wanted level, then sheets; it prints the part's
 // list and after it a line with the slack of each net, or one line for the first refusal. What it prints is what `fast_program::print` gives for
 // the bytes read, which are the whole input, or as much of it as decides what is printed.
+#![tactic(auto)]
+
 ghost use Rattle.std.specs.Prelude.{◌≡◌, length};
 ghost use Rattle.io.specs.Counts.{IsPrefixLen};
 ghost use Rattle.program_laws.specs.Front.{front_bytes};
@@ -12,7 +14,7 @@ use libc::{STDERR_FILENO, STDIN_FILENO, STDOUT_FILENO};
 const ROOM: usize = 131072;
 
 // How many bytes were read, and whether a read failed.
-#[derive(Drop)]
+#[derive(Clone, Copy)]
 struct Got {
     count: usize,
     failed: bool,

@@ -1,5 +1,7 @@
 // Runs the mapping program for the fewest levels on each file that its arguments name, and prints the name and what the program prints. Of each
 // file only one output is right.
+#![tactic(auto)]
+
 use fast_program::LONGEST_FAST;
 use libc::STDOUT_FILENO;
 

@@ -1,5 +1,7 @@
 // Runs the mapping program on each file that its arguments name, and prints the name and what the program prints. Of a file whose name
 // begins with "+" only the first line, K, capacity and used count: its list is long, or its covers are free.
+#![tactic(auto)]
+
 use libc::STDOUT_FILENO;
 use program::LONGEST;
 

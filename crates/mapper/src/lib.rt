@@ -1,4 +1,6 @@
 // Mapping a sheet to lookup tables, gate by gate.
+#![tactic(auto)]
+
 ghost use Rattle.std.specs.Prelude.{◌≡◌, ◌+◌, ◌<◌, ◌≤◌, length};
 ghost use Rattle.mapper_laws.specs.CodeMap.{most_tables, Staged, Sheetable, SheetMapped, flipped, driving, rooted};
 ghost use Rattle.pending.specs.Merging.{Tabled};

@@ -48,7 +48,7 @@ paired_length (pair r p) = ap suc (paired_length p)
 
 pub trees_end : (ts : List Node) (gs : List DrawnGate) (g : DrawnGate) → trees_of ts (gs ++ (g ∷ [])) ≡ trees_of ts gs ++ (gate g.kind (edges_of (trees_of ts gs) g.fanins) ∷ [])
 trees_end ts [] g = refl
-trees_end ts (x ∷ gs) g = trees_end _ gs g
+trees_end ts (x ∷ gs) g = trees_end (ts ++ gate x.kind (edges_of ts x.fanins) ∷ []) gs g
 
 -- the gates that some fanins read were mapped
 abbrev AreMapped : List GatesMapped → List ℕ → Type 0

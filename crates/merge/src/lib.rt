@@ -1,4 +1,6 @@
 // Tables that are not placed yet: that of one code, that of two merged by a gate, and that of the other value.
+#![tactic(auto)]
+
 ghost use Rattle.std.specs.Prelude.{◌≡◌, ◌+◌, ◌<◌, ◌≤◌, take, ◌++◌};
 ghost use Rattle.lists.specs.Trusted.Lists.{insert as insertOf, sorted};
 ghost use Rattle.pending.specs.Luts.{lut_of};

@@ -47,6 +47,7 @@ module _ (ts us : List Node) {c : ℕ} (more : OneMore (tree_at ts c) (tree_at u
       subst (λ t. OneMore* (edge b (tree_at ts g) (edges_of ts fs)) (edge b t (edges_of us fs))) (every_head e) (further (rest _ i (every_tail e)))
 
   reader_edges : (fs : List Fanin) {js : List ℕ} → Inserted c (fanin_gates fs) js → Same ts us js → OneMore* (edges_of ts fs) (edges_of us fs)
+  reader_edges [] {js = js} i e = elim i [ ]
   reader_edges (f ∷ fs) i e = fanin_edges f.inverted f.source fs i e (λ js j h. reader_edges fs j h)
 
 -- ---- one tree more
@@ -148,7 +149,7 @@ module _ {n : ℕ} where
       by_eqb (λ b. OneMore (tree_at ts n) (tree_at us n)) c n (λ e. subst (λ j. OneMore (tree_at ts j) (tree_at us j)) e g.more) (λ d. absurd (Memᴰ.not-nil (g.read d)))
   grown_root ts us m c (x ∷ gs) l g =
       by_reflects (λ b. OneMore (tree_at (trees_of ts (x ∷ gs)) n) (tree_at (trees_of us (x ∷ gs)) n)) (reflects_elem c (fanin_gates x.fanins))
-      (λ r. grown_root _ _ (suc m) (suc m) gs (left_next l) (by_reader l g r))
+      (λ r. grown_root (ts ++ tree_for ts x ∷ []) _ (suc m) (suc m) gs (left_next l) (by_reader l g r))
       (λ r. grown_root _ _ (suc m) c gs (left_next l) (by_other l g (λ j k e. r (subst (λ i. i ∈ fanin_gates x.fanins) (sym e) k))))
 
   module _ {i : Bool} {a : ℕ} where

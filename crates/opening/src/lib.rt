@@ -1,4 +1,6 @@
 // The opening line of an input: K and the capacity in two fields, and the part that they open.
+#![tactic(auto)]
+
 ghost use Rattle.std.specs.Prelude.{◌≡◌};
 ghost use Rattle.std.proofs.Math.Option.{none};
 ghost use Rattle.part.specs.Trusted.Add.{opened};
@@ -13,14 +15,14 @@ use part::{Opening, Part};
 pub const OPENING: usize = 13;
 
 // A refusal's number and place; the number 0 stands for acceptance.
-#[derive(Drop)]
+#[derive(Clone, Copy)]
 pub struct Told {
     pub number: u8,
     pub line: u16,
 }
 
 // The part that the opening line gives.
-#[derive(Drop)]
+#[derive(Clone, Copy)]
 pub struct Start {
     pub part: Part,
     pub told: Told,

@@ -1,4 +1,6 @@
 // The mapper, the reader of its lists, and sets and reservations on them, for programs in other languages: `rt staticlib pailinstant` writes the archive.
+#![tactic(auto)]
+
 ghost use Rattle.std.specs.Prelude.{◌≡◌};
 ghost use Rattle.refusals.specs.Trusted.Sentences.{refusal_text, front_write};
 ghost use Rattle.part_records.specs.Trusted.Reservations.{unreserved};

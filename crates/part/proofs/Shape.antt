@@ -22,7 +22,7 @@ each_shaped : (rs : List Table) (us : List Val) → Owned rs us → Every (λ r.
 each_shaped [] us h = every_none _
 each_shaped (r ∷ rs) [] h = absurd h
 each_shaped (r ∷ rs) (u ∷ us) h =
-    every_cons (sym (length-map r.inputs (λ n. n)) ∙ h.0.1.1.1.1.0.1.0.1) (each_shaped rs us h.1)
+    every_cons h.0.1.1.1.1.0.1.0.1 (each_shaped rs us h.1)
 
 pub shaped : (p : Part) (us : List Val) → length (map the_field.into p.tables) ≡ table_room → Owned p.tables us → Shaped p
 shaped p us l h = record { records = sym (length-map p.tables the_field.into) ∙ l; inputs = each_shaped p.tables us h }

@@ -1,4 +1,6 @@
 // Parts of the row module: a device that holds lookup tables.
+#![tactic(auto)]
+
 mod add;
 mod reserve;
 mod set;
@@ -15,7 +17,7 @@ use sheet::Refusal;
 use table::{CODE_ROOM, INPUT_ROOM, TABLE_ROOM, Table, blank};
 
 // A part of the row module: the most inputs of a table, how many tables it can hold, how many it holds, what is reserved, and the tables.
-#[derive(Drop)]
+#[derive(Clone, Copy)]
 pub struct Part {
     pub k: u8,
     pub capacity: u16,
@@ -25,7 +27,7 @@ pub struct Part {
 }
 
 // What an opening answers. OpenAnswers in specs/Trusted gives the refusals' numbers.
-#[derive(Drop)]
+#[derive(Clone, Copy)]
 pub enum Opening {
     Accepted,
     KOutOfRange,
@@ -33,14 +35,14 @@ pub enum Opening {
 }
 
 // The part that an opening hands back, all zeros where it is refused, and the answer.
-#[derive(Drop)]
+#[derive(Clone, Copy)]
 pub struct Opened {
     pub part: Part,
     pub answer: Opening,
 }
 
 // What an add answers, and a reservation, a commit and a withdrawal. AddAnswers in specs/Trusted gives the refusals' numbers and places.
-#[derive(Drop)]
+#[derive(Clone, Copy)]
 pub enum Adding {
     Accepted,
     Unsound,
@@ -53,7 +55,7 @@ pub enum Adding {
 }
 
 // The part that such a call hands back, the one it got where it is refused, and the answer.
-#[derive(Drop)]
+#[derive(Clone, Copy)]
 pub struct Added {
     pub part: Part,
     pub answer: Adding,
@@ -61,7 +63,7 @@ pub struct Added {
 
 // What adding a set of sheets answers: of a sheet that is refused why, and its position in the set, from 1. SetAnswers in specs/Trusted
 // gives the refusals' numbers, places and positions.
-#[derive(Drop)]
+#[derive(Clone, Copy)]
 pub enum SetAdding {
     Accepted,
     Unsound,
@@ -70,7 +72,7 @@ pub enum SetAdding {
 }
 
 // The part that adding a set hands back, the one it got where it is refused, and the answer.
-#[derive(Drop)]
+#[derive(Clone, Copy)]
 pub struct SetAdded {
     pub part: Part,
     pub answer: SetAdding,

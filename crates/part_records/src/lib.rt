@@ -1,4 +1,6 @@
 // The records of a part: the test of its soundness and of what it may have reserved, and what its tables do with a net.
+#![tactic(auto)]
+
 ghost use Rattle.std.specs.Prelude.{◌≡◌, [], map, true, ◌&&◌, ◌-◌, ◌≤◌, ◌<◌, leb, take, drop};
 ghost use Rattle.lists.specs.Trusted.Tests.{all};
 ghost use Rattle.table.specs.Trusted.Limits.{table_room};
@@ -57,7 +59,7 @@ fn rest_blank(used: u16, tables: [Table; 800]) -> bool
 }
 
 // Tables set aside: how many, and the output net that they are for, both zero when nothing is reserved.
-#[derive(Drop)]
+#[derive(Clone, Copy)]
 pub struct Reservation {
     pub count: u16,
     pub net: u16,
@@ -112,7 +114,7 @@ pub fn sound(
 }
 
 // What tables do with a net: one drives it, one reads it.
-#[derive(Drop)]
+#[derive(Clone, Copy)]
 pub struct Uses {
     pub driven: bool,
     pub read: bool,

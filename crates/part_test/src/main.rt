@@ -27,6 +27,8 @@
 //   21 n                                       add the sheet in a file             prints what step 10 prints
 //                                              that argument n names, by
 //                                              the fewest levels
+#![tactic(auto)]
+
 ghost use Rattle.std.specs.Prelude.{◌≤◌};
 ghost use Rattle.io.specs.Counts.{IsPrefixLen};
 
@@ -47,7 +49,7 @@ const SCRIPT: usize = 131072;
 const LENGTHS: usize = 20;
 
 // The part, and the lengths collected for the next set.
-#[derive(Drop)]
+#[derive(Clone, Copy)]
 struct State {
     part: Part,
     lengths: [u32; 20],

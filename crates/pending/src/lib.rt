@@ -1,9 +1,11 @@
 // Tables that are in no part yet: the types, and the laws of merging two by a gate. The code is in the crates `rows` and `merge`.
+#![tactic(auto)]
+
 ghost use Rattle.std.specs.Prelude.{◌≡◌};
 ghost use Rattle.pending.specs.Luts.{zero_lut};
 
 // A lookup table that is in no part yet, as a record without a level, which it gets where it is placed.
-#[derive(Drop)]
+#[derive(Clone, Copy)]
 pub struct Lut {
     pub net: u16,
     pub count: u8,
@@ -12,7 +14,7 @@ pub struct Lut {
 }
 
 // A table that is not placed yet, and whether what reads it reads it inverted.
-#[derive(Drop)]
+#[derive(Clone, Copy)]
 pub struct Pending {
     pub inverted: bool,
     pub table: Lut,

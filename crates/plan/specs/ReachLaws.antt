@@ -2,7 +2,7 @@
 -- The best key of a tree has inputs.
 use Rattle.std.specs.Prelude.{ℕ, ◌≤◌, ◌≡◌, List, [], ◌∷◌, length}
 use Rattle.std.proofs.Common.{arith}
-use Rattle.lists.specs.Trusted.Lists.{Permuted, empty, more, here}
+use Rattle.lists.specs.Trusted.Lists.{Permuted, empty, more, here, there}
 use Rattle.lists.specs.Sequences.{neither, left, right}
 use Rattle.lists.specs.ListLaws.{every_none, every_cons, every_head, permuted_sym}
 use Rattle.lists.specs.MixLaws.{mix_none, mix_permuted, mix_every}
@@ -15,6 +15,8 @@ use Rattle.plan.specs.Reach.{Reach, one, both, LeastReach, Wide, Best, at_leaf, 
 
 module _ {K : ℕ} where
   pub reach_permuted : {xs ys : List Key} {r : Key} → Reach K xs r → Permuted ys xs → Reach K ys r
+  reach_permuted one (more here (more h _)) = elim h [ ]
+  reach_permuted one (more (there h) _) = elim h [ ]
   reach_permuted one (more here empty) = one
   reach_permuted (both m a b) p = let q = mix_permuted p m in both q.4 (reach_permuted a q.2) (reach_permuted b q.3)
 

@@ -1,4 +1,6 @@
 // Keys of covers and plans for a gate: what the search finds, as types, with the laws that it rests on. The search is the crate `search`.
+#![tactic(auto)]
+
 
 // The inputs of a table.
 pub const LEAST_INPUTS: u8 = 2;
@@ -11,7 +13,7 @@ pub const MASKS: usize = 1024;
 pub const MOST_STEPS: usize = 19;
 
 // What matters of a cover of a tree: the tables below the one that holds the root, and the inputs of that one.
-#[derive(Drop)]
+#[derive(Clone, Copy)]
 pub struct Key {
     pub below: u8,
     pub width: u8,
@@ -19,20 +21,20 @@ pub struct Key {
 
 // A step of a plan: take the fanin with that number, counted from 0; or join the two operands taken or joined last, the
 // first and the second of them placed in a table of its own where its flag says so.
-#[derive(Drop)]
+#[derive(Clone, Copy)]
 pub enum Token {
     Push(u8),
     Join(bool, bool),
 }
 
 // A token in a struct of its own, for an array.
-#[derive(Drop)]
+#[derive(Clone, Copy)]
 pub struct PlanStep {
     pub token: Token,
 }
 
 // A plan for a gate, or none where ok is false: the key that it gives, and its first len steps.
-#[derive(Drop)]
+#[derive(Clone, Copy)]
 pub struct Plan {
     pub ok: bool,
     pub key: Key,
@@ -41,7 +43,7 @@ pub struct Plan {
 }
 
 // Which operands of a join are placed.
-#[derive(Drop)]
+#[derive(Clone, Copy)]
 pub struct Cuts {
     pub left: bool,
     pub right: bool,

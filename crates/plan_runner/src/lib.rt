@@ -1,4 +1,6 @@
 // Mapping a sheet to lookup tables by given plans, one for each gate.
+#![tactic(auto)]
+
 ghost use Rattle.std.specs.Prelude.{ℕ, List};
 ghost use Rattle.levels.specs.Demands.{Demand};
 ghost use Rattle.sheet.specs.Trusted.Answers.{drawn_sheet};

@@ -1,5 +1,7 @@
 // Prints at the front of a buffer: the line of a refusal, or the list of a sound part.
 // `program` alone calls these, and proves what they ask for.
+#![tactic(auto)]
+
 ghost use Rattle.std.specs.Prelude.{◌<◌};
 ghost use Rattle.part.specs.Trusted.Sound.{Sound};
 ghost use Rattle.listing.specs.Trusted.Listing.{list_of};
@@ -15,7 +17,7 @@ const FIELD: usize = 6;
 const REFUSAL: usize = 19;
 
 // How many bytes are printed, or that the buffer is too short for them.
-#[derive(Drop)]
+#[derive(Clone, Copy)]
 pub enum Printed {
     Wrote(usize),
     NoRoom,

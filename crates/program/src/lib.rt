@@ -1,4 +1,6 @@
 // What the mapping program prints for an input: the list of the part that its sheets make, or the line of the first refusal.
+#![tactic(auto)]
+
 ghost use Rattle.program.specs.Promises.{Answered, AtFront};
 
 use opening::OPENING;

@@ -58,7 +58,7 @@ texts_agree {p} {q} (next {text = text} {r = r} h e t) (stop {r = s} i j k o) (c
     absurd (not_refused o (sym (texts_alike p q f g l (sheet_text text).0 r s a b).0 ∙ e))
 texts_agree {p} {q} (next {text = text} {r = r} h e t) (next {r = s} k o u) (call a c) (call b d) f g l =
     let x = texts_alike p q f g l (sheet_text text).0 r s a b in
-    let y = texts_agree t u c d (call_kept p f (add least (sheet_text text).0) r a).shaped (call_kept q g (add least (sheet_text text).0) s b).shaped x.1 in
+    let y = texts_agree {p = r.part} {q = s.part} t u c d (call_kept p f (add least (sheet_text text).0) r a).shaped (call_kept q g (add least (sheet_text text).0) s b).shaped x.1 in
     record { calls = ap (◌∷◌ (add least (sheet_text text).0)) y.calls; same = ap₂ ◌∷◌ x.0 y.same; used = ap₂ ◌∷◌ x.1.used y.used; last = y.last }
 
 -- ---- what the two runs print

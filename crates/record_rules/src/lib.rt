@@ -1,4 +1,6 @@
 // The rules of one record by itself: of each rule a test, equal to the test of that name in table/specs/Trusted/RecordTest.
+#![tactic(auto)]
+
 ghost use Rattle.std.specs.Prelude.{◌≡◌, true, false, ◌^◌, ltb};
 ghost use Rattle.table.specs.Trusted.RecordTest.{is_padded, is_coded, is_sized, is_blank};
 

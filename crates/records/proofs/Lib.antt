@@ -1,2 +1,1 @@
-mod LendPrefix
-mod ByValue
+pub mod RunLaws

@@ -1,2 +1,1 @@
 pub mod RunTest
-pub mod RunLaws

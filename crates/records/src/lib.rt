@@ -1,6 +1,8 @@
 // The rules of a run of records that is lent: a walk that copies each record out and tests it by value.
 // The borrow checker covers no function that has a `&[Table]`, so `first_bad` and `first_bad_of_prefix` are proved by hand. They
 // hold a loop and a call, and no decision: `begin`, `step` and `finish`, which take everything by value and are covered, decide.
+#![tactic(auto)]
+
 ghost use Rattle.std.specs.Prelude.{◌≡◌, ◌≤◌, take};
 ghost use Rattle.table.specs.Trusted.RecordTest.{tested};
 ghost use Rattle.records.specs.RunTest.{begin_of, Steps, step_of, stopped_of, finish_of, verdict_of};
@@ -13,7 +15,7 @@ use table_rules::keeps_points;
 
 // What the test of a run finds: no bad record, the first bad one counted from 1, or that K or the capacity is out of range.
 // RunTest in specs/ gives the refusals' numbers.
-#[derive(Drop)]
+#[derive(Clone, Copy)]
 pub enum Found {
     Nothing,
     At(usize),
@@ -23,7 +25,7 @@ pub enum Found {
 
 // The walk between two records: what is kept of those passed, how many they are, whether another is to be read, whether the last
 // was bad, K and the capacity, the number of a refusal, or 0, and the levels of codes.
-#[derive(Drop)]
+#[derive(Clone, Copy)]
 pub struct Walk {
     pub prefix: Prefix,
     pub at: usize,

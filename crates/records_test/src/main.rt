@@ -2,6 +2,8 @@
 // record, the first bad one counted from 1, or minus the number of a refusal.
 // A file is a line with K and the capacity, then one line for each of at most 16 records: net, input count, six inputs, truth table and
 // level.
+#![tactic(auto)]
+
 use decimal::Field;
 use libc::STDOUT_FILENO;
 use records::Found;

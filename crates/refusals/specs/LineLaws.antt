@@ -2,11 +2,10 @@
 use Rattle.std.specs.Prelude.{ℕ, zero, suc, ◌+◌, ◌-◌, ◌≤◌, ◌<◌, ◌≡◌, refl, Bool, true, false, cond, ◌&&◌, List, [], ◌∷◌, T, ltb, eqb, length, get_or, take, drop}
 use Rattle.std.proofs.Common.{add-one, arith, sym, ap, ap₂, subst, ◌∙◌, drop-cons, eq-eqb, ne_eqb}
 use Rattle.std.proofs.Math.Seq.{take-length}
-use Rattle.bytes.specs.Bytes.{index_of, slice}
 use Rattle.lists.specs.Cases.{by_eqb, by_leb, and_split}
 use Rattle.lists.specs.TestLaws.{reflects_eq, reflects_lt}
 use Rattle.refusals.specs.Trusted.Sentences.{Entry, ◌means◌, sentence_in, bytes_of}
-use Rattle.refusals.specs.Lines.{after_lines, text_line}
+use Rattle.refusals.specs.Lines.{index_of, slice, after_lines, text_line}
 
 -- ---- a text byte by byte
 
@@ -23,7 +22,6 @@ after_other bs n i h z e = ap (after_lines n) (drop-cons bs i 0 h) ∙ rw (add-o
 -- from a line's start to the first line feed from there on
 pub line_part : (text : List ℕ) (n start end : ℕ) → drop start text ≡ after_lines n text → end ≡ start + index_of 10 (slice start (length text) text) →
     take (end - start) (drop start text) ≡ text_line n text
-unfolding slice
 line_part text n start end e f =
     let whole = ap (λ t. index_of 10 (drop start t)) (take-length text) in
     let count : end - start ≡ index_of 10 (drop start text) = omega (arith, f, whole) in
@@ -90,7 +88,6 @@ LinesAre text es k = T (lines_equal text es k) × T (keys_below es k) × (after_
 
 -- so each line is the sentence of its number, and a number that has no line has no sentence
 pub line_is_lem : (text : List ℕ) (es : List Entry) (k n : ℕ) → LinesAre text es k → text_line n text ≡ bytes_of (sentence_in es n)
-unfolding index_of
 line_is_lem text es k n l =
     by_leb (λ c. text_line n text ≡ bytes_of (sentence_in es n)) k n
     (λ le. ap (λ bs. take (index_of 10 bs) bs) (past text k n l.2 le) ∙ sym (ap bytes_of (none_past es k n l.1 le)))

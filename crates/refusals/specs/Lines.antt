@@ -1,7 +1,15 @@
 -- The lines of a text, each ended by a line feed, the byte 10. Internal definitions: the laws are in LineLaws.
-use Rattle.std.specs.Prelude.{ℕ, suc, ◌-◌, cond, List, [], ◌∷◌, ◌++◌, eqb, take, replicate}
-use Rattle.bytes.specs.Bytes.{index_of}
+use Rattle.std.specs.Prelude.{ℕ, suc, ◌-◌, cond, List, [], ◌∷◌, ◌++◌, eqb, take, drop, replicate}
 use Rattle.refusals.specs.Trusted.Sentences.{Entry, ◌means◌, bytes_of}
+
+-- how many bytes stand before the first byte x; all of them, where it is not there
+abbrev pub index_of : ℕ → List ℕ → ℕ
+index_of x [] = 0
+index_of x (b ∷ bs) = cond (eqb b x) 0 (suc (index_of x bs))
+
+-- the bytes from place start up to place end
+abbrev pub slice : ℕ → ℕ → List ℕ → List ℕ
+slice start end bs = drop start (take end bs)
 
 -- the text after its first n lines
 abbrev pub after_lines : ℕ → List ℕ → List ℕ

@@ -1,4 +1,6 @@
 // What each refusal's number means, in plain words.
+#![tactic(auto)]
+
 ghost use Rattle.std.specs.Prelude.{◌≡◌, ◌≤◌, length, drop};
 ghost use Rattle.refusals.specs.Trusted.Sentences.{refusal_text, front_write};
 ghost use Rattle.refusals.specs.Lines.{after_lines, text_line};

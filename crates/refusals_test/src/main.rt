@@ -1,5 +1,7 @@
 // Prints the number of each refusal in six columns, a blank and its sentence: a line for each number below 100 that has one.
 // bin/map takes its words from the file `stdout` here.
+#![tactic(auto)]
+
 use libc::STDOUT_FILENO;
 
 // The number in six columns, and a blank.

@@ -1,4 +1,6 @@
 // Words with a bit for each of 64 rows: a truth table's values in the rows of given inputs, and what a gate makes of them.
+#![tactic(auto)]
+
 ghost use Rattle.std.specs.Prelude.{◌≡◌, ◌-◌, ◌^◌, ◌≤◌, length, take, get_or};
 ghost use Rattle.tree.specs.Trusted.Tree.{turned, meet as meet_of};
 ghost use Rattle.cover.specs.Trusted.Bits.{bit as bit_of, digit as digit_of, place as place_of};

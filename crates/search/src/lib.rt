@@ -1,4 +1,6 @@
 // The search for the fewest tables of one gate, over the sets of its fanins as bit masks, and the plan that it finds.
+#![tactic(auto)]
+
 ghost use Rattle.std.specs.Prelude.{◌≡◌, true, false, ◌≤◌, ◌<◌, ◌^◌, take};
 ghost use Rattle.plan.specs.Key.{join as join_of};
 ghost use Rattle.lists.specs.Trusted.Tests.{all};
@@ -43,7 +45,7 @@ fn join_at<'a>(k: u8, x: usize, y: usize, below: &'a [u8; MASKS], width: &'a [u8
 }
 
 // A key, and the submask by which it was made.
-#[derive(Drop)]
+#[derive(Clone, Copy)]
 struct Choice {
     key: Key,
     sub: u16,

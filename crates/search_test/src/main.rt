@@ -1,6 +1,8 @@
 // Runs the search on the gates of the worked examples, on input that is not good, on gates with the most leaves, and on 200 gates with
 // keys from a fixed generator. For each it prints a line: ok or not, the tables below, the inputs, and the steps of the plan.
 // The expected lines are those of tests/cover/exhaustive.py, which tries every tree.
+#![tactic(auto)]
+
 ghost use Rattle.std.specs.Prelude.{ℕ, ◌+◌, ◌≤◌, ◌<◌, take};
 ghost use Rattle.plan.specs.Entries.{FewLeaves};
 ghost use Rattle.plan.specs.Volume.{fewest_leaves};
@@ -120,7 +122,7 @@ fn next(state: u64) -> u64
 }
 
 // A gate from the generator, and the state after it.
-#[derive(Drop)]
+#[derive(Clone, Copy)]
 struct Drawn {
     state: u64,
     k: u8,

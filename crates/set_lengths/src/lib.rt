@@ -1,4 +1,6 @@
 // The lengths of a set's sheets.
+#![tactic(auto)]
+
 ghost use Rattle.std.specs.Prelude.{◌≡◌, ◌≤◌, length};
 ghost use Rattle.lists.specs.Trusted.Lists.{sum};
 ghost use Rattle.set_lengths.specs.Trusted.Lengths.{is_whole};

@@ -62,7 +62,7 @@ edges_many ts (f ∷ g ∷ fs) l = tt
 trees_proper : (ts : List Node) (gs : List DrawnGate) → Every FaninCount gs → Every (λ t. T (proper t)) ts → Every (λ t. T (proper t)) (trees_of ts gs)
 trees_proper ts [] c h = h
 trees_proper ts (g ∷ gs) c h =
-    trees_proper _ gs (every_tail c)
+    trees_proper (ts ++ (Node.gate g.kind (edges_of ts g.fanins) ∷ [])) gs (every_tail c)
     (every_append ts _ h (every_cons (and_both (many (edges_of ts g.fanins)) _ (edges_many ts g.fanins (every_head c).0) (edges_proper ts g.fanins h)) (every_none _)))
 
 pub tree_proper : (s : DrawnSheet) → WellFormed s → T (proper (tree_of s))
@@ -81,7 +81,7 @@ trees_split ts (g ∷ gs) = trees_split (ts ++ _) gs ∙ append_assoc ts _ _
 
 new_length : (ts : List Node) (gs : List DrawnGate) → length (new_trees ts gs) ≡ length gs
 new_length ts [] = refl
-new_length ts (g ∷ gs) = ap suc (new_length _ gs)
+new_length ts (g ∷ gs) = ap suc (new_length (ts ++ (Node.gate g.kind (edges_of ts g.fanins) ∷ [])) gs)
 
 -- one more at the end
 end_length : (ts : List Node) (t : Node) → length (ts ++ (t ∷ [])) ≡ suc (length ts)
@@ -183,7 +183,7 @@ gate_nets ts g = fanin_nets g.fanins
 
 nets_brought : (ts : List Node) (gs : List DrawnGate) → brought leaves gate_nets (λ us g. edges_leaves us g.fanins) ts gs ≡ leaf_nets gs
 nets_brought ts [] = refl
-nets_brought ts (g ∷ gs) = ap (λ l. fanin_nets g.fanins ++ l) (nets_brought _ gs)
+nets_brought ts (g ∷ gs) = ap (λ l. fanin_nets g.fanins ++ l) (nets_brought (ts ++ (tree_for ts g ∷ [])) gs)
 
 -- THE TREE'S LEAVES ARE THE NETS OF THE SHEET, EACH ONCE
 pub leaves_are : (s : DrawnSheet) → WellFormed s → Permuted (leaf_nets s.gates) (leaves (tree_of s))
@@ -210,7 +210,7 @@ gate_law ts g = subst (λ l. Permuted (gate_trees (tree_for ts g)) (tree_for ts 
 
 gates_brought : (ts : List Node) (gs : List DrawnGate) → brought gate_trees gate_itself gate_law ts gs ≡ new_trees ts gs
 gates_brought ts [] = refl
-gates_brought ts (g ∷ gs) = ap (λ l. tree_for ts g ∷ l) (gates_brought _ gs)
+gates_brought ts (g ∷ gs) = ap (λ l. tree_for ts g ∷ l) (gates_brought (ts ++ (tree_for ts g ∷ [])) gs)
 
 -- THE GATES IN THE TREE ARE THOSE OF THE SHEET, EACH ONCE
 pub gates_are : (s : DrawnSheet) → WellFormed s → Permuted (trees_of [] s.gates) (gate_trees (tree_of s))
@@ -229,7 +229,7 @@ IsGate t = (k : Kind) × (es : Edges) × (t ≡ Node.gate k es)
 
 new_gates_lem : (ts : List Node) (gs : List DrawnGate) → Every IsGate (new_trees ts gs)
 new_gates_lem ts [] = every_none _
-new_gates_lem ts (g ∷ gs) = every_cons (g.kind, edges_of ts g.fanins, refl) (new_gates_lem _ gs)
+new_gates_lem ts (g ∷ gs) = every_cons (g.kind, edges_of ts g.fanins, refl) (new_gates_lem (ts ++ (tree_for ts g ∷ [])) gs)
 
 pub root_gate : (s : DrawnSheet) → WellFormed s → (k : Kind) × (es : Edges) × (tree_of s ≡ Node.gate k es)
 root_gate s w =

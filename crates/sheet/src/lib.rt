@@ -1,4 +1,6 @@
 // Sheets as they are read: one fanout-free tree of gates, with an output net, and why a text is none. The reader is the crate `reader`.
+#![tactic(auto)]
+
 ghost use Rattle.std.specs.Prelude.{◌≡◌};
 ghost use Rattle.sheet.specs.Trusted.Answers.{number_of};
 
@@ -14,21 +16,21 @@ pub const MOST_LEAVES: u16 = 256;
 pub const FANIN_ROOM: usize = MOST_LEAVES as usize + MOST_GATES + 1;
 
 // What a fanin reads: a net, or an earlier gate.
-#[derive(Drop)]
+#[derive(Clone, Copy)]
 pub enum Source {
     Net(u16),
     Gate(u16),
 }
 
 // A fanin: what it reads, and whether inverted.
-#[derive(Drop)]
+#[derive(Clone, Copy)]
 pub struct Edge {
     pub inverted: bool,
     pub source: Source,
 }
 
 // A gate: its kind, how many fanins it has, and the place of the first among the sheet's.
-#[derive(Drop)]
+#[derive(Clone, Copy)]
 pub struct Gate {
     pub kind: Kind,
     pub count: u8,
@@ -37,7 +39,7 @@ pub struct Gate {
 
 // A sheet: its output net, whether the tree's value is inverted, how many gates it has, the gates, and the fanins of all gates, one
 // gate's after the other's. What stands past the counts is of no matter.
-#[derive(Drop)]
+#[derive(Clone, Copy)]
 pub struct Sheet {
     pub out: u16,
     pub inverted: bool,
@@ -47,7 +49,7 @@ pub struct Sheet {
 }
 
 // Why a text is no sheet. Its number in 01 is `number_of` in specs/Trusted/Answers.
-#[derive(Drop)]
+#[derive(Clone, Copy)]
 pub enum Refusal {
     Layout,
     OutputNet,
@@ -82,21 +84,21 @@ pub fn number(why: Refusal) -> u8
 }
 
 // A refusal gives the line, from 1.
-#[derive(Drop)]
+#[derive(Clone, Copy)]
 pub enum ReadAnswer {
     Accepted,
     Refused(Refusal, u16),
 }
 
 // What comes of a text. The sheet of a refused text is zero.
-#[derive(Drop)]
+#[derive(Clone, Copy)]
 pub struct ReadResult {
     pub answer: ReadAnswer,
     pub sheet: Sheet,
 }
 
 // What comes of a text from a place on, and the place after the sheet. The sheet of a refused text is zero, and so is the place.
-#[derive(Drop)]
+#[derive(Clone, Copy)]
 pub struct Next {
     pub answer: ReadAnswer,
     pub end: usize,

@@ -1,4 +1,6 @@
 // One fanin of a gate: what it reads, or why it is refused.
+#![tactic(auto)]
+
 ghost use Rattle.std.specs.Prelude.{◌≡◌, ◌+◌, ◌≤◌, length};
 ghost use Rattle.sheet.specs.Trusted.Read.{source_of};
 ghost use Rattle.sheet.specs.Trusted.Limits.{most_gates, most_leaves};
@@ -13,7 +15,7 @@ use sheet::{MOST_GATES, MOST_LEAVES, Refusal, Source};
 pub const FLAG_WORDS: usize = (tree::CODE_BASE as usize + MOST_GATES) / 64 + 1;
 
 // A fanin: what it reads, or why it is refused.
-#[derive(Drop)]
+#[derive(Clone, Copy)]
 pub enum Fanin {
     Reads(Source),
     Bad(Refusal),

@@ -1,4 +1,6 @@
 // The gates of a sheet: their lines, from the first to the last, and the first gate that is never read.
+#![tactic(auto)]
+
 ghost use Rattle.std.specs.Prelude.{◌≡◌, ◌≤◌, length};
 ghost use Rattle.sheet.specs.Trusted.Answers.{no_fanins};
 ghost use Rattle.sheet_gates.specs.Gates.{GatesRead, UnreadFound};
@@ -11,7 +13,7 @@ use tree::Kind;
 
 // The lines of gates that were read: where they are accepted the gates, their fanins, the place after them, and a flag raised for each
 // number that was a fanin.
-#[derive(Drop)]
+#[derive(Clone, Copy)]
 pub struct Lines {
     pub answer: ReadAnswer,
     pub end: usize,
@@ -107,7 +109,7 @@ pub fn gate_lines(text: &[u8], start: usize, out: u16, count: u8) -> Lines
 }
 
 // The line of the first gate that is never read, the root left aside.
-#[derive(Drop)]
+#[derive(Clone, Copy)]
 pub enum Unread {
     First(u16),
     Nowhere,

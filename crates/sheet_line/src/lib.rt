@@ -1,4 +1,6 @@
 // One line of a sheet: where it ends, its fields, and what line 1 and a gate's line say.
+#![tactic(auto)]
+
 ghost use Rattle.std.specs.Prelude.{◌≡◌, false, not, eqb};
 ghost use Rattle.sheet.specs.Trusted.Read.{counts, head_of, kind_of};
 ghost use Rattle.sheet_line.specs.Inside.{LineEnds, value_of, numbers_of, FieldsRoom, FieldsRead, head_step, kind_step, GateHeadRead, LineRefused, GateLineRead};
@@ -11,7 +13,7 @@ use tree::{FEWEST_FANINS, Kind, MOST_FANINS};
 const MOST_FIELDS: usize = 12;
 
 // Where a line ends: at its line feed, or nowhere.
-#[derive(Drop)]
+#[derive(Clone, Copy)]
 pub enum Ending {
     At(usize),
     Missing,
@@ -33,7 +35,7 @@ pub fn line_end(text: &[u8], start: usize) -> Ending
 
 // The number in a field: its sign apart, since on a net or a fanin it says that the value is inverted. The sign is 1 for a minus sign,
 // else 0: in as many bytes as the magnitude, so that no bytes lie between the fields, which a copy would take one by one.
-#[derive(Drop)]
+#[derive(Clone, Copy)]
 pub struct FieldValue {
     pub sign: u32,
     pub magnitude: u32,
@@ -46,7 +48,7 @@ fn sign_of(negative: bool) -> u32
 }
 
 // The fields of a line: whether it is laid out as a line is, and the numbers in them. What stands past the count is of no matter.
-#[derive(Drop)]
+#[derive(Clone, Copy)]
 pub struct Fields {
     pub laid: bool,
     pub count: usize,
@@ -120,7 +122,7 @@ fn counts(low: u32, high: u32, x: FieldValue) -> bool
 }
 
 // What line 1 says: the output net, whether the tree's value is inverted, and the number of gates.
-#[derive(Drop)]
+#[derive(Clone, Copy)]
 pub enum LineHead {
     Good(u16, bool, u8),
     Bad(Refusal),
@@ -151,7 +153,7 @@ pub fn read_head(f: Fields) -> LineHead
     LineHead::Good(net as u16, out.sign != 0, n as u8)
 }
 
-#[derive(Drop)]
+#[derive(Clone, Copy)]
 enum KindRead {
     Is(Kind),
     Neither,
@@ -170,7 +172,7 @@ fn read_kind(x: FieldValue) -> KindRead
 }
 
 // What the first two fields of a gate's line say: its kind and its fanin count, which the line has fields for.
-#[derive(Drop)]
+#[derive(Clone, Copy)]
 enum GateHead {
     Good(Kind, u8),
     Bad(Refusal),
@@ -204,14 +206,14 @@ fn read_gate_head(f: Fields) -> GateHead
 }
 
 // Whether something is refused, and why.
-#[derive(Drop)]
+#[derive(Clone, Copy)]
 pub enum Fault {
     Nothing,
     Is(Refusal),
 }
 
 // A gate's line: its kind, its fanin count, the place after the line, and the line's numbers.
-#[derive(Drop)]
+#[derive(Clone, Copy)]
 pub struct GateLine {
     pub fault: Fault,
     pub kind: Kind,

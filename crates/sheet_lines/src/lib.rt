@@ -1,4 +1,6 @@
 // The lines of a sheet's gates in the search for the fewest levels, from the first gate on; and the line of the root that tells the least level.
+#![tactic(auto)]
+
 ghost use Rattle.level_mapping.specs.FastMapping.{NetsLow, LinesFound, LineRooms, FirstLine, FirstLineHad};
 
 use level_arrays::{NONE, STORE_ROOM};

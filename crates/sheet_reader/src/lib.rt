@@ -1,4 +1,6 @@
 // The reader of a sheet: its line 1, its gates, and what is tested after them.
+#![tactic(auto)]
+
 ghost use Rattle.std.specs.Prelude.{◌≡◌, drop};
 ghost use Rattle.sheet.specs.Trusted.Cut.{next_read};
 ghost use Rattle.sheet.specs.Trusted.Promise.{SheetRead, NextRead};

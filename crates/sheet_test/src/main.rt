@@ -1,6 +1,8 @@
 // Reads each file that its arguments name as a sheet, and prints the name and what comes of it: the sheet that was read, in the form
 // of a sheet, or one line with minus the number of the refusal and the line. A file whose name begins with "+" has two sheets, read
 // one after the other. Each number has a column for its sign, and six for its digits.
+#![tactic(auto)]
+
 use libc::STDOUT_FILENO;
 use sheet::{Edge, Gate, ReadAnswer, Sheet, Source};
 use tree::Kind;

@@ -1,5 +1,7 @@
 // The sheets of an input, added to a part of no tables one after the other. `program` alone calls this, and proves that the part is
 // sound and has none.
+#![tactic(auto)]
+
 ghost use Rattle.std.specs.Prelude.{◌≡◌, drop};
 ghost use Rattle.part.specs.Trusted.AddAnswers.{adding_answer};
 ghost use Rattle.part.specs.Trusted.Sound.{Sound};
@@ -14,7 +16,7 @@ use sheet::ReadAnswer;
 use table::CODE_ROOM;
 
 // The part after the sheets, and the number of the last one.
-#[derive(Drop)]
+#[derive(Clone, Copy)]
 pub struct End {
     pub part: Part,
     pub told: Told,

@@ -1,4 +1,6 @@
 // The slacks of a part's nets, written into a lent buffer: a line for each table that drives a net, with the net and the slack.
+#![tactic(auto)]
+
 ghost use Rattle.std.specs.Prelude.{◌≡◌, ◌+◌, ◌≤◌, length};
 ghost use Rattle.part.specs.Trusted.Parts.{in_use};
 ghost use Rattle.list_line.specs.Trusted.Writes.{pasted};
@@ -79,7 +81,7 @@ fn put_slacks(buf: &mut [u8], at: usize, p: Part, wanted: u16)
 // Writes a line for each of the part's tables that drive a net, from the place on. Where there is not room for all of them no byte is altered.
 pub fn print_slacks(output: &mut [u8], at: usize, part: Part, wanted: u16) -> Printed
     requires { part.used ≤ 800 }
-    ensures* { λ r. ⌜ record { result = printed_result r; bytes = output.new } ≡ fitted output.old at (slack_lines wanted part) ⌝ }
+    ensures { record { result = printed_result result; bytes = output.new } ≡ fitted output.old at (slack_lines wanted part) }
 {
     let width = SLACK_LINE * count_drivers(part);
     if !has_room(output.len(), at, width) {

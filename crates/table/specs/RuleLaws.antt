@@ -57,6 +57,7 @@ place_at n (r ∷ rs) (suc i) h =
 
 -- each record has a place
 pub record_placed : (n : ℕ) (rs : List Table) (r : Table) → r ∈ rs → (p : Placed) × (p ∈ numbered n (map table_of rs)) × (p.1 ≡ table_of r)
+record_placed n [] r x' = elim x' [ ]
 record_placed n (s ∷ rs) r (first e) = ((suc n, table_of s), first refl, ap table_of (sym e))
 record_placed n (s ∷ rs) r (later m) = let h = record_placed (suc n) rs r m in (h.0, later h.1, h.2)
 

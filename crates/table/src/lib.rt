@@ -1,4 +1,6 @@
 // Lookup tables as records of a part.
+#![tactic(auto)]
+
 ghost use Rattle.std.specs.Prelude.{◌≡◌, min};
 ghost use Rattle.table.specs.Trusted.Records.{blank as blankRecord};
 
@@ -18,7 +20,7 @@ pub const TABLE_WORDS: usize = TABLE_ROOM as usize / 64 + 1;
 pub const CODE_ROOM: usize = CODE_BASE as usize + TABLE_ROOM as usize + 1;
 
 // A lookup table of a part: the net that it drives (0 for none), how many inputs it has, the inputs, its truth table and its level.
-#[derive(Drop)]
+#[derive(Clone, Copy)]
 pub struct Table {
     pub net: u16,
     pub count: u8,
@@ -29,7 +31,7 @@ pub struct Table {
 
 // What the rules need to know of the records so far: how many there are, which nets a record drives or reads, and which of
 // the records drive a net, both as flags packed into words.
-#[derive(Drop)]
+#[derive(Clone, Copy)]
 pub struct Prefix {
     pub count: u16,
     pub claimed: [u64; NET_WORDS],

@@ -1,4 +1,6 @@
 // Tests of the inputs of one record: of the first `n`, those in use, and of the rest.
+#![tactic(auto)]
+
 ghost use Rattle.std.specs.Prelude.{◌≡◌, ◌≤◌, ltb, take, drop};
 ghost use Rattle.lists.specs.Trusted.Tests.{all, elem, pairwise};
 ghost use Rattle.table.specs.Trusted.RecordTest.{all_zero, is_code};

@@ -1,5 +1,7 @@
 // Levels by an array that holds one for each code: the level of a record that follows others, and what is noted of it.
 // table/specs/LevelTest defines it, and table/specs/LevelTestLaws has the proof that it stands for the records.
+#![tactic(auto)]
+
 ghost use Rattle.std.specs.Prelude.{◌≡◌, map, ℕ, max, ◌≤◌, ◌<◌, get_or, set, take};
 ghost use Rattle.cover.specs.Trusted.Tables.{greatest};
 ghost use Rattle.table.specs.Trusted.Limits.{table_room};

@@ -1,5 +1,7 @@
 // What is kept of the records so far: of none, and of one more after others.
 // table/specs/PrefixTest defines it, and table/specs/PrefixLaws has the proof that it stands for the records.
+#![tactic(auto)]
+
 ghost use Rattle.std.specs.Prelude.{◌≡◌, ◌≤◌, take};
 ghost use Rattle.table.specs.PrefixTest.{claim_all, empty_prefix, with_driver, prefix_after};
 

@@ -1,5 +1,7 @@
 // 01's points of a record after the records before it, by what is kept of these: of each a test, equal to the test of that name with
 // In after it in table/specs/PrefixTest.
+#![tactic(auto)]
+
 ghost use Rattle.std.specs.Prelude.{◌≡◌, ◌≤◌, take};
 ghost use Rattle.lists.specs.Trusted.Tests.{all};
 ghost use Rattle.table.specs.PrefixTest.{sourced_in, unclaimed_in, keeps_points_in};

@@ -1,5 +1,7 @@
 // Fanout-free trees of AND and OR gates over nets: the kinds of gates, how many fanins they have, and the codes of nets and of what is
 // no net.
+#![tactic(auto)]
+
 
 // The greatest net. Nets go from 1.
 pub const GREATEST_NET: u16 = 9999;
@@ -13,7 +15,7 @@ pub const FEWEST_FANINS: usize = 2;
 pub const MOST_FANINS: usize = 10;
 
 // The kind of a gate.
-#[derive(Drop)]
+#[derive(Clone, Copy)]
 pub enum Kind {
     And,
     Or,

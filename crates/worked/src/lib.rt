@@ -1,1 +1,3 @@
 // 01's and 02's worked examples, computed.
+#![tactic(auto)]
+

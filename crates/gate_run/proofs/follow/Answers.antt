@@ -1,0 +1,29 @@
+use Prim.Native.Nat.{◌-◌}
+use mathlib.Core.Path.{◌≡◌, sym, ◌∙◌}
+use lib.ListN.{length, length-map}
+use Rattle.plan.specs.contracts.PlanStep.{the_field}
+use borrow.Author.Rules.{rules}
+use Rattle.mapper_laws.specs.CodeRun.{Following}
+use Rattle.mapper_laws.specs.CodeRunLaws.{following_start, following_advances, following_next, following_end}
+use Rattle.gate_run.proofs.follow.Goals as goal
+use Rattle.gate_run.proofs.follow.Goals.{Start}
+
+-- a plan has nineteen steps: its type says so
+steps_size : (s : Start) → length s.args.plan.steps ≡ 19
+steps_size s = search rules
+
+pub loop-i-init : goal.loop-i-init
+loop-i-init c =
+    following_start c.args.first c.args.kind c.args.operands c.args.plan c.requires c.start-r.ensures.0 c.start-r.ensures.1 c.start-r.ensures.2
+
+pub advance-r-requires : goal.advance-r-requires
+advance-r-requires c =
+    following_advances c.args.first c.args.kind c.args.operands c.args.plan (steps_size (goal.at.advance-r-requires c).Start) c.requires c.loop-i.invariant c.loop-i-test.true
+
+pub loop-i-preserved : goal.loop-i-preserved
+loop-i-preserved c =
+    following_next c.args.first c.args.kind c.args.operands c.args.plan (steps_size (goal.at.loop-i-preserved c).Start) c.requires c.loop-i.invariant c.loop-i-test.true c.advance-r.ensures
+
+pub returns : goal.returns
+returns c =
+    following_end c.args.first c.args.kind c.args.operands c.args.plan c.loop-i-test.false c.loop-i.invariant

@@ -1,0 +1,34 @@
+use Prim.Native.Nat.{◌+◌, ◌≤◌, ◌<◌, min}
+use native.Mathlib.Omega.{arith}
+use borrow.Author.Tests.{le-leb, lt-leb}
+use Rattle.plan.specs.Key.{cuts}
+use borrow.Author.Rules.{rules}
+use Rattle.keys.proofs.cuts_of.Goals as goal
+
+pub returns-then-a-b : goal.returns-then-a-b
+unfolding cuts
+returns-then-a-b c = simp (le-leb _ _ c.if-a-b.true)
+
+pub returns-then-lesser-k : goal.returns-then-lesser-k
+unfolding cuts
+returns-then-lesser-k c =
+    let a = c.args in
+    let h : a.k < a.a.width + a.b.width = omega arith in
+    let i : a.k < 1 + min a.a.width a.b.width = omega arith in
+    simp (lt-leb _ _ h, lt-leb _ _ i)
+
+pub returns-then-a-b-2 : goal.returns-then-a-b-2
+unfolding cuts
+returns-then-a-b-2 c =
+    let a = c.args in
+    let h : a.k < a.a.width + a.b.width = omega arith in
+    let i : 1 + min a.a.width a.b.width ≤ a.k = omega arith in
+    simp (lt-leb _ _ h, le-leb _ _ i, le-leb _ _ c.if-a-b-2.true)
+
+pub returns-else-a-b-2 : goal.returns-else-a-b-2
+unfolding cuts
+returns-else-a-b-2 c =
+    let a = c.args in
+    let h : a.k < a.a.width + a.b.width = omega arith in
+    let i : 1 + min a.a.width a.b.width ≤ a.k = omega arith in
+    simp (lt-leb _ _ h, le-leb _ _ i, lt-leb _ _ c.if-a-b-2.false)

@@ -1,0 +1,9 @@
+use Prim.Native.Nat.{◌+◌, ◌-◌}
+use Rattle.level_lines.proofs.Lining.{Lining}
+use Rattle.level_lines.proofs.gate_lines.Given as goal
+
+abbrev pub invariant-loop-bound : goal.invariant-loop-bound
+invariant-loop-bound l = Lining l.k l.g l.f l.a l.initial.store l.store l.rows l.own l.array l.before l.bound l.count
+
+abbrev pub decreases-loop-bound : goal.decreases-loop-bound
+decreases-loop-bound l = l.a + 256 - l.bound

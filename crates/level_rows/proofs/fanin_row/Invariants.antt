@@ -1,0 +1,15 @@
+use Prim.Native.Nat.{◌+◌, ◌-◌, ◌*◌, ◌≤◌}
+use native.Mathlib.Omega.{arith}
+use native.Mathlib.Nat.{zero-add}
+use borrow.Author.Rules.{rules}
+use Rattle.lists.specs.ListLaws.{get_d_any}
+use lib.ListN.{get_or}
+use Rattle.level_arrays.specs.Arrays.{big}
+use Rattle.level_rows.specs.Runs.{RunWritten, run_none, run_more}
+use Rattle.level_rows.proofs.fanin_row.Given as goal
+
+abbrev pub invariant-loop-w : goal.invariant-loop-w
+invariant-loop-w l = (l.w ≤ 8) × RunWritten l.initial.row.at l.row.at 0 l.w (λ v. get_or l.rows (l.h * 8 + v) big)
+
+abbrev pub decreases-loop-w : goal.decreases-loop-w
+decreases-loop-w l = 8 - l.w

@@ -1,0 +1,15 @@
+use Prim.Native.Nat.{◌+◌, ◌-◌, ◌*◌, ◌^◌, ◌<◌}
+use native.Mathlib.Omega.{arith}
+use mathlib.Core.Path.{◌≡◌, ap, ◌∙◌}
+use lib.ListN.{get_or}
+use Rattle.lists.specs.ListLaws.{get_d_any}
+use Rattle.plan.specs.Limits.{masks}
+use Rattle.level_arrays.specs.Arrays.{big}
+use Rattle.level_rows.proofs.ArrayFilling.{ArrayFilling, array_first, array_place_one, array_one, array_place_more, array_more, array_like}
+use Rattle.level_rows.proofs.fill_like.Given as goal
+
+abbrev pub invariant-loop-s : goal.invariant-loop-s
+invariant-loop-s l = ArrayFilling l.k l.n (λ f w. get_or l.rows (f * 8 + w) big) (λ m. get_or l.own m big) l.initial.arrays l.arrays l.at l.h l.top l.next l.s
+
+abbrev pub decreases-loop-s : goal.decreases-loop-s
+decreases-loop-s l = 2 ^ l.n - l.s

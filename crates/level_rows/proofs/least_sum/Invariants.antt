@@ -1,0 +1,16 @@
+use Prim.Native.Nat.{◌+◌, ◌-◌, ◌≤◌}
+use native.Mathlib.Omega.{arith}
+use mathlib.Core.Path.{◌≡◌}
+use mathlib.Core.Logic.{inl, inr, ⊎_elim}
+use borrow.Author.Rules.{rules}
+use Rattle.lists.specs.ListLaws.{get_d_any}
+use Rattle.level_arrays.specs.Arrays.{big}
+use Rattle.level_rows.specs.Sums.{LeastSum}
+use Rattle.level_rows.proofs.Lowering.{least_none, least_more}
+use Rattle.level_rows.proofs.least_sum.Given as goal
+
+abbrev pub invariant-loop-i : goal.invariant-loop-i
+invariant-loop-i l = (1 ≤ l.i) × (l.i ≤ l.w) × LeastSum l.arrays l.x l.y l.w l.i l.most l.least
+
+abbrev pub decreases-loop-i : goal.decreases-loop-i
+decreases-loop-i l = l.w - l.i

@@ -1,0 +1,16 @@
+use Prim.Native.Nat.{◌+◌, ◌-◌, ◌*◌, ◌≤◌}
+use native.Mathlib.Omega.{arith}
+use mathlib.Core.Path.{◌≡◌}
+use native.Mathlib.Nat.{zero-add}
+use mathlib.Core.Logic.{⊎_elim}
+use borrow.Author.Rules.{rules}
+use Rattle.lists.specs.ListLaws.{get_d_any}
+use Rattle.level_arrays.specs.Arrays.{big, own_above}
+use Rattle.level_rows.specs.Runs.{RunWritten, run_none, run_more}
+use Rattle.level_rows.proofs.lift.Given as goal
+
+abbrev pub invariant-loop-s : goal.invariant-loop-s
+invariant-loop-s l = (l.s ≤ l.end) × RunWritten l.initial.own l.own 0 l.s (own_above l.k l.arrays l.at)
+
+abbrev pub decreases-loop-s : goal.decreases-loop-s
+decreases-loop-s l = l.end - l.s

@@ -1,0 +1,7 @@
+use native.Mathlib.Omega.{arith}
+use borrow.Author.Rules.{rules}
+use Rattle.list_line.specs.PasteLaws.{paste_one}
+use Rattle.list_line.proofs.put_line_feed.Goals as goal
+
+pub returns : goal.returns
+returns c = paste_one c.args.buf.now c.args.at 10 (omega arith)

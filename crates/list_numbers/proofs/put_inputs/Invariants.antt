@@ -1,0 +1,17 @@
+use Prim.Native.Nat.{◌+◌, ◌-◌, ◌≤◌}
+use native.Mathlib.Numerals.{add-one}
+use native.Mathlib.Omega.{arith}
+use mathlib.Core.Path.{◌≡◌, refl, sym, ap, ◌∙◌}
+use mathlib.Core.List.{[], ◌∷◌}
+use lib.ListN.{length, get_or, take}
+use lib.Seq.{length-take-le, take-suc, take_all}
+use Rattle.list_line.specs.Trusted.Writes.{pasted}
+use Rattle.list_line.specs.PasteLaws.{paste_none, paste_next}
+use Rattle.list_numbers.proofs.put_inputs.Given as goal
+
+abbrev pub invariant-loop-i : goal.invariant-loop-i
+invariant-loop-i l =
+    (l.i ≤ 6) × (length l.inputs ≡ 6) × (length l.numbers ≡ length l.initial.numbers) × (l.numbers ≡ pasted l.initial.numbers l.at (take l.i l.inputs))
+
+abbrev pub decreases-loop-i : goal.decreases-loop-i
+decreases-loop-i l = 6 - l.i

@@ -1,0 +1,15 @@
+use borrow.Author.Tests.{not-true, not-false}
+use Rattle.part.specs.Trusted.AddAnswers.{adding_answer}
+use Rattle.list_reservations.specs.ListReservationLaws.{outcome_refused, outcome_accepted}
+use borrow.Author.Rules.{rules}
+use Rattle.list_reservations.proofs.outcome_code.Goals as goal
+
+pub returns-then-not-told : goal.returns-then-not-told
+returns-then-not-told c =
+    let a = c.args.added in
+    outcome_refused c.tell_sheet-told.result (adding_answer a.answer) c.tell_sheet-told.ensures a.part c.if-not-told.true
+
+pub returns : goal.returns
+returns c =
+    let a = c.args.added in
+    outcome_accepted c.tell_sheet-told.result (adding_answer a.answer) c.tell_sheet-told.ensures a.part c.if-not-told.false

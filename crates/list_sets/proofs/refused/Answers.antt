@@ -1,0 +1,7 @@
+use mathlib.Core.Path.{ap}
+use mathlib.Core.Bool.{false}
+use borrow.Author.Rules.{rules}
+use Rattle.list_sets.proofs.refused.Goals as goal
+
+pub returns : goal.returns
+returns c = ap (λ n. record { accepted = false; code = n }) c.refusal_code.ensures

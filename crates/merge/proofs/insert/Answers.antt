@@ -1,0 +1,22 @@
+use Prim.Native.Nat.{◌-◌}
+use native.Mathlib.Omega.{arith}
+use mathlib.Core.Logic.{⊎_elim}
+use Rattle.pending.specs.MergeLaws.{Inserting, inserting_start, inserting_stay, inserting_up, inserting_end}
+use Rattle.merge.proofs.insert.Goals as goal
+use Rattle.merge.proofs.insert.Goals.{then-next-x, else-next-x}
+
+pub loop-i-init : goal.loop-i-init
+loop-i-init c = inserting_start c.args.inputs.now c.args.count c.args.code c.requires.0 c.requires.1
+
+pub loop-i-preserved : goal.loop-i-preserved
+loop-i-preserved c =
+    let a = c.args in
+    elim c.if-next-x.branch [
+      then-next-x w ↦ rw (w.inputs-is, w.next-is) (inserting_up a.inputs.now a.count a.code c.requires.0 c.requires.1 c.loop-i.invariant c.loop-i-test.true w.if-next-x.true)
+    | else-next-x w ↦ rw (w.inputs-is, w.next-is) (inserting_stay a.inputs.now a.count a.code c.requires.0 c.requires.1 c.loop-i.invariant c.loop-i-test.true w.if-next-x.false)
+    ]
+
+pub returns : goal.returns
+returns c =
+    let a = c.args in
+    inserting_end a.inputs.now a.count a.code c.requires.0 c.requires.1 c.loop-i.invariant (omega arith)

@@ -1,0 +1,31 @@
+use mathlib.Core.Path.{refl, sym, ◌∙◌}
+use borrow.Author.Rules.{rules}
+use borrow.Author.Tests.{not-true, not-false}
+use Rattle.table.specs.ResultLaws.{says_true}
+use Rattle.table.specs.LevelTest.{no_levels}
+use Rattle.part.specs.Trusted.SoundTest.{sound}
+use Rattle.part.specs.Trusted.Ways.{least}
+use Rattle.part.specs.SoundLaws.{sound_reflects}
+use Rattle.part.specs.StoringLaws.{add_same, add_unsound}
+use Rattle.part.specs.declared.Adding.TheVariants.{Unsound}
+use Rattle.part.proofs.Part.add.Goals as goal
+
+pub sound-requires : goal.sound-requires
+unfolding no_levels
+sound-requires c = refl
+
+pub returns-then-not-sound : goal.returns-then-not-sound
+unfolding sound
+returns-then-not-sound c =
+    let a = c.args in
+    add_same c.refused.result a.self Unsound c.refused.ensures least a.self a.text.now
+    (add_unsound least a.self a.text.now (sym c.sound.ensures.0 ∙ c.if-not-sound.true))
+
+pub take-requires : goal.take-requires
+unfolding sound
+take-requires c =
+    let t = c.if-not-sound.false in
+    (says_true (sound_reflects c.args.self) (sym c.sound.ensures.0 ∙ t), c.sound.ensures.1 t)
+
+pub returns : goal.returns
+returns c = c.take.ensures.0

@@ -1,0 +1,50 @@
+use mathlib.Core.Path.{◌≡◌, sym, subst}
+use borrow.Author.Rules.{rules}
+use Rattle.lists.specs.Trusted.Checked.{passed}
+use Rattle.sheet.specs.Trusted.Read.{read_sheet}
+use Rattle.sheet.specs.Trusted.Answers.{number_of, drawn_sheet}
+use Rattle.sheet.specs.Trusted.Formed.{WellFormed}
+use Rattle.sheet.specs.ReadLaws.{read_formed}
+use Rattle.table.specs.LevelTest.{LevelsStand}
+use Rattle.part.specs.Trusted.Parts.{tables_of}
+use Rattle.part.specs.Trusted.Ways.{least}
+use Rattle.part.specs.Trusted.AddAnswers.{adding_answer}
+use Rattle.part.specs.StoringLaws.{sheet_mappable, mapped_storable, mapped_offered, add_same, add_misread, add_offered, reading_is}
+use Rattle.part.specs.declared.Adding.TheVariants.{Misread}
+use Rattle.part.proofs.Part.take.Goals as goal
+use Rattle.part.proofs.Part.take.Goals.{In_default}
+
+pub returns-in-Refused : goal.returns-in-Refused
+returns-in-Refused c =
+    let g = c.answer-1.given in
+    let a = c.args in (
+      add_same c.refused.result a.self (Misread g.0.0 g.0.1.0) c.refused.ensures least a.self a.text.now
+          (add_misread least a.self a.text.now c.requires.0 (number_of g.0.0) g.0.1.0 (reading_is a.text.now c.read-reading.result c.read-reading.ensures g.1)),
+      subst (λ r. LevelsStand a.levels.now (tables_of r.part)) (sym c.refused.ensures) c.requires.1,
+    )
+
+sheet_read : (c : In_default) → read_sheet c.args.text.now ≡ passed (drawn_sheet c.read-reading.result.sheet)
+sheet_read c =
+    reading_is c.args.text.now c.read-reading.result c.read-reading.ensures c.in_default.is
+
+-- and it is well formed
+sheet_formed : (c : In_default) → WellFormed (drawn_sheet c.read-reading.result.sheet)
+sheet_formed c =
+    read_formed c.args.text.now (drawn_sheet c.read-reading.result.sheet) (sheet_read c)
+
+pub map_joined-mapping-requires : goal.map_joined-mapping-requires
+map_joined-mapping-requires c =
+    sheet_mappable c.args.self c.requires.0 c.read-reading.result.sheet (sheet_formed (goal.at.map_joined-mapping-requires c).In_default)
+
+pub offer-requires : goal.offer-requires
+offer-requires c =
+    (c.requires.0, mapped_storable c.args.self.k c.args.self.used c.read-reading.result.sheet c.map_joined-mapping.result c.map_joined-mapping.ensures (sheet_formed (goal.at.offer-requires c).In_default), c.requires.1)
+
+pub returns : goal.returns
+returns c =
+    let o = c.offer in
+    let a = adding_answer o.result.answer in (
+      add_offered least c.args.self c.args.text.now c.requires.0 (drawn_sheet c.read-reading.result.sheet) (sheet_read (goal.at.returns c).In_default) o.result.part a
+          (mapped_offered c.args.self c.read-reading.result.sheet c.map_joined-mapping.result c.map_joined-mapping.ensures o.result.part a o.ensures.0),
+      o.ensures.1,
+    )

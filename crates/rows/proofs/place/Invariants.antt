@@ -1,0 +1,15 @@
+use Prim.Native.Nat.{◌+◌, ◌-◌, ◌≤◌}
+use native.Mathlib.Omega.{arith}
+use mathlib.Core.Path.{◌≡◌, ap}
+use native.Mathlib.Numerals.{add-one}
+use lib.ListN.{take}
+use lib.Seq.{slice}
+use Rattle.cover.specs.Trusted.Bits.{place}
+use Rattle.pending.specs.MergeLaws.{slice_none, place_here, place_later}
+use Rattle.rows.proofs.place.Given as goal
+
+abbrev pub invariant-loop-i : goal.invariant-loop-i
+invariant-loop-i l = (l.i ≤ l.count) × (place l.code (take l.count l.inputs) ≡ l.i + place l.code (slice l.i l.count l.inputs))
+
+abbrev pub decreases-loop-i : goal.decreases-loop-i
+decreases-loop-i l = l.count - l.i

@@ -1,0 +1,15 @@
+use Prim.Native.Nat.{◌-◌, ◌≤◌, ◌<◌}
+use native.Mathlib.Omega.{arith}
+use mathlib.Core.Path.{◌≡◌, refl}
+use lib.ListN.{length, length-set}
+use borrow.Author.Rules.{rules}
+use Rattle.lists.specs.Trusted.Lists.{Every}
+use Rattle.lists.specs.ListLaws.{every_replicate}
+use Rattle.search_test.proofs.Keys.{Light, light_take, light_set}
+use Rattle.search_test.proofs.draw.Given as goal
+
+abbrev pub invariant-loop-i : goal.invariant-loop-i
+invariant-loop-i l = (l.state < 2147483648) × (l.i ≤ 10) × (length l.keys ≡ 10) × Every (Light 25) l.keys
+
+abbrev pub decreases-loop-i : goal.decreases-loop-i
+decreases-loop-i l = 10 - l.i

@@ -1,0 +1,55 @@
+use Prim.Native.Nat.{◌+◌, ◌-◌, ◌≤◌, ◌<◌}
+use native.Mathlib.Omega.{arith}
+use mathlib.Core.Path.{◌≡◌, refl, sym, ap, ◌∙◌}
+use mathlib.Core.Logic.{⊎_elim}
+use borrow.Author.Rules.{rules}
+use lib.ListN.{length, take}
+use Rattle.table.proofs.Shape.{past}
+use Rattle.part.proofs.Shape.{shaped}
+use Rattle.slacks.specs.Trusted.Slack.{drivers}
+use Rattle.slacks.specs.SlackLaws.{one_driver, no_driver}
+use Rattle.slacks.proofs.count_drivers.Goals as goal
+
+pub loop-t-init : goal.loop-t-init
+loop-t-init c =
+    let t = (search rules) in
+    (omega arith, (shaped c.args.p t.0 t.1.0.1 t.1.1).records, refl, omega arith)
+
+pub offset_bounds-p-t : goal.offset_bounds-p-t
+offset_bounds-p-t c = omega (arith, c.requires)
+
+pub bounds-p-t : goal.bounds-p-t
+bounds-p-t c = omega (arith, c.requires)
+
+pub overflow_add-n : goal.overflow_add-n
+overflow_add-n c = omega (arith, c.requires, c.loop-t.invariant.3)
+
+pub overflow_add-t : goal.overflow_add-t
+overflow_add-t c = omega (arith, c.requires)
+
+pub loop-t-preserved : goal.loop-t-preserved
+loop-t-preserved c =
+    let p = c.args.p in
+    let l = c.loop-t in
+    let h : l.t < length p.tables = omega (arith, c.requires, l.invariant.1) in
+    ⊎_elim
+    (λ w. (
+      omega arith,
+      l.invariant.1,
+      w.1 ∙ ap (λ m. m + 1) l.invariant.2 ∙ sym (one_driver p.tables l.t past h w.0.taken),
+      omega arith,
+    ))
+    (λ w. (
+      omega arith,
+      l.invariant.1,
+      w.1 ∙ l.invariant.2 ∙ sym (no_driver p.tables l.t past h w.0.left),
+      omega arith,
+    ))
+    c.if-net-ne0.branch
+
+pub returns : goal.returns
+returns c =
+    let p = c.args.p in
+    let l = c.loop-t in
+    let e : l.t ≡ p.used = omega arith in
+    (l.invariant.2 ∙ ap (λ t. length (drivers (take t p.tables))) e, omega (arith, c.requires))

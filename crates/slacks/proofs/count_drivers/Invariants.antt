@@ -1,0 +1,18 @@
+use Prim.Native.Nat.{◌+◌, ◌-◌, ◌≤◌, ◌<◌}
+use native.Mathlib.Omega.{arith}
+use mathlib.Core.Path.{◌≡◌, refl, sym, ap, ◌∙◌}
+use mathlib.Core.Logic.{⊎_elim}
+use borrow.Author.Rules.{rules}
+use lib.ListN.{length, take}
+use Rattle.table.proofs.Shape.{past}
+use Rattle.part.proofs.Shape.{shaped}
+use Rattle.slacks.specs.Trusted.Slack.{drivers}
+use Rattle.slacks.specs.SlackLaws.{one_driver, no_driver}
+use Rattle.slacks.proofs.count_drivers.Given as goal
+
+abbrev pub invariant-loop-t : goal.invariant-loop-t
+invariant-loop-t l =
+    (l.t ≤ l.p.used) × (length l.p.tables ≡ 800) × (l.n ≡ length (drivers (take l.t l.p.tables))) × (l.n ≤ l.t)
+
+abbrev pub decreases-loop-t : goal.decreases-loop-t
+decreases-loop-t l = l.p.used - l.t
