@@ -2,14 +2,6 @@ use Rattle.mapper_laws.specs.CodeRunLaws.{push_room, push_advanced, join_fits, j
 use borrow.Author.Rules.{rules}
 use Rattle.gate_run.proofs.advance.Goals as goal
 
-pub bounds-operands-at : goal.bounds-operands-at
-bounds-operands-at c =
-    (push_room c.args.first c.args.kind c.args.operands c.args.run c.in-Push.is c.requires).0
-
-pub push-requires : goal.push-requires
-push-requires c =
-    (push_room c.args.first c.args.kind c.args.operands c.args.run c.in-Push.is c.requires).1
-
 pub join-requires : goal.join-requires
 join-requires c =
     join_fits c.args.first c.args.kind c.args.operands c.args.run c.in-Join.is c.requires

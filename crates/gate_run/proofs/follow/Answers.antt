@@ -12,10 +12,6 @@ use Rattle.gate_run.proofs.follow.Goals.{Start}
 steps_size : (s : Start) → length s.args.plan.steps ≡ 19
 steps_size s = search rules
 
-pub loop-i-init : goal.loop-i-init
-loop-i-init c =
-    following_start c.args.first c.args.kind c.args.operands c.args.plan c.requires c.start-r.ensures.0 c.start-r.ensures.1 c.start-r.ensures.2
-
 pub advance-r-requires : goal.advance-r-requires
 advance-r-requires c =
     following_advances c.args.first c.args.kind c.args.operands c.args.plan (steps_size (goal.at.advance-r-requires c).Start) c.requires c.loop-i.invariant c.loop-i-test.true
@@ -23,7 +19,3 @@ advance-r-requires c =
 pub loop-i-preserved : goal.loop-i-preserved
 loop-i-preserved c =
     following_next c.args.first c.args.kind c.args.operands c.args.plan (steps_size (goal.at.loop-i-preserved c).Start) c.requires c.loop-i.invariant c.loop-i-test.true c.advance-r.ensures
-
-pub returns : goal.returns
-returns c =
-    following_end c.args.first c.args.kind c.args.operands c.args.plan c.loop-i-test.false c.loop-i.invariant

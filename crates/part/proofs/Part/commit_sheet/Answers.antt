@@ -25,10 +25,9 @@ use Rattle.part.proofs.Part.commit_sheet.Goals.{After-offer-added, After-read-re
 
 pub returns-in-Refused : goal.returns-in-Refused
 returns-in-Refused c =
-    let g = c.answer-1.given in
     let a = c.args in
     subst (λ r. (ts : List Try) × Committed a.self a.text.now (adding_result (goal.at.returns-in-Refused c).After-read-reading ts)) (sym c.refused.ensures)
-    (_, commit_misread a.self a.text.now c.requires.0 (number_of g.0.0) g.0.1.0 (reading_is a.text.now c.read-reading.result c.read-reading.ensures g.1))
+    (_, commit_misread a.self a.text.now c.requires.0 (number_of c.in-Refused.why) c.in-Refused.line (reading_is a.text.now c.read-reading.result c.read-reading.ensures c.in-Refused.is))
 
 -- the sheet that was read
 sheet_read : (c : In_default) → read_sheet c.args.text.now ≡ passed (drawn_sheet c.read-reading.result.sheet)

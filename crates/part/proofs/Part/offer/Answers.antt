@@ -54,10 +54,10 @@ uses_are : (c : After-loop-i) → let a = c.args in let u = c.loop-i.uses in
 uses_are c = looked_all c.loop-i.invariant.1 (omega arith) (omega arith)
 
 not_driven : (c : Else-uses) → let a = c.args in is_driven a.out (tables_of a.self) ≡ false
-not_driven c = (uses_are (PLACE After-loop-i)).0 ∙ c.if-uses.false
+not_driven c = (looked_all c.loop-i.invariant.1 (omega arith) (omega arith)).0 ∙ c.if-uses.false
 
 not_read : (c : Else-uses-2) → let a = c.args in net_read a.out (tables_of a.self) ≡ false
-not_read c = (uses_are (PLACE After-loop-i)).1 ∙ c.if-uses-2.false
+not_read c = (looked_all c.loop-i.invariant.1 (omega arith) (omega arith)).1 ∙ c.if-uses-2.false
 
 pub loop-i-init : goal.loop-i-init
 loop-i-init c = ((self_shaped (goal.at.loop-i-init c).Start).records, looked_none c.args.self c.args.out)

@@ -21,11 +21,10 @@ use Rattle.part.proofs.Part.set_aside.Goals.{After-offer-added, In-Accepted, In_
 
 pub returns-in-Refused : goal.returns-in-Refused
 returns-in-Refused c =
-    let g = c.answer-1.given in
     let a = c.args in
     subst (λ r. Reserves least a.self a.text.now r.part (adding_answer r.answer)) (sym c.refused.ensures)
-    (aside_refused a.self a.text.now a.self (number_of g.0.0) g.0.1.0
-    (add_misread least a.self a.text.now c.requires.0 (number_of g.0.0) g.0.1.0 (reading_is a.text.now c.read-reading.result c.read-reading.ensures g.1)))
+    (aside_refused a.self a.text.now a.self (number_of c.in-Refused.why) c.in-Refused.line
+    (add_misread least a.self a.text.now c.requires.0 (number_of c.in-Refused.why) c.in-Refused.line (reading_is a.text.now c.read-reading.result c.read-reading.ensures c.in-Refused.is)))
 
 -- the sheet that was read
 sheet_read : (c : In_default) → read_sheet c.args.text.now ≡ passed (drawn_sheet c.read-reading.result.sheet)
@@ -51,32 +50,33 @@ sheet_added : (c : After-offer-added) → let a = c.args in
 sheet_added c =
     let q = c.offer-added.result.part in
     let a = adding_answer c.offer-added.result.answer in
-    add_offered least c.args.self c.args.text.now c.requires.0 (drawn_sheet c.read-reading.result.sheet) (sheet_read (PLACE In_default)) q a
+    add_offered least c.args.self c.args.text.now c.requires.0 (drawn_sheet c.read-reading.result.sheet) (reading_is c.args.text.now c.read-reading.result c.read-reading.ensures c.in_default.is) q a
     (mapped_offered c.args.self c.read-reading.result.sheet c.map_joined-mapping.result c.map_joined-mapping.ensures q a c.offer-added.ensures.0)
 
 pub returns-in_default-answer : goal.returns-in_default-answer
 returns-in_default-answer c =
     let p = c.args.self in
     let text = c.args.text.now in
-    let (number, place, e) = refusal c.offer-added.result.answer (λ e. miss (1 ∷ 2 ∷ 3 ∷ 4 ∷ 5 ∷ 6 ∷ 7 ∷ []) 0 tt (rw e at c.in_default-answer.keys2)) in
+    let (number, place, e) = refusal c.offer-added.result.answer c.in_default-answer.not-Accepted in
     subst (λ r. Reserves least p text r.part (adding_answer r.answer)) (sym c.refused-in_default-answer.ensures)
     (subst (Reserves least p text p) (sym e) (aside_refused p text c.offer-added.result.part number place (subst (Add least p text c.offer-added.result.part) e (sheet_added (goal.at.returns-in_default-answer c).After-offer-added))))
 
 -- where it is accepted
 sheet_accepted : (c : In-Accepted) → let a = c.args in
+    Add least a.self a.text.now c.offer-added.result.part (adding_answer c.offer-added.result.answer) →
     Add least a.self a.text.now c.offer-added.result.part accepted
-sheet_accepted c =
+sheet_accepted c h =
     let a = c.args in
-    subst (λ x. Add least a.self a.text.now c.offer-added.result.part (adding_answer x)) c.in-Accepted.is (sheet_added (PLACE After-offer-added))
+    subst (λ x. Add least a.self a.text.now c.offer-added.result.part (adding_answer x)) c.in-Accepted.is h
 
 pub overflow_sub-count : goal.overflow_sub-count
 overflow_sub-count c =
     let a = c.args in
     let d = drawn_sheet c.read-reading.result.sheet in
-    (grown_number a.self a.text.now c.offer-added.result.part (sheet_accepted (goal.at.overflow_sub-count c).In-Accepted) (covered d) (covered_read a.text.now d (sheet_read (goal.at.overflow_sub-count c).In_default))).0
+    (grown_number a.self a.text.now c.offer-added.result.part (sheet_accepted (goal.at.overflow_sub-count c).In-Accepted (sheet_added (goal.at.overflow_sub-count c).After-offer-added)) (covered d) (covered_read a.text.now d (sheet_read (goal.at.overflow_sub-count c).In_default))).0
 
 pub returns : goal.returns
 returns c =
     let a = c.args in
     let d = drawn_sheet c.read-reading.result.sheet in
-    aside_accepted a.self a.text.now c.offer-added.result.part (sheet_accepted (goal.at.returns c).In-Accepted) (covered d) (covered_read a.text.now d (sheet_read (goal.at.returns c).In_default))
+    aside_accepted a.self a.text.now c.offer-added.result.part (sheet_accepted (goal.at.returns c).In-Accepted (sheet_added (goal.at.returns c).After-offer-added)) (covered d) (covered_read a.text.now d (sheet_read (goal.at.returns c).In_default))

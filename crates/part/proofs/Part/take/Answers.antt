@@ -16,10 +16,9 @@ use Rattle.part.proofs.Part.take.Goals.{In_default}
 
 pub returns-in-Refused : goal.returns-in-Refused
 returns-in-Refused c =
-    let g = c.answer-1.given in
     let a = c.args in (
-      add_same c.refused.result a.self (Misread g.0.0 g.0.1.0) c.refused.ensures least a.self a.text.now
-          (add_misread least a.self a.text.now c.requires.0 (number_of g.0.0) g.0.1.0 (reading_is a.text.now c.read-reading.result c.read-reading.ensures g.1)),
+      add_same c.refused.result a.self (Misread c.in-Refused.why c.in-Refused.line) c.refused.ensures least a.self a.text.now
+          (add_misread least a.self a.text.now c.requires.0 (number_of c.in-Refused.why) c.in-Refused.line (reading_is a.text.now c.read-reading.result c.read-reading.ensures c.in-Refused.is)),
       subst (λ r. LevelsStand a.levels.now (tables_of r.part)) (sym c.refused.ensures) c.requires.1,
     )
 

@@ -51,7 +51,7 @@ returns-in_default c =
     let l = c.loop-i in
     let a = c.args in
     subst (SetEnded a.self a.lengths.now a.text.now) (sym c.with_answer.ensures)
-    (set_stop l.invariant.0 (omega arith) c.take-added.result.part c.take-added.result.answer (sheet_added (goal.at.returns-in_default c).After-take-added) (λ e. miss (1 ∷ 2 ∷ 3 ∷ 4 ∷ 5 ∷ 6 ∷ 7 ∷ []) 0 tt (rw e at c.in_default.keys2)))
+    (set_stop l.invariant.0 (omega arith) c.take-added.result.part c.take-added.result.answer (sheet_added (goal.at.returns-in_default c).After-take-added) c.in_default.not-Accepted)
 
 pub loop-i-preserved : goal.loop-i-preserved
 loop-i-preserved c =

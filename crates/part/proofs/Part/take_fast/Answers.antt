@@ -16,10 +16,9 @@ use Rattle.part.proofs.Part.take_fast.Goals.{In_default}
 
 pub returns-in-Refused : goal.returns-in-Refused
 returns-in-Refused c =
-    let g = c.answer-1.given in
     let a = c.args in (
-      add_same c.refused.result a.self (Misread g.0.0 g.0.1.0) c.refused.ensures fastest a.self a.text.now
-          (add_misread fastest a.self a.text.now c.requires.0 (number_of g.0.0) g.0.1.0 (reading_is a.text.now c.read-reading.result c.read-reading.ensures g.1)),
+      add_same c.refused.result a.self (Misread c.in-Refused.why c.in-Refused.line) c.refused.ensures fastest a.self a.text.now
+          (add_misread fastest a.self a.text.now c.requires.0 (number_of c.in-Refused.why) c.in-Refused.line (reading_is a.text.now c.read-reading.result c.read-reading.ensures c.in-Refused.is)),
       subst (λ r. LevelsStand a.levels.now (tables_of r.part)) (sym c.refused.ensures) c.requires.1,
     )
 
@@ -34,17 +33,17 @@ sheet_formed c =
 
 pub map_joined_fast-mapping-requires : goal.map_joined_fast-mapping-requires
 map_joined_fast-mapping-requires c =
-    (sheet_mappable c.args.self c.requires.0 r.read.result.sheet (sheet_formed (goal.at.map_joined_fast-mapping-requires c).In_default), levels_low c.requires.1)
+    (sheet_mappable c.args.self c.requires.0 c.read-reading.result.sheet (sheet_formed (goal.at.map_joined_fast-mapping-requires c).In_default), levels_low c.requires.1)
 
 pub offer-requires : goal.offer-requires
 offer-requires c =
-    (c.requires.0, fast_storable c.args.self.k c.args.self.used c.args.levels.now t.before.before.read.result.sheet c.map_joined_fast-mapping.result c.map_joined_fast-mapping.ensures (sheet_formed (goal.at.offer-requires c).In_default), c.requires.1)
+    (c.requires.0, fast_storable c.args.self.k c.args.self.used c.args.levels.now c.read-reading.result.sheet c.map_joined_fast-mapping.result c.map_joined_fast-mapping.ensures (sheet_formed (goal.at.offer-requires c).In_default), c.requires.1)
 
 pub returns : goal.returns
 returns c =
     let o = c.offer in
     let a = adding_answer o.result.answer in (
-      add_offered fastest c.args.self c.args.text.now c.requires.0 (drawn_sheet r.read.result.sheet) (sheet_read (goal.at.returns c).In_default) o.result.part a
-          (fast_offered c.args.self c.args.levels.now c.requires.1 r.read.result.sheet c.map_joined_fast-mapping.result c.map_joined_fast-mapping.ensures o.result.part a o.ensures.0),
+      add_offered fastest c.args.self c.args.text.now c.requires.0 (drawn_sheet c.read-reading.result.sheet) (sheet_read (goal.at.returns c).In_default) o.result.part a
+          (fast_offered c.args.self c.args.levels.now c.requires.1 c.read-reading.result.sheet c.map_joined_fast-mapping.result c.map_joined_fast-mapping.ensures o.result.part a o.ensures.0),
       o.ensures.1,
     )
