@@ -3,13 +3,5 @@ pub mod Nets
 pub mod BitLaws
 pub mod Eval
 pub mod LevelLaws
-pub mod Value
-pub mod Inputs
-pub mod Size
-pub mod Rising
-pub mod Whole
 pub mod Legal
 pub mod History
-pub mod HistoryLaws
-pub mod CoverTableLaws
-pub mod CoverValueLaws

@@ -14,8 +14,8 @@ use Rattle.cover.specs.Trusted.Cover.{Cover, net, top, end, old, Rooted, rooted,
 use Rattle.cover.specs.Trusted.Tables.{LookupTable, code_levels}
 use Rattle.cover.specs.Trusted.CoverTables.{Circuit, LeastCoverTables}
 use Rattle.levels.specs.Trusted.Levels.{Fastest}
-use Rattle.levels.specs.LineLaws.{greatest_net_lem, greatest_more}
-use Rattle.levels.specs.TieLaws.{one_fastest, free_fastest}
+use Rattle.levels.proofs.LineLaws.{greatest_net_lem, greatest_more}
+use Rattle.levels.proofs.TieLaws.{one_fastest, free_fastest}
 use Rattle.sheet.specs.Checks.{bytes}
 use Rattle.table.specs.ResultLaws.{says_true}
 use Rattle.part_records.specs.declared.Reservation.{Reservation}

@@ -13,7 +13,7 @@ use Rattle.plan.specs.Least.{least_tables}
 use Rattle.cover.specs.Trusted.Tables.{code_levels}
 use Rattle.cover.specs.Trusted.CoverTables.{Circuit}
 use Rattle.levels.specs.Trusted.Levels.{Fastest}
-use Rattle.levels.specs.Found.{fastest_is}
+use Rattle.levels.proofs.Found.{fastest_is}
 use Rattle.table.specs.Trusted.Rules.{IsNet}
 use Rattle.part.specs.Trusted.Parts.{tables_of, available}
 use Rattle.part.specs.Trusted.Ways.{Way, least, fastest}

@@ -20,9 +20,9 @@ use Rattle.cover.specs.Trusted.Cover.{Least}
 use Rattle.cover.specs.Trusted.Tables.{LookupTable, code_levels}
 use Rattle.cover.specs.Trusted.CoverTables.{Circuit, CoverTables, Fresh}
 use Rattle.levels.specs.Trusted.Levels.{Fastest}
-use Rattle.levels.specs.Fastest.{fastest_unique}
-use Rattle.levels.specs.SameLaws.{fastest_same}
-use Rattle.levels.specs.CoverLevelLaws.{added_keeps, fastest_out}
+use Rattle.levels.proofs.Fastest.{fastest_unique}
+use Rattle.levels.proofs.SameLaws.{fastest_same}
+use Rattle.levels.proofs.CoverLevelLaws.{added_keeps, fastest_out}
 use Rattle.table.specs.Trusted.Rules.{IsNet}
 use Rattle.table.specs.ResultLaws.{says_true}
 use Rattle.part.specs.Trusted.Parts.{tables_of, available, with_reservation, released, Shaped}

@@ -14,9 +14,9 @@ use Rattle.cover.specs.Nets.{nets, nets*, split_nets}
 use Rattle.cover.specs.Trusted.Tables.{LookupTable, Placed, numbered}
 use Rattle.cover.specs.Eval.{numbered_is, every_numbered}
 use Rattle.cover.specs.Trusted.Placed.{root_number, placed, code, codes, codes*, gate_table, records, records*}
-use Rattle.cover.specs.Inputs.{root_in}
+use Rattle.cover.proofs.Inputs.{root_in}
 use Rattle.cover.specs.Trusted.CoverTables.{Circuit, CoverTables}
-use Rattle.cover.specs.CoverTableLaws.{added_inputs, added_tidy}
+use Rattle.cover.proofs.CoverTableLaws.{added_inputs, added_tidy}
 use Rattle.part.specs.Trusted.Nets.{Driven, Read}
 
 module _ (base : ℕ) where

@@ -11,11 +11,11 @@ use Rattle.tree.specs.Trusted.Tree.{turned}
 use Rattle.cover.specs.Trusted.Tables.{LookupTable}
 use Rattle.cover.specs.Trusted.CoverTables.{Circuit}
 use Rattle.cover.specs.History.{History, start, Met}
-use Rattle.cover.specs.HistoryLaws.{history_met}
+use Rattle.cover.proofs.HistoryLaws.{history_met}
 use Rattle.sheet.specs.Trusted.Sheet.{DrawnSheet}
 use Rattle.sheet.specs.Trusted.Trees.{tree_of}
 use Rattle.sheet.specs.ValueLaws.{sheet_value_lem}
-use Rattle.joined.specs.JoinedLaws.{joined_value}
+use Rattle.joined.proofs.JoinedLaws.{joined_value}
 use Rattle.table.specs.Trusted.Records.{table_of}
 use Rattle.part.specs.Trusted.Parts.{in_use, tables_of, Shaped}
 use Rattle.part.specs.Trusted.Sound.{Sound}

@@ -18,7 +18,7 @@ use Rattle.demands.specs.DeterminedLaws.{alike_refl, add_alike, fastest_alike}
 use Rattle.demands.specs.KeptLaws.{refused_stays}
 use Rattle.demands.specs.TryLaws.{same_sheet}
 use Rattle.levels.specs.Trusted.Levels.{Fastest}
-use Rattle.levels.specs.Fastest.{fastest_unique}
+use Rattle.levels.proofs.Fastest.{fastest_unique}
 use Rattle.opening.specs.Trusted.Opening.{count}
 use Rattle.printing.specs.Trusted.RefusalLine.{refusal_line}
 use Rattle.slacks.specs.Trusted.Slack.{slack_line, slack_lines}

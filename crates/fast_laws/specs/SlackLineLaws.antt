@@ -10,10 +10,10 @@ use Rattle.decimal.specs.FieldText.{no_some}
 use Rattle.tree.specs.Trusted.Limits.{code_base}
 use Rattle.cover.specs.Trusted.Tables.{LookupTable, numbered, code_levels, levels_after}
 use Rattle.cover.specs.Trusted.CoverTables.{Circuit}
-use Rattle.cover.specs.CoverTableLaws.{added_drives}
+use Rattle.cover.proofs.CoverTableLaws.{added_drives}
 use Rattle.cover.specs.LevelLaws.{levels_length}
 use Rattle.levels.specs.Trusted.Levels.{level, Fastest}
-use Rattle.levels.specs.CoverLevelLaws.{root_level}
+use Rattle.levels.proofs.CoverLevelLaws.{root_level}
 use Rattle.sheet.specs.Trusted.Cut.{sheet_text}
 use Rattle.table.specs.declared.Table.{Table}
 use Rattle.table.specs.Trusted.Records.{record_of, records_of, records_after}

@@ -13,7 +13,7 @@ use Rattle.decimal.specs.FieldText.{no_some, field_text}
 use Rattle.sheet.specs.Trusted.Line.{line, with, fields}
 use Rattle.drawing.specs.Trusted.Written.{fields_text, line_text}
 use Rattle.drawing.specs.LineLaws.{line_written_lem, fields_written}
-use Rattle.drawing.specs.OneText.{fields_text_lem, line_text_lem}
+use Rattle.drawing.proofs.OneText.{fields_text_lem, line_text_lem}
 use Rattle.fast_opening.specs.Trusted.FastOpening.{all_three, fast_numbers}
 use Rattle.fast_opening.specs.FastOpeningLaws.{three_numbers}
 

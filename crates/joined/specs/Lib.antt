@@ -1,12 +1,5 @@
 pub mod Trusted
 pub mod JoinedSheet
 pub mod Settled
-pub mod JoinedLaws
-pub mod SettledLaws
-pub mod LeastLaws
-pub mod NarrowLaws
 pub mod NumberingLaws
 pub mod CountLaws
-pub mod GateLaws
-pub mod SheetLaws
-pub mod ByteLaws

@@ -22,7 +22,7 @@ use Rattle.sheet.specs.StoreLaws.{drawn_same, taken_more, drawn_more, below_more
 use Rattle.gate_fanins.specs.Fanins.{place_in}
 use Rattle.joined.specs.JoinedSheet.{gate_at, joined_gates, gone_gates, staying, new_number, new_source, new_fanin, new_gate, joined_sheet}
 use Rattle.joined.specs.NumberingLaws.{staying_length, staying_last, staying_parts, number_up, number_same}
-use Rattle.joined.specs.SheetLaws.{joined_formed, joined_length, joined_reads}
+use Rattle.joined.proofs.SheetLaws.{joined_formed, joined_length, joined_reads}
 use Rattle.joiner_laws.specs.declared.JoinedGate.{JoinedGate}
 use Rattle.joiner_laws.specs.Joining.{GateIs}
 use Rattle.joiner_laws.specs.Writing.{with_number, renumbered_edge, new_gates, fanin_total, GatesWriting, FaninsWriting}

@@ -13,7 +13,7 @@ use Rattle.levels.specs.GivesLaws.{gives_higher, gives_narrow, gives_above}
 use Rattle.levels.specs.Groups.{Groups, LevelRows}
 use Rattle.levels.specs.GroupLaws.{groups_gives, groups_higher}
 use Rattle.levels.specs.EntryLaws.{entry_one, entry_fanins, entry_higher}
-use Rattle.levels.specs.LineLaws.{row_whole}
+use Rattle.levels.proofs.LineLaws.{row_whole}
 use Rattle.levels.specs.Demands.{demand}
 use Rattle.level_arrays.specs.Arrays.{big, entry_at, own_above, fan_row, Ranged, Falling, ReadsBack}
 use Rattle.level_arrays.specs.ArrayLaws.{searched_rows}

@@ -13,11 +13,11 @@ use Rattle.levels.specs.Trusted.Levels.{Fastest}
 use Rattle.levels.specs.Gives.{fanins, size, Gives, AtMost, LeastEntry}
 use Rattle.levels.specs.GivesLaws.{fanins_many, gives_narrow, gives_held}
 use Rattle.levels.specs.EntryLaws.{entry_no_input, entry_below}
-use Rattle.levels.specs.Fastest.{entry_fastest}
-use Rattle.levels.specs.Found.{some_gives*}
+use Rattle.levels.proofs.Fastest.{entry_fastest}
+use Rattle.levels.proofs.Found.{some_gives*}
 use Rattle.levels.specs.Groups.{LevelRows}
 use Rattle.levels.specs.Lines.{Greatest, LevelSettled, LevelLines}
-use Rattle.levels.specs.LineLaws.{start_enough, look_entry, row_whole, settled_few, settled_later, line_final}
+use Rattle.levels.proofs.LineLaws.{start_enough, look_entry, row_whole, settled_few, settled_later, line_final}
 use Rattle.levels.specs.StillLaws.{rows_settled}
 use Rattle.level_arrays.specs.Arrays.{big, entry_at, line_at, fan_row, Searched, GreatestFan, start_at, SearchStill, LinesKept}
 use Rattle.level_arrays.specs.ArrayLaws.{FanEntries, searched_rows}

@@ -18,7 +18,7 @@ use Rattle.plan.specs.Key.{leaf_key, chosen, ◌⊕◌, KeyTaken, held, cut, Key
 use Rattle.plan.specs.Plans.{Denotes, fanin, binary, Planned, made, Runs}
 use Rattle.plan.specs.Steps.{tokens}
 use Rattle.levels.specs.Demands.{Demand, taken_as, DemandJoins, PlanMeets, LevelStanding, LevelReady, ready_none, ready_edge}
-use Rattle.levels.specs.DemandLaws.{demand_body, level_net, level_standing}
+use Rattle.levels.proofs.DemandLaws.{demand_body, level_net, level_standing}
 use Rattle.sheet.specs.declared.Source.{Source}
 use Rattle.sheet.specs.declared.Source.TheVariants.{Net, Gate}
 use Rattle.sheet.specs.declared.Edge.{Edge}

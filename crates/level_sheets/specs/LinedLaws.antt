@@ -16,7 +16,7 @@ use Rattle.sheet.specs.Trusted.Formed.{WellFormed}
 use Rattle.sheet.specs.PlaceLaws.{no_gate, no_edge, earlier_at}
 use Rattle.levels.specs.Gives.{fanins, size, LeastEntry}
 use Rattle.levels.specs.Lines.{LevelLines}
-use Rattle.levels.specs.LineLaws.{lines_net, lines_gate}
+use Rattle.levels.proofs.LineLaws.{lines_net, lines_gate}
 use Rattle.level_arrays.specs.Arrays.{big, line_at, fan_line, FansGood, LinesKept}
 use Rattle.level_arrays.specs.Askable.{FanLines}
 use Rattle.level_arrays.specs.GateLaws.{kept_lines}

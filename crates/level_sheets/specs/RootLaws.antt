@@ -18,7 +18,7 @@ use Rattle.levels.specs.Gives.{fanins, drawn}
 use Rattle.levels.specs.GivesLaws.{gives_higher, gives_narrow, gate_out, nets_in, nets_out}
 use Rattle.levels.specs.EntryLaws.{entry_one, entry_fanins}
 use Rattle.levels.specs.Lines.{LevelLines}
-use Rattle.levels.specs.LineLaws.{look_entry}
+use Rattle.levels.proofs.LineLaws.{look_entry}
 use Rattle.levels.specs.Demands.{demand}
 use Rattle.level_arrays.specs.Arrays.{big, line_at}
 use Rattle.level_arrays.specs.Askable.{Askable}

@@ -22,7 +22,7 @@ use Rattle.sheet.specs.ReadLaws.{gates_distinct}
 use Rattle.sheet.specs.PlaceLaws.{no_gate, no_edge, earlier_at}
 use Rattle.sheet.specs.TreeLaws.{tree_proper, tree_for, gates_are, leaves_count}
 use Rattle.sheet.specs.GateTrees.{gate_trees, gate_trees*}
-use Rattle.joined.specs.GateLaws.{edges_same}
+use Rattle.joined.proofs.GateLaws.{edges_same}
 use Rattle.levels.specs.Gives.{fanins}
 
 -- ---- the fanins of a gate's tree

@@ -6,7 +6,7 @@ use Rattle.lists.specs.Sequences.{Paired, no_pair, pair}
 use Rattle.lists.specs.ListLaws.{every_none, every_cons, every_head, every_tail, not_first, inserted_to, inserted_from, permuted_length}
 use Rattle.lists.specs.NumberLaws.{sum_inserted, sum_le, sorted_permuted}
 use Rattle.cover.specs.Nets.{tables_most*}
-use Rattle.cover.specs.Size.{records_length*, codes_length*}
+use Rattle.cover.proofs.Size.{records_length*, codes_length*}
 use Rattle.cover.specs.Trusted.Placed.{codes*}
 use Rattle.plan.specs.Volume.{fewest_leaves}
 use Rattle.cover.specs.Trusted.Tables.{LookupTable, numbered}

@@ -18,7 +18,7 @@ use Rattle.cover.specs.Trusted.Cover.{net, top, split}
 use Rattle.cover.specs.Nets.{split_nets}
 use Rattle.cover.specs.Trusted.Tables.{LookupTable, Placed, numbered}
 use Rattle.cover.specs.Eval.{numbered_append, numbered_length}
-use Rattle.cover.specs.Size.{records_length*}
+use Rattle.cover.proofs.Size.{records_length*}
 use Rattle.plan.specs.Volume.{fewest_leaves}
 use Rattle.cover.specs.Trusted.Placed.{gate_table}
 use Rattle.plan.specs.Plans.{Planned, drawn, Standing, Ready, ready_none, ready_edge}

@@ -17,7 +17,7 @@ use Rattle.cover.specs.Trusted.Cover.{Cover, net, top, Fanins, end, new, pick}
 use Rattle.cover.specs.Trusted.Tables.{LookupTable, output, tabled, numbered}
 use Rattle.cover.specs.Eval.{Agree, tabled_output, numbered_append}
 use Rattle.cover.specs.Trusted.Placed.{code, codes, codes*, held, held*, gate_table, records*}
-use Rattle.cover.specs.Value.{held_same, held_same*}
+use Rattle.cover.proofs.Value.{held_same, held_same*}
 use Rattle.plan.specs.declared.Key.{Key}
 use Rattle.plan.specs.declared.Token.{Token}
 use Rattle.plan.specs.declared.Token.TheVariants.{Join as join}

@@ -20,7 +20,7 @@ use Rattle.sheet.specs.Trusted.Formed.{Before, Earlier, WellFormed}
 use Rattle.sheet.specs.NumberLaws.{drawn_out, distinct_left, distinct_right, distinct_apart, distinct_inserted, in_from}
 use Rattle.sheet.specs.ReadLaws.{gates_distinct}
 use Rattle.sheet.specs.TreeLaws.{tree_for}
-use Rattle.joined.specs.GateLaws.{edges_same}
+use Rattle.joined.proofs.GateLaws.{edges_same}
 use Rattle.one_more.specs.Trusted.OneMoreLeaf.{leaf_fanin, OneMoreFanin, at_gate, after, OneMoreLeaf}
 use Rattle.one_more.specs.OneMore.{OneMore, grow, OneMore*, here as in_front, below, later as further}
 

@@ -4,7 +4,4 @@ pub mod Grown
 pub mod GrownLaws
 pub mod OneMoreLaws
 pub mod GrownTrees
-pub mod GrownSheet
 pub mod MoreSettled
-pub mod Theorems
-pub mod Examples

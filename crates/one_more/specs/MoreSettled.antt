@@ -8,7 +8,7 @@ use Rattle.tree.specs.Trusted.Tree.{Node, Edges, edge_count}
 use Rattle.tree.specs.Trusted.Limits.{most_fanins}
 use Rattle.joined.specs.Trusted.Joined.{chained, is_joined}
 use Rattle.joined.specs.Settled.{Settled, SettledFanins}
-use Rattle.joined.specs.SettledLaws.{settled_more}
+use Rattle.joined.proofs.SettledLaws.{settled_more}
 use Rattle.one_more.specs.OneMore.{OneMore, grow, OneMore*, here, below, later}
 
 more_count : {es fs : Edges} → OneMore* es fs → edge_count es ≤ edge_count fs

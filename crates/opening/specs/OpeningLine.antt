@@ -13,7 +13,7 @@ use Rattle.sheet.specs.Trusted.Line.{line, with, fields}
 use Rattle.drawing.specs.Trusted.Written.{fields_text, line_text}
 use Rattle.decimal.specs.FieldText.{no_some, field_text}
 use Rattle.drawing.specs.LineLaws.{line_written_lem, fields_written}
-use Rattle.drawing.specs.OneText.{fields_text_lem, line_text_lem}
+use Rattle.drawing.proofs.OneText.{fields_text_lem, line_text_lem}
 use Rattle.opening.specs.Trusted.Opening.{both, opening_numbers}
 use Rattle.opening.specs.OpeningLaws.{two_numbers}
 

@@ -11,7 +11,7 @@ use Rattle.lists.specs.Trusted.Checked.{Checked, passed, refused as unread}
 use Rattle.cover.specs.Eval.{every_numbered}
 use Rattle.cover.specs.Trusted.Tables.{LookupTable}
 use Rattle.cover.specs.Trusted.CoverTables.{Circuit, CoverTables, Fresh}
-use Rattle.cover.specs.CoverTableLaws.{added_sized}
+use Rattle.cover.proofs.CoverTableLaws.{added_sized}
 use Rattle.table.specs.Trusted.Limits.{input_room}
 use Rattle.part.specs.Trusted.Parts.{tables_of, available, Shaped}
 use Rattle.part.specs.Trusted.Sound.{Sound}

@@ -15,7 +15,7 @@ use Rattle.cover.specs.Eval.{numbered_is, every_numbered}
 use Rattle.cover.specs.Trusted.Placed.{root_number}
 use Rattle.cover.specs.Trusted.CoverTables.{Circuit, CoverTables, Fresh}
 use Rattle.cover.specs.Legal.{Legal}
-use Rattle.cover.specs.CoverTableLaws.{added_sized, added_rising, added_tidy, added_inputs, added_drives}
+use Rattle.cover.proofs.CoverTableLaws.{added_sized, added_rising, added_tidy, added_inputs, added_drives}
 use Rattle.table.specs.Trusted.Limits.{input_room}
 use Rattle.table.specs.Trusted.Records.{table_of, record_of, records_after}
 use Rattle.table.specs.RecordLaws.{read_back, every_record, after_back, after_levels}

@@ -11,8 +11,8 @@ use Rattle.sheet.specs.TreeLaws.{root_gate, read_drawn}
 use Rattle.sheet.specs.RefusalLaws.{refused_told}
 use Rattle.joined.specs.Trusted.Covered.{covered}
 use Rattle.joined.specs.JoinedSheet.{joined_sheet}
-use Rattle.joined.specs.JoinedLaws.{joined_leaves, joined_proper}
-use Rattle.joined.specs.SheetLaws.{sheet_joined, joined_formed}
+use Rattle.joined.proofs.JoinedLaws.{joined_leaves, joined_proper}
+use Rattle.joined.proofs.SheetLaws.{sheet_joined, joined_formed}
 use Rattle.part.specs.Trusted.Reading.{read_of}
 use Rattle.part.specs.Readable.{Readable}
 

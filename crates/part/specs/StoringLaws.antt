@@ -14,11 +14,11 @@ use Rattle.lists.specs.Trusted.Checked.{passed, refused as unread, ◌>>=◌}
 use Rattle.cover.specs.Trusted.Tables.{LookupTable, table_level, code_levels}
 use Rattle.cover.specs.Eval.{every_numbered, Agree}
 use Rattle.cover.specs.LevelLaws.{codes_most}
-use Rattle.cover.specs.CoverTableLaws.{added_tidy}
+use Rattle.cover.proofs.CoverTableLaws.{added_tidy}
 use Rattle.cover.specs.Trusted.CoverTables.{Circuit, CoverTables, LeastCoverTables}
 use Rattle.levels.specs.Trusted.Levels.{level as coverLevel, Fastest}
 use Rattle.levels.specs.Trusted.LevelTables.{FastestCoverTables}
-use Rattle.levels.specs.SameLaws.{split_level, fastest_same}
+use Rattle.levels.proofs.SameLaws.{split_level, fastest_same}
 use Rattle.sheet.specs.Trusted.Sheet.{DrawnSheet}
 use Rattle.sheet.specs.declared.Sheet.{Sheet as CodeSheet}
 use Rattle.sheet.specs.declared.ReadAnswer.{ReadAnswer as CodeAnswer}

@@ -11,7 +11,7 @@ use Rattle.sheet.specs.Trusted.Sheet.{DrawnSheet}
 use Rattle.sheet.specs.Trusted.Read.{read_sheet}
 use Rattle.joined.specs.Trusted.Covered.{covered}
 use Rattle.plan.specs.Least.{least_unique}
-use Rattle.levels.specs.Fastest.{fastest_unique}
+use Rattle.levels.proofs.Fastest.{fastest_unique}
 use Rattle.part.specs.Trusted.Parts.{tables_of}
 use Rattle.part.specs.Trusted.Ways.{Way, least, fastest, reading, NumberBy, Chosen}
 use Rattle.part.specs.Readable.{Readable}

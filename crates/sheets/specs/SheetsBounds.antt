@@ -14,7 +14,7 @@ use Rattle.sheet.specs.Trusted.Cut.{sheet_text}
 use Rattle.sheet.specs.CutLaws.{text_whole}
 use Rattle.sheet.specs.SizeLaws.{read_short}
 use Rattle.sheet.specs.FrontLaws.{sheet_room, front_read, front_rest}
-use Rattle.joined.specs.JoinedLaws.{joined_leaves}
+use Rattle.joined.proofs.JoinedLaws.{joined_leaves}
 use Rattle.table.specs.Trusted.Limits.{table_room}
 use Rattle.part.specs.Trusted.Parts.{Shaped}
 use Rattle.part.specs.Trusted.Sound.{Sound}

@@ -21,7 +21,7 @@ use Rattle.cover.specs.Trusted.Placed.{records, records*}
 use Rattle.plan.specs.Placings.{placings}
 use Rattle.cover.specs.Trusted.CoverTables.{Circuit, LeastCoverTables}
 use Rattle.cover.specs.Legal.{Legal}
-use Rattle.cover.specs.CoverValueLaws.{added_met}
+use Rattle.cover.proofs.CoverValueLaws.{added_met}
 
 abbrev edges : Edges
 edges = edge false (leaf 1) (edge false (leaf 4) (edge false (gate or (edge false (leaf 2) (edge true (leaf 3) none))) none))

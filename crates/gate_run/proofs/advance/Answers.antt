@@ -1,5 +1,4 @@
-use Rattle.mapper_laws.specs.CodeRunLaws.{push_room, push_advanced, join_fits, join_advanced}
-use borrow.Author.Rules.{rules}
+use Rattle.mapper_laws.specs.CodeRunLaws.{push_advanced, join_fits, join_advanced}
 use Rattle.gate_run.proofs.advance.Goals as goal
 
 pub join-requires : goal.join-requires

@@ -1,10 +1,7 @@
-use Prim.Native.Nat.{◌-◌}
-use mathlib.Core.Path.{◌≡◌, sym, ◌∙◌}
-use lib.ListN.{length, length-map}
-use Rattle.plan.specs.contracts.PlanStep.{the_field}
+use mathlib.Core.Path.{◌≡◌}
+use lib.ListN.{length}
 use borrow.Author.Rules.{rules}
-use Rattle.mapper_laws.specs.CodeRun.{Following}
-use Rattle.mapper_laws.specs.CodeRunLaws.{following_start, following_advances, following_next, following_end}
+use Rattle.mapper_laws.specs.CodeRunLaws.{following_advances, following_next}
 use Rattle.gate_run.proofs.follow.Goals as goal
 use Rattle.gate_run.proofs.follow.Goals.{Start}
 

@@ -1,7 +1,7 @@
 use mathlib.Core.Path.{sym, ◌∙◌, subst}
 use Rattle.sheet.specs.Trusted.Answers.{drawn_sheet}
 use Rattle.sheet.specs.Trusted.Formed.{WellFormed}
-use Rattle.joined.specs.SheetLaws.{joined_formed}
+use Rattle.joined.proofs.SheetLaws.{joined_formed}
 use Rattle.joiner_laws.specs.NoneJoinedLaws.{none_joined_lem}
 use Rattle.joined_mapper.specs.CoverLaws.{covers_joined}
 use borrow.Author.Rules.{rules}

@@ -14,7 +14,7 @@ use Rattle.sheet.specs.Trusted.Sheet.{DrawnGate, gate_of}
 use Rattle.lists.specs.Trusted.Lists.{Every}
 use Rattle.lists.specs.Trusted.Tests.{elem}
 use Rattle.joined.specs.JoinedSheet.{joined_gates, gone_gates}
-use Rattle.joined.specs.SheetLaws.{joined_length}
+use Rattle.joined.proofs.SheetLaws.{joined_length}
 use Rattle.joiner_laws.specs.declared.JoinedGate.{JoinedGate}
 use Rattle.joiner_laws.specs.Joining.{GateIs, no_joined_gate}
 use Rattle.joiner_laws.specs.JoiningLaws.{joined_few}

@@ -21,25 +21,10 @@ loop-g-init c = plan_start c.no_tables-m.ensures.0 c.no_tables-m.ensures.1 refl
 turn_roomy : (c : In-loop-g) → (length c.args.sheet.gates ≡ most_gates) × (c.args.sheet.count ≤ most_gates)
 turn_roomy c = (search rules, search rules)
 
-inside : (c : In-loop-g) → c.loop-g.g < most_gates
-inside c = omega (arith, c.loop-g-test.true, turn_roomy c)
-
-pub offset_bounds-sheet-g : goal.offset_bounds-sheet-g
-offset_bounds-sheet-g c = omega (arith, inside c)
-
-pub bounds-sheet-g : goal.bounds-sheet-g
-bounds-sheet-g c = inside c
-
 pub gather-operands-requires : goal.gather-operands-requires
 gather-operands-requires c =
     let (r, m) = turn_roomy (goal.at.gather-operands-requires c).In-loop-g in
     step_reaches c.args.sheet c.requires.0 r m c.loop-g.invariant.going c.loop-g-test.true
-
-pub offset_bounds-plans-g : goal.offset_bounds-plans-g
-offset_bounds-plans-g c = omega (arith, inside (goal.at.offset_bounds-plans-g c).In-loop-g)
-
-pub bounds-plans-g : goal.bounds-plans-g
-bounds-plans-g c = inside (goal.at.bounds-plans-g c).In-loop-g
 
 pub run_gate-x-requires : goal.run_gate-x-requires
 run_gate-x-requires c =
@@ -47,20 +32,11 @@ run_gate-x-requires c =
     let p = c.requires in
     plan_runnable c.args.sheet p.0 r m c.loop-g.invariant c.loop-g-test.true c.gather-operands.ensures p.1.0 p.1.1 p.1.2
 
-pub offset_bounds-held-g : goal.offset_bounds-held-g
-offset_bounds-held-g c = omega (arith, inside (goal.at.offset_bounds-held-g c).In-loop-g)
-
-pub bounds-held-g : goal.bounds-held-g
-bounds-held-g c = inside (goal.at.bounds-held-g c).In-loop-g
-
 pub stage-m-requires : goal.stage-m-requires
 stage-m-requires c =
     let (r, m) = turn_roomy (goal.at.stage-m-requires c).In-loop-g in
     let p = c.requires in
     plan_room c.args.sheet p.0 r m c.loop-g.invariant c.loop-g-test.true c.gather-operands.ensures p.1.0 p.1.1 p.1.2 c.run_gate-x.ensures
-
-pub overflow_add-g : goal.overflow_add-g
-overflow_add-g c = omega (arith, inside (goal.at.overflow_add-g c).In-loop-g)
 
 pub loop-g-preserved : goal.loop-g-preserved
 loop-g-preserved c =
@@ -70,19 +46,6 @@ loop-g-preserved c =
     c.stage-m.ensures
 
 -- ---- the end
-
-pub overflow_sub-at : goal.overflow_sub-at
-overflow_sub-at c =
-    let (r, m) = roomy (goal.at.overflow_sub-at c).Start in
-    some_gates c.args.sheet c.requires.0 r m
-
-pub offset_bounds-held-at : goal.offset_bounds-held-at
-offset_bounds-held-at c = omega (arith, roomy (goal.at.offset_bounds-held-at c).Start)
-
-pub bounds-held-at : goal.bounds-held-at
-bounds-held-at c =
-    let (r, m) = roomy (goal.at.bounds-held-at c).Start in
-    omega (arith, some_gates c.args.sheet c.requires.0 r m)
 
 pub with_root-requires : goal.with_root-requires
 with_root-requires c =

@@ -21,7 +21,7 @@ use Rattle.joined.specs.Trusted.Joined.{edges_in}
 use Rattle.joined.specs.Trusted.Covered.{covered}
 use Rattle.drawing.specs.Trusted.Written.{written}
 use Rattle.one_more.specs.Trusted.OneMoreLeaf.{leaf_fanin, OneMoreFanin, at_gate, after, OneMoreLeaf, NoneJoined, FewerLeaves}
-use Rattle.one_more.specs.Theorems.{more_least}
+use Rattle.one_more.proofs.Theorems.{more_least}
 
 -- so many upright leaves, from net n on
 abbrev leaves_from : (n count : ℕ) → List Fanin

@@ -12,9 +12,9 @@ use Rattle.tree.specs.Measures.{leaves, leaves*}
 use Rattle.cover.specs.Trusted.Cover.{Cover, net, top, Fanins, end, old, new, pick, frontier, tables, tables*, SplitOf, split, Matched, Rooted, rooted, CoverOf}
 use Rattle.cover.specs.Trusted.Tables.{LookupTable, Placed, tabled}
 use Rattle.cover.specs.Trusted.Placed.{root_number, code, codes, codes*, gate_table, records, records*}
-use Rattle.cover.specs.Value.{gate_held}
+use Rattle.cover.proofs.Value.{gate_held}
 use Rattle.cover.specs.Nets.{nets, nets*, split_nets}
-use Rattle.cover.specs.Size.{records_length*}
+use Rattle.cover.proofs.Size.{records_length*}
 
 -- the table that drives n and has the value of the tree, inverted where v is true
 abbrev pub whole : ℕ → Bool → Node → LookupTable

@@ -26,11 +26,11 @@ use Rattle.joined.specs.Trusted.Joined.{joined_tree}
 use Rattle.joined.specs.Trusted.Covered.{covered}
 use Rattle.joined.specs.Settled.{Settled}
 use Rattle.joined.specs.JoinedSheet.{gate_at, joined_gates, gone_gates, stay, staying, new_number, new_source, new_fanin, new_gate, staying_gates, joined_sheet, joined_gate}
-use Rattle.joined.specs.JoinedLaws.{joined_value}
-use Rattle.joined.specs.SettledLaws.{joined_settled}
+use Rattle.joined.proofs.JoinedLaws.{joined_value}
+use Rattle.joined.proofs.SettledLaws.{joined_settled}
 use Rattle.joined.specs.NumberingLaws.{from_below, from_last, Stays, not_gone, stay_one, staying_every, staying_length, staying_rest, staying_last, number_up, number_same, number_positive, numbers_rise, number_at, numbered_anew}
 use Rattle.joined.specs.CountLaws.{gates_part, of_gates, of_gate, gates_bring}
-use Rattle.joined.specs.GateLaws.{edges_same, GateDraws, GatesDraw, joined_trees}
+use Rattle.joined.proofs.GateLaws.{edges_same, GateDraws, GatesDraw, joined_trees}
 
 -- ---- lists
 

@@ -18,7 +18,7 @@ use Rattle.sheet.specs.Trusted.Formed.{FaninCount, Before, Earlier}
 use Rattle.sheet.specs.TreeLaws.{tree_for}
 use Rattle.joined.specs.Trusted.Joined.{chained, turned_over, in_place, ◌then◌, joined_from, joined_tree, joined_below}
 use Rattle.joined.specs.JoinedSheet.{gate_at, joins_source, turn_fanin, fanins_in_place, joined_fanins, gone_into, joined_gate, joined_gates}
-use Rattle.joined.specs.JoinedLaws.{from_room}
+use Rattle.joined.proofs.JoinedLaws.{from_room}
 use Rattle.joined.specs.CountLaws.{gone_every, of_gate, fanins_bring}
 
 -- ---- fanins as edges

@@ -10,8 +10,8 @@ use Rattle.cover.specs.Trusted.Cover.{Cover, SplitOf, Rooted, rooted, Least}
 use Rattle.levels.specs.Trusted.Levels.{Fastest}
 use Rattle.levels.specs.Gives.{fanins}
 use Rattle.levels.specs.GivesLaws.{nets_in, gives_above, gives_lower}
-use Rattle.levels.specs.Under.{cover_gives}
-use Rattle.levels.specs.Fastest.{gives_fastest}
+use Rattle.levels.proofs.Under.{cover_gives}
+use Rattle.levels.proofs.Fastest.{gives_fastest}
 use Rattle.levels.specs.Lines.{Greatest}
 
 -- NEVER FEWER TABLES than the least number

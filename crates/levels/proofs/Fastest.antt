@@ -11,8 +11,8 @@ use Rattle.cover.specs.Trusted.Cover.{Cover, tables, CoverOf}
 use Rattle.levels.specs.Trusted.Levels.{level, Fastest}
 use Rattle.levels.specs.Gives.{fanins, size, Gives, AtMost, LeastEntry}
 use Rattle.levels.specs.GivesLaws.{fanins_many, gives_higher, gives_narrow, gives_held}
-use Rattle.levels.specs.Under.{cover_gives}
-use Rattle.levels.specs.Over.{gives_cover}
+use Rattle.levels.proofs.Under.{cover_gives}
+use Rattle.levels.proofs.Over.{gives_cover}
 
 pub fastest_unique : {lev : ℕ → ℕ} {K : ℕ} {t : Node} {m n d e : ℕ} → Fastest lev K t m d → Fastest lev K t n e → (m ≡ n) × (d ≡ e)
 fastest_unique {d = d} {e = e} g h =

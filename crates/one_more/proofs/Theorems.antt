@@ -12,15 +12,15 @@ use Rattle.sheet.specs.Trusted.Read.{read_sheet}
 use Rattle.sheet.specs.ReadLaws.{read_formed}
 use Rattle.sheet.specs.TreeLaws.{tree_proper}
 use Rattle.joined.specs.Trusted.Covered.{covered}
-use Rattle.joined.specs.JoinedLaws.{joined_leaves}
-use Rattle.joined.specs.SettledLaws.{settled_unchanged, unchanged_settled}
+use Rattle.joined.proofs.JoinedLaws.{joined_leaves}
+use Rattle.joined.proofs.SettledLaws.{settled_unchanged, unchanged_settled}
 use Rattle.drawing.specs.Trusted.Written.{written}
-use Rattle.drawing.specs.RoundTrip.{read_written}
+use Rattle.drawing.proofs.RoundTrip.{read_written}
 use Rattle.one_more.specs.Trusted.OneMoreLeaf.{OneMoreLeaf, NoneJoined, FewerLeaves}
 use Rattle.one_more.specs.OneMoreLaws.{more_leaves, grown_least}
 use Rattle.one_more.specs.MoreSettled.{more_settled}
 use Rattle.one_more.specs.GrownTrees.{tree_more}
-use Rattle.one_more.specs.GrownSheet.{more_formed}
+use Rattle.one_more.proofs.GrownSheet.{more_formed}
 
 module _ (text : List ℕ) (s s' : DrawnSheet) (accepted : read_sheet text ≡ passed s) (few : FewerLeaves s) (o : OneMoreLeaf s s') where
   formed : WellFormed s

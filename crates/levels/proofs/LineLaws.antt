@@ -20,7 +20,7 @@ use Rattle.levels.specs.EntryLaws.{entry_gate, entry_no_input, entry_below}
 use Rattle.levels.specs.Groups.{LevelRow}
 use Rattle.levels.specs.GroupLaws.{entry_groups}
 use Rattle.levels.specs.Lines.{Greatest, LevelSettled, LevelLines, look}
-use Rattle.levels.specs.Found.{some_gives*}
+use Rattle.levels.proofs.Found.{some_gives*}
 
 -- the bound to start at, for n fanins whose nets have levels of at most a
 pub start_enough : (a n ℓ : ℕ) → 1 ≤ n → a ≤ ℓ → (a - (n - 1) ≡ 0) ⊎ (a - (n - 1) + n ≤ suc ℓ)

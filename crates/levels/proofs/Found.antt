@@ -14,9 +14,9 @@ use Rattle.levels.specs.Trusted.Levels.{Fastest}
 use Rattle.levels.specs.Gives.{fanins, size, Gives, net, drawn, both, placed, AtMost, LeastEntry}
 use Rattle.levels.specs.GivesLaws.{fanins_many, gives_higher, gives_narrow, gives_held}
 use Rattle.levels.specs.EntryLaws.{entry_fanins}
-use Rattle.levels.specs.Fastest.{entry_fastest}
+use Rattle.levels.proofs.Fastest.{entry_fastest}
 use Rattle.levels.specs.Fill.{at, tree_line}
-use Rattle.levels.specs.FillLaws.{line_entry}
+use Rattle.levels.proofs.FillLaws.{line_entry}
 
 -- the first number at which a function is below a bound
 first : (f : ℕ → ℕ) (big n : ℕ) → f n < big → (m : ℕ) × (f m < big) × ((p : ℕ) → suc p ≡ m → big ≤ f p)

@@ -12,7 +12,7 @@ use Rattle.tree.specs.declared.Kind.TheVariants.{And as and}
 use Rattle.tree.specs.Trusted.Tree.{Node, leaf, gate, Edges, none, edge, turned, edge_count}
 use Rattle.cover.specs.Trusted.Cover.{Cover, top, Fanins, end, old, new, pick, arity, frontier, tables, tables*, width, widths, Fits, Fits*, SplitOf, split, Matched, done, match, Rooted, rooted, CoverOf, Least, net}
 use Rattle.joined.specs.Trusted.Joined.{turned_over, ◌then◌, joined_from, joined_tree, joined_below, in_place}
-use Rattle.joined.specs.JoinedLaws.{by_joins}
+use Rattle.joined.proofs.JoinedLaws.{by_joins}
 
 -- ---- matched fanins
 

@@ -12,7 +12,7 @@ use Rattle.cover.specs.Trusted.Cover.{Least}
 use Rattle.plan.specs.Key.{pack, better}
 use Rattle.plan.specs.Subsets.{least_of}
 use Rattle.plan.specs.Least.{least_tables, least_is}
-use Rattle.cover.specs.Whole.{whole, one_table}
+use Rattle.cover.proofs.Whole.{whole, one_table}
 use Rattle.joined.specs.Trusted.Joined.{joined_tree}
 use Rattle.worked.specs.Worked.{Row, Shown, Right, worked}
 

@@ -12,8 +12,8 @@ use Rattle.sheet.specs.Trusted.Trees.{node_of, edges_of, trees_of, tree_of}
 use Rattle.sheet.specs.Trusted.Formed.{FaninCount, WellFormed}
 use Rattle.joined.specs.Trusted.Joined.{joined_tree}
 use Rattle.joined.specs.Settled.{Narrow, NarrowFanins}
-use Rattle.joined.specs.JoinedLaws.{joined_narrow}
-use Rattle.joined.specs.GateLaws.{edges_count}
+use Rattle.joined.proofs.JoinedLaws.{joined_narrow}
+use Rattle.joined.proofs.GateLaws.{edges_count}
 
 at_narrow : (ts : List Node) (i : ℕ) → Every Narrow ts → Narrow (get_or ts i (leaf 0))
 at_narrow [] i h = tt

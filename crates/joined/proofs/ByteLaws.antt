@@ -12,8 +12,8 @@ use Rattle.sheet.specs.Trusted.Read.{read_sheet}
 use Rattle.sheet.specs.ReadLaws.{read_formed}
 use Rattle.sheet.specs.ByteLaws.{formed_tables}
 use Rattle.joined.specs.Trusted.Joined.{joined_tree}
-use Rattle.joined.specs.JoinedLaws.{joined_leaves}
-use Rattle.joined.specs.SheetLaws.{sheet_joined, joined_formed}
+use Rattle.joined.proofs.JoinedLaws.{joined_leaves}
+use Rattle.joined.proofs.SheetLaws.{sheet_joined, joined_formed}
 
 -- FOR EVERY SHEET THAT IS READ, every K, and every cover of every splitting, least or not
 pub tables_in_byte : (text : List ℕ) (s : DrawnSheet) → read_sheet text ≡ passed s → (K : ℕ) (c : Cover) → CoverOf K (joined_tree (tree_of s)) c → tables c ≤ 255

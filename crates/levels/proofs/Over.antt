@@ -37,7 +37,7 @@ use Rattle.levels.specs.Demands.{
   held_none,
   held_edge,
 }
-use Rattle.levels.specs.DemandLaws.{demand_runs, demand_body, level_net, level_standing, level_cover}
+use Rattle.levels.proofs.DemandLaws.{demand_runs, demand_body, level_net, level_standing, level_cover}
 use Rattle.levels.specs.Reached.{each_helds, level_gate, demand_raised, reached}
 
 -- ---- what is reached from demands has a plan

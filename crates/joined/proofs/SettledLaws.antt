@@ -11,7 +11,7 @@ use Rattle.tree.specs.Measures.{many, proper, propers}
 use Rattle.tree.specs.Trusted.Limits.{most_fanins}
 use Rattle.joined.specs.Trusted.Joined.{chained, is_joined, turned_over, in_place, ◌then◌, joined_from, joined_tree, joined_below}
 use Rattle.joined.specs.Settled.{Settled, SettledFanins}
-use Rattle.joined.specs.JoinedLaws.{by_joins, then_count, turned_count, place_count, from_count, below_proper}
+use Rattle.joined.proofs.JoinedLaws.{by_joins, then_count, turned_count, place_count, from_count, below_proper}
 
 -- ---- nothing to join
 

@@ -22,7 +22,7 @@ use Rattle.sheet.specs.ReadLaws.{source_named, read_formed}
 use Rattle.sheet.specs.CutLaws.{line_cut, empty_is}
 use Rattle.drawing.specs.Trusted.Written.{signed_number, plain_number, fields_text, line_text, kind_number, fanin_number, gate_numbers, gate_text, written}
 use Rattle.decimal.specs.FieldText.{no_some, field_text}
-use Rattle.drawing.specs.RoundTrip.{read_written}
+use Rattle.drawing.proofs.RoundTrip.{read_written}
 
 -- ---- a line
 

@@ -13,13 +13,13 @@ use Rattle.cover.specs.Trusted.Placed.{root_number, placed, code, codes, codes*,
 use Rattle.cover.specs.Trusted.CoverTables.{Circuit, CoverTables}
 use Rattle.cover.specs.Eval.{Agree, put_in, in_driven, driven_in, numbered_is, run_keeps, ResultsHold, run_holds}
 use Rattle.cover.specs.LevelLaws.{level_same, codes_after}
-use Rattle.cover.specs.Inputs.{root_in}
+use Rattle.cover.proofs.Inputs.{root_in}
 use Rattle.cover.specs.Legal.{Legal}
-use Rattle.cover.specs.CoverTableLaws.{added_tidy}
-use Rattle.cover.specs.CoverValueLaws.{new_low}
+use Rattle.cover.proofs.CoverTableLaws.{added_tidy}
+use Rattle.cover.proofs.CoverValueLaws.{new_low}
 use Rattle.levels.specs.Trusted.Levels.{level, levels, Fastest}
 use Rattle.levels.specs.Trusted.LevelTables.{FastestCoverTables}
-use Rattle.levels.specs.SameLaws.{split_level}
+use Rattle.levels.proofs.SameLaws.{split_level}
 
 -- ---- the greatest of some levels
 

@@ -8,9 +8,9 @@ use Rattle.tree.specs.Measures.{leaves}
 use Rattle.cover.specs.Trusted.Tables.{LookupTable, numbered}
 use Rattle.cover.specs.Eval.{numbered_is, numbered_one}
 use Rattle.cover.specs.Trusted.Placed.{root_number}
-use Rattle.cover.specs.Size.{SizedTable, fits_sized}
-use Rattle.cover.specs.Rising.{records_rising}
-use Rattle.cover.specs.Inputs.{Tidy, root_reads, root_in}
+use Rattle.cover.proofs.Size.{SizedTable, fits_sized}
+use Rattle.cover.proofs.Rising.{records_rising}
+use Rattle.cover.proofs.Inputs.{Tidy, root_reads, root_in}
 use Rattle.cover.specs.Trusted.CoverTables.{Circuit, CoverTables}
 use Rattle.cover.specs.Legal.{Legal}
 

@@ -8,7 +8,7 @@ use Rattle.cover.specs.Trusted.Tables.{LookupTable, numbered, settled}
 use Rattle.cover.specs.Eval.{numbered_append, settled_append, ValuesHold, uses}
 use Rattle.cover.specs.Trusted.CoverTables.{Circuit}
 use Rattle.cover.specs.History.{History, start, Met, add}
-use Rattle.cover.specs.CoverValueLaws.{new_low, new_holds, holds_met, old_holds}
+use Rattle.cover.proofs.CoverValueLaws.{new_low, new_holds, holds_met, old_holds}
 
 module _ (base K : ℕ) where
   -- no table uses a later one

@@ -13,7 +13,7 @@ use Rattle.plan.specs.Least.{least_is}
 use Rattle.levels.specs.Trusted.Levels.{Fastest}
 use Rattle.levels.specs.Gives.{fanins, size}
 use Rattle.levels.specs.Fill.{sum_of, tried, cell, at, tree_line}
-use Rattle.levels.specs.Found.{fastest_found}
+use Rattle.levels.proofs.Found.{fastest_found}
 
 -- two fanins, and a gate over two
 abbrev two : Node → Node → Edges

@@ -12,9 +12,9 @@ use Rattle.tree.specs.Measures.{leaves, leaves*}
 use Rattle.cover.specs.Trusted.Tables.{LookupTable, output, Placed, numbered, writes, run, settled}
 use Rattle.cover.specs.Eval.{Agree, output_same, driven_in, numbered_is, settled_append, ValuesHold, uses, Untouched, holds_on, run_holds}
 use Rattle.cover.specs.Trusted.Placed.{root_number}
-use Rattle.cover.specs.Value.{root_value_lem}
-use Rattle.cover.specs.Inputs.{Tidy}
-use Rattle.cover.specs.CoverTableLaws.{added_tidy}
+use Rattle.cover.proofs.Value.{root_value_lem}
+use Rattle.cover.proofs.Inputs.{Tidy}
+use Rattle.cover.proofs.CoverTableLaws.{added_tidy}
 use Rattle.cover.specs.Trusted.CoverTables.{Circuit, CoverTables, Fresh}
 use Rattle.cover.specs.Legal.{Legal}
 use Rattle.cover.specs.History.{Met}

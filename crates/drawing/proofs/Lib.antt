@@ -1,0 +1,3 @@
+pub mod Checks
+pub mod RoundTrip
+pub mod OneText

@@ -1,0 +1,11 @@
+pub mod CoverLevelLaws
+pub mod DemandLaws
+pub mod Fastest
+pub mod FillLaws
+pub mod Found
+pub mod LineLaws
+pub mod Over
+pub mod SameLaws
+pub mod TieLaws
+pub mod Under
+pub mod Worked

@@ -1,0 +1,3 @@
+pub mod GrownSheet
+pub mod Theorems
+pub mod Examples
