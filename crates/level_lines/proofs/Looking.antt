@@ -1,7 +1,6 @@
--- What is read of a fanin's lines: the row of a line, and the row at a bound, by cases. Assumes nothing.
-use Prim.Native.Nat.{ℕ, zero, suc, ◌+◌, ◌-◌, ◌≤◌, ◌<◌, min}
-use native.Mathlib.Omega.{arith}
-use mathlib.Core.Path.{◌≡◌, sym, ap, ◌∙◌}
+-- What is read of a fanin's lines: the row at a bound, by cases. Assumes nothing.
+use Prim.Native.Nat.{ℕ, ◌-◌, ◌≤◌, ◌<◌, min}
+use mathlib.Core.Path.{◌≡◌, sym}
 use mathlib.Core.List.{List}
 use lib.ListN.{get_or}
 use borrow.Author.Tests.{le-leb, lt-leb}
@@ -10,16 +9,6 @@ use Rattle.levels.specs.Lines.{look}
 use Rattle.level_arrays.specs.declared.Fans.{Fans}
 use Rattle.level_arrays.specs.Arrays.{big, line_at, fan_row}
 use Rattle.level_rows.specs.Rows.{pick_some}
-use Rattle.level_rows.specs.Runs.{RunWritten}
-
--- a row whose numbers from 1 on are those of a line
-pub line_row_entry : {old row : List ℕ} (store : List ℕ) (place : ℕ) → get_or old 0 big ≡ big → RunWritten old row 1 6 (λ v. get_or store (place + v) big) → (w : ℕ) → w ≤ 6 →
-    get_or row w big ≡ pick w big (get_or store (place + (w - 1)) big)
-line_row_entry store place e q zero l = q.before 0 (omega arith) ∙ e
-line_row_entry {row = row} store place e q (suc v) l =
-    let a : suc v ≡ 1 + v = omega arith in
-    let b : v ≡ suc v - 1 = omega arith in
-    ap (λ i. get_or row i big) a ∙ q.is v (omega arith) ∙ ap (λ i. get_or store (place + i) big) b
 
 -- the row at a bound: below the level, of a net, and of a gate
 module _ (store : List ℕ) (f : Fans) (ℓ h w : ℕ) where

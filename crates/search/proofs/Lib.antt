@@ -1,5 +1,4 @@
 pub mod Submasks
 pub mod Filling
 pub mod Writing
-pub mod Checks
 pub mod Planning

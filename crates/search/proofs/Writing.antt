@@ -74,10 +74,6 @@ module _ {K : ℕ} {bs ws us : List ℕ} {s : ℕ} {p : Plan} (w : Writable K bs
   own : {ks : List Key} → Entries K ks bs ws us (s + 1) → Entered K ks bs ws s (entry bs ws s) (get_or us s 0)
   own es = es.at s w.some (omega arith)
 
-  pub split_most : get_or us s 0 ≤ s
-  split_most =
-      by_cases (dec_lt 0 (get_or us s 0)) (λ l. let a = (own w.entries).apart l in omega (arith, a.1)) (λ l. omega arith)
-
   -- a single fanin's mask
   module _ (z : get_or us s 0 ≡ 0) where
     pub one_able : OneBit s × (p.len < most_steps)

@@ -1,170 +1,107 @@
 use Prim.Native.Nat.{ℕ, ◌+◌, ◌-◌, ◌≤◌, ◌<◌}
 use native.Mathlib.Omega.{arith}
 use mathlib.Core.Path.{◌≡◌, sym, ◌∙◌}
-use mathlib.Core.Bool.{true, false}
 use mathlib.Core.List.{List}
-use lib.ListN.{length, get_or, set, length-map, length-replicate}
+use lib.ListN.{length, get_or, length-replicate}
 use borrow.Author.Rules.{rules}
-use Rattle.sheet.specs.contracts.Gate.{the_field}
-use Rattle.sheet.specs.contracts.Edge.{the_field as edge-field}
 use Rattle.sheet.specs.declared.Edge.{Edge}
 use Rattle.sheet.specs.declared.Gate.{Gate}
 use Rattle.sheet.specs.declared.Sheet.{Sheet}
 use Rattle.sheet.specs.Trusted.Limits.{most_gates, fanin_room}
 use Rattle.sheet.specs.Trusted.Answers.{drawn_gate, drawn_sheet}
 use Rattle.sheet.specs.PlaceLaws.{no_sheet_gate, no_edge, sheet_gates, few_gates, sheet_gate, gate_counted, gate_reads, fanin_placed, fanin_reads, edge_drawn}
+use Rattle.sheet.specs.Trusted.Formed.{WellFormed}
 use Rattle.sheet.specs.Trusted.Sheet.{fanin_gates}
 use Rattle.lists.specs.Trusted.Lists.{Every}
-use Rattle.tree.specs.Trusted.Limits.{most_fanins}
-use Rattle.gate_fanins.specs.Fanins.{place_in}
-use Rattle.joiner_laws.specs.declared.JoinedGate.{JoinedGate}
-use Rattle.joiner_laws.specs.Joining.{with_edge, FaninsAdded, no_joined_gate, GatesJoining, FaninsJoining}
-use Rattle.joiner_laws.specs.JoiningLaws.{fanins_start, next_fits, edge_kept, join_room, edge_joined, gate_joined, joining_start, joining_end}
+use Rattle.joiner_laws.specs.JoiningLaws.{fanins_start, edge_kept, edge_joined, gate_joined, joining_start, joining_end}
 use Rattle.gate_joiner.proofs.join_gates.Goals as goal
-use Rattle.gate_joiner.proofs.join_gates.Goals.{After-joins, In-loop-g, In-loop-i, Start}
+use Rattle.gate_joiner.proofs.join_gates.Goals.{In-loop-i}
 
--- a sheet's arrays, and its count in a byte: their types say so
-gates_room : (s : Start) → length s.args.sheet.gates ≡ most_gates
-gates_room s = search rules
+-- a gate's turn, in a sheet whose arrays are as long as their types say
+record Turn (sheet : Sheet) (g : ℕ) : Type 0 where
+  formed : WellFormed (drawn_sheet sheet)
+  gates : length sheet.gates ≡ most_gates
+  fanins : length sheet.fanins ≡ fanin_room
+  few : sheet.count ≤ most_gates
+  inside : g < sheet.count
 
-fanins_room : (s : Start) → length s.args.sheet.fanins ≡ fanin_room
-fanins_room s = search rules
+abbrev gate_in : Sheet → ℕ → Gate
+gate_in sheet g = get_or sheet.gates g no_sheet_gate
 
-gates_most : (s : Start) → s.args.sheet.count ≤ most_gates
-gates_most s = search rules
+abbrev fanins_in : Sheet → ℕ → List Edge
+fanins_in sheet g = (drawn_gate sheet.fanins (gate_in sheet g)).fanins
 
--- a gate's turn
-module _ (c : In-loop-g) where
-  abbrev start : tie.Start invariant-loop2 decreases-loop2 invariant-loop decreases-loop
-  start = (PLACE Start)
+abbrev edge_in : Sheet → ℕ → ℕ → Edge
+edge_in sheet g i = get_or sheet.fanins ((gate_in sheet g).first + i) no_edge
 
-  abbrev sheet : Sheet
-  sheet = start.args.t1
+module _ (sheet : Sheet) (g : ℕ) (t : Turn sheet g) where
+  reads : Every (λ j. (1 ≤ j) × (j ≤ g)) (fanin_gates (fanins_in sheet g))
+  reads = gate_reads sheet t.formed t.gates t.few t.inside
 
-  abbrev g : ℕ
-  g = c.loop-g.g
+  few : length (drawn_sheet sheet).gates ≤ most_gates
+  few = few_gates sheet t.formed t.gates t.few
 
-  abbrev gate : Gate
-  gate = get_or sheet.gates g no_sheet_gate
+  module _ (i : ℕ) (l : i < length (fanins_in sheet g)) where
+    placed : (gate_in sheet g).first + i < fanin_room
+    placed = fanin_placed sheet t.formed t.gates t.few t.inside l t.fanins
+
+    edge_is : get_or (fanins_in sheet g) i no_edge ≡ edge_in sheet g i
+    edge_is = edge_drawn sheet.fanins (gate_in sheet g) l
 
 -- a fanin's turn
-module _ (c : In-loop-i) where
-  abbrev counted : tie.After-fanin-count invariant-loop2 decreases-loop2 invariant-loop decreases-loop
-  counted = (PLACE After-fanin_count-count)
+turn : (c : In-loop-i) → Turn c.args.sheet c.loop-g.g
+turn c = record { formed = c.requires; gates = search rules; fanins = search rules; few = search rules; inside = c.loop-g-test.true }
 
-  abbrev turn : tie.In-loop invariant-loop2 decreases-loop2 invariant-loop decreases-loop
-  turn = counted.before.before.before
+count_is : (c : In-loop-i) → c.fanin_count-count.result ≡ length (fanins_in c.args.sheet c.loop-g.g)
+count_is c = c.fanin_count-count.ensures c.args.sheet.fanins (search rules)
 
-  abbrev s : tie.Start invariant-loop2 decreases-loop2 invariant-loop decreases-loop
-  s = start turn
+i_inside : (c : In-loop-i) → c.loop-i.i < length (fanins_in c.args.sheet c.loop-g.g)
+i_inside c = omega (arith, count_is c, c.loop-i-test.true)
 
-  abbrev i : ℕ
-  i = c.loop-i.i
-
-  abbrev fanins : List Edge
-  fanins = (drawn_gate (sheet turn).fanins (gate turn)).fanins
-
-  count_is : counted.fanin_count_lem.result ≡ length fanins
-  count_is = counted.fanin_count_lem.ensures (sheet turn).fanins (fanins_room s)
-
-  i_inside : i < length fanins
-  i_inside = omega (arith, count_is, c.loop-i-test.true)
-
-  placed : (gate turn).first + i < fanin_room
-  placed = fanin_placed (sheet turn) s.pre (gates_room s) (gates_most s) turn.loop-test.taken i_inside (fanins_room s)
-
-  others_few : c.loop-i.x.count + (counted.fanin_count_lem.result - 1 - i) ≤ 10
-  others_few = omega (arith, count_is, c.loop-i.invariant.fits, c.loop-i.invariant.gate.count)
-
--- when it was asked whether the fanin is joined
-module _ (c : After-joins) where
-  abbrev t : tie.In-loop2 invariant-loop2 decreases-loop2 invariant-loop decreases-loop
-  t = (PLACE In-loop-i)
-
-  reads : Every (λ j. (1 ≤ j) × (j ≤ g (turn t))) (fanin_gates (fanins t))
-  reads = gate_reads (sheet (turn t)) (s t).pre (gates_room (s t)) (gates_most (s t)) (turn t).loop-test.taken
-
-  few : length (drawn_sheet (sheet (turn t))).gates ≤ most_gates
-  few = few_gates (sheet (turn t)) (s t).pre (gates_room (s t)) (gates_most (s t))
-
-  abbrev edge : Edge
-  edge = get_or (sheet (turn t)).fanins ((gate (turn t)).first + i t) no_edge
-
-  edge_is : get_or (fanins t) (i t) no_edge ≡ edge
-  edge_is = edge_drawn (sheet (turn t)).fanins (gate (turn t)) (i_inside t)
-
-  abbrev others : ℕ
-  others = t.before.loop2.x.count + ((counted t).fanin_count_lem.result - 1 - i t)
-
-  beside : others ≡ t.before.loop2.x.count + (length (fanins t) - 1 - i t)
-  beside = omega (arith, count_is t)
-
-  abbrev at : ℕ
-  at = c.place_of-at.result
-
-  place : at ≡ place_in edge.source
-  place = c.place_of-at.ensures.0
-
-  -- whether it is
-  kept : c.joins.result ≡ false →
-      FaninsJoining (drawn_sheet (sheet (turn t))).gates (g (turn t)) (drawn_gate (sheet (turn t)).fanins (gate (turn t))) (turn t).before.loop.joined (i t + 1)
-      (with_edge t.before.loop2.x edge) t.before.loop2.gone
-  kept e = edge_kept t.before.loop2.inv (i_inside t) reads edge_is beside place (sym c.joins.ensures ∙ e)
-
-  room : c.joins.result ≡ true → t.before.loop2.x.count + (get_or (turn t).before.loop.joined at no_joined_gate).count ≤ most_fanins
-  room e = join_room t.before.loop2.inv (i_inside t) reads edge_is beside place (sym c.joins.ensures ∙ e)
-
-  joined : c.joins.result ≡ true → {y : JoinedGate} → FaninsAdded t.before.loop2.x edge.inverted (get_or (turn t).before.loop.joined at no_joined_gate) y →
-      FaninsJoining (drawn_sheet (sheet (turn t))).gates (g (turn t)) (drawn_gate (sheet (turn t)).fanins (gate (turn t))) (turn t).before.loop.joined (i t + 1)
-      y (set t.before.loop2.gone at true)
-  joined e made = edge_joined t.before.loop2.inv (i_inside t) reads edge_is beside place (sym c.joins.ensures ∙ e) made few
+beside : (c : In-loop-i) → let n = c.loop-i.x.count in
+    n + (c.fanin_count-count.result - 1 - c.loop-i.i) ≡ n + (length (fanins_in c.args.sheet c.loop-g.g) - 1 - c.loop-i.i)
+beside c = omega (arith, count_is c)
 
 pub loop-g-init : goal.loop-g-init
 loop-g-init c = joining_start (drawn_sheet c.args.sheet).gates _ (length-replicate most_gates c.begin-none.result)
 
 pub loop-i-init : goal.loop-i-init
 loop-i-init c =
-    let s = start (goal.at.loop-i-init c).In-loop-g in
-    fanins_start c.loop-g.invariant (omega (arith, c.loop-g-test.true, sheet_gates (sheet (goal.at.loop-i-init c).In-loop-g) s.pre (gates_room s) (gates_most s)))
-    (sheet_gate (sheet (goal.at.loop-i-init c).In-loop-g) s.pre (gates_room s) (gates_most s) c.loop-g-test.true) (gate_counted (sheet (goal.at.loop-i-init c).In-loop-g) s.pre (gates_room s) (gates_most s) c.loop-g-test.true) c.begin-x.ensures
-
-pub overflow_add-edge : goal.overflow_add-edge
-overflow_add-edge c = omega (arith, placed c)
-
-pub offset_bounds-sheet-first : goal.offset_bounds-sheet-first
-offset_bounds-sheet-first c = omega (arith, placed c)
+    let sheet = c.args.sheet in
+    fanins_start c.loop-g.invariant (omega (arith, c.loop-g-test.true, sheet_gates sheet c.requires (search rules) (search rules)))
+    (sheet_gate sheet c.requires (search rules) (search rules) c.loop-g-test.true) (gate_counted sheet c.requires (search rules) (search rules) c.loop-g-test.true) c.begin-x.ensures
 
 pub bounds-sheet-first : goal.bounds-sheet-first
-bounds-sheet-first c = placed c
+bounds-sheet-first c = let at = (goal.at.bounds-sheet-first c).In-loop-i in placed c.args.sheet c.loop-g.g (turn at) c.loop-i.i (i_inside at)
 
 pub place_of-at-requires : goal.place_of-at-requires
-place_of-at-requires c = fanin_reads (sheet (turn (goal.at.place_of-at-requires c).In-loop-i)) (s (goal.at.place_of-at-requires c).In-loop-i).requires (gates_room (s (goal.at.place_of-at-requires c).In-loop-i)) (gates_most (s (goal.at.place_of-at-requires c).In-loop-i)) (turn (goal.at.place_of-at-requires c).In-loop-i).loop-test.true (i_inside (goal.at.place_of-at-requires c).In-loop-i)
-
-pub overflow_add-others : goal.overflow_add-others
-overflow_add-others c = record { fits = omega (arith, others_few (goal.at.overflow_add-others c).In-loop-i) }
-
-pub joins-requires : goal.joins-requires
-joins-requires c = omega (arith, others_few (goal.at.joins-requires c).In-loop-i)
-
-pub with_fanins-x-requires : goal.with_fanins-x-requires
-with_fanins-x-requires c = room (goal.at.with_fanins-x-requires c).After-joins c.if-joins.true
+place_of-at-requires c =
+    let at = (goal.at.place_of-at-requires c).In-loop-i in
+    let t = turn at in
+    fanin_reads c.args.sheet t.formed t.gates t.few t.inside (i_inside at)
 
 pub loop-i-preserved-then-joins : goal.loop-i-preserved-then-joins
-loop-i-preserved-then-joins c = joined (goal.at.loop-i-preserved-then-joins c).After-joins c.if-joins.true c.with_fanins-x.ensures
-
-pub with_fanin-x-requires : goal.with_fanin-x-requires
-with_fanin-x-requires c =
-    next_fits (t (goal.at.with_fanin-x-requires c).After-joins).before.loop2.invariant (i_inside (t (goal.at.with_fanin-x-requires c).After-joins)) (reads (goal.at.with_fanin-x-requires c).After-joins) (edge_is (goal.at.with_fanin-x-requires c).After-joins) (beside (goal.at.with_fanin-x-requires c).After-joins) (place (goal.at.with_fanin-x-requires c).After-joins)
+loop-i-preserved-then-joins c =
+    let at = (goal.at.loop-i-preserved-then-joins c).In-loop-i in
+    let sheet = c.args.sheet in
+    let g = c.loop-g.g in
+    let l = i_inside at in
+    edge_joined c.loop-i.invariant l (reads sheet g (turn at)) (edge_is sheet g (turn at) c.loop-i.i l) (beside at) c.place_of-at.ensures.0 (sym c.joins.ensures ∙ c.if-joins.true)
+    c.with_fanins-x.ensures (few sheet g (turn at))
 
 pub loop-i-preserved : goal.loop-i-preserved
-loop-i-preserved c = rw c.with_fanin-x.ensures (kept (goal.at.loop-i-preserved c).After-joins c.if-joins.false)
+loop-i-preserved c =
+    let at = (goal.at.loop-i-preserved c).In-loop-i in
+    let sheet = c.args.sheet in
+    let g = c.loop-g.g in
+    let l = i_inside at in
+    rw c.with_fanin-x.ensures
+    (edge_kept c.loop-i.invariant l (reads sheet g (turn at)) (edge_is sheet g (turn at) c.loop-i.i l) (beside at) c.place_of-at.ensures.0 (sym c.joins.ensures ∙ c.if-joins.false))
 
 pub loop-g-preserved : goal.loop-g-preserved
 loop-g-preserved c =
-    let s = start (goal.at.loop-g-preserved c).In-loop-g in
-    gate_joined c.loop-i.invariant (omega (arith, c.fanin_count-count.ensures (sheet (goal.at.loop-g-preserved c).In-loop-g).fanins (fanins_room s), c.loop-i-test.false))
-    (few_gates (sheet (goal.at.loop-g-preserved c).In-loop-g) s.pre (gates_room s) (gates_most s))
+    gate_joined c.loop-i.invariant (omega (arith, c.fanin_count-count.ensures c.args.sheet.fanins (search rules), c.loop-i-test.false))
+    (few_gates c.args.sheet c.requires (search rules) (search rules))
 
 pub returns : goal.returns
-returns c =
-    joining_end c.loop-g.invariant (omega (arith, c.loop-g-test.false, sheet_gates c.args.sheet c.requires (gates_room (goal.at.returns c).Start) (gates_most (goal.at.returns c).Start)))
+returns c = joining_end c.loop-g.invariant (omega (arith, c.loop-g-test.false, sheet_gates c.args.sheet c.requires (search rules) (search rules)))

@@ -1,11 +1,10 @@
 use Prim.Native.Nat.{ℕ, ◌+◌, ◌<◌, ◌≤◌}
 use native.Mathlib.Omega.{arith}
-use mathlib.Core.Path.{◌≡◌, refl}
-use lib.ListN.{length, get_or, drop, length-take, length-drop}
-use lib.Seq.{take_all}
+use mathlib.Core.Path.{◌≡◌}
+use lib.ListN.{length, get_or}
 use borrow.Author.Rules.{rules}
 use Rattle.sheet.specs.declared.Source.TheVariants.{Net, Gate}
-use Rattle.sheet.specs.Trusted.Limits.{most_gates, fanin_room}
+use Rattle.sheet.specs.Trusted.Limits.{most_gates}
 use Rattle.sheet.specs.Trusted.Answers.{drawn_gate}
 use Rattle.sheet.specs.PlaceLaws.{no_edge}
 use Rattle.level_sheets.specs.Lined.{net_level}
@@ -28,7 +27,7 @@ net c = net_placed c.args.fanins c.args.gate (inside c).0 c.requires
 gate : (c : In-loop-i) {j : ℕ} → (get_or c.args.fanins (c.args.gate.first + c.loop-i.i) no_edge).source ≡ Gate j → (1 ≤ j) × (j ≤ most_gates)
 gate c = gate_placed c.args.fanins c.args.gate (inside c).0 c.requires
 
--- ----
+-- ---- the goals
 
 pub bounds-levels-at : goal.bounds-levels-at
 bounds-levels-at c = net (goal.at.bounds-levels-at c).In-loop-i c.in-Net.is

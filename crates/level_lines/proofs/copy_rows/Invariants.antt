@@ -1,3 +1,4 @@
+-- The invariant: the first i bytes are copied. The measure is what is left of them.
 use Prim.Native.Nat.{◌-◌, ◌≤◌}
 use lib.ListN.{get_or}
 use Rattle.level_arrays.specs.Arrays.{big}

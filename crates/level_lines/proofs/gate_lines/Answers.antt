@@ -9,7 +9,7 @@ use Rattle.plan.specs.Limits.{masks}
 use Rattle.lists.specs.ListLaws.{get_d_any}
 use Rattle.level_arrays.specs.Arrays.{big, line_at, start_at, SearchStill, LinesKept}
 use Rattle.level_rows.specs.Runs.{RunWritten}
-use Rattle.level_lines.proofs.Lining.{all_big, LinesSo, bounds_start, bounds_likened, bounds_turn, bounds_keep, bounds_done, Lining, greatest_low, change_above, fans_stored}
+use Rattle.level_lines.proofs.Lining.{all_big, LinesSo, bounds_start, bounds_likened, bounds_turn, bounds_keep, bounds_done, Lining, change_above}
 use Rattle.level_lines.proofs.gate_lines.Goals as goal
 use Rattle.level_lines.proofs.gate_lines.Goals.{After-fill_like-end, After-keep_line, After-lift, then-a-steps, else-a-steps, then-bound-a+else-one-count+else-stands_still+else-count-eq256, else-bound-a}
 

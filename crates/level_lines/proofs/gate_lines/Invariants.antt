@@ -1,3 +1,5 @@
+-- The invariant: every bound below the next has its array, and every one of them from the greatest level on its line. The measure is what is left of
+-- the bounds.
 use Prim.Native.Nat.{◌+◌, ◌-◌}
 use Rattle.level_lines.proofs.Lining.{Lining}
 use Rattle.level_lines.proofs.gate_lines.Given as goal

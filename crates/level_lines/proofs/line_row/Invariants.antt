@@ -1,3 +1,4 @@
+-- The invariant: the first w numbers are written. The measure is what is left of the line.
 use Prim.Native.Nat.{◌+◌, ◌-◌, ◌≤◌}
 use lib.ListN.{get_or}
 use Rattle.level_arrays.specs.Arrays.{big}

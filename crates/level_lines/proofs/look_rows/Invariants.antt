@@ -1,3 +1,4 @@
+-- The invariant: the first h fanins have their rows. The measure is what is left of the fanins.
 use Prim.Native.Nat.{ℕ, ◌+◌, ◌-◌, ◌*◌, ◌≤◌, ◌<◌}
 use mathlib.Core.Path.{◌≡◌}
 use lib.ListN.{length, get_or}

@@ -1,15 +1,12 @@
-use Prim.Native.Nat.{ℕ, ◌+◌, ◌-◌, ◌≤◌, ◌<◌}
-use native.Mathlib.Omega.{arith}
-use mathlib.Core.Path.{◌≡◌, refl, sym, ◌∙◌}
-use borrow.Author.Rules.{rules}
-use lib.ListN.{length, get_or, set, replicate, length-map, length-set}
-use lib.Seq.{get_or-set_same}
-use Rattle.sheet.specs.contracts.Gate.{the_field}
+-- The invariant: the gates passed have their plans, what they read is asked, and so is the root what it was at first. The measure is the number of
+-- gates left.
+use Prim.Native.Nat.{◌≤◌}
+use mathlib.Core.Path.{◌≡◌}
+use lib.ListN.{length, get_or}
 use Rattle.sheet.specs.Trusted.Limits.{most_gates}
 use Rattle.sheet.specs.Trusted.Answers.{drawn_sheet}
 use Rattle.level_sheets.specs.Lined.{net_level}
 use Rattle.level_sheets.specs.Asking.{Asking}
-use Rattle.level_mapping.specs.FastLaws.{fast_reach, plan_good, plan_apart, plan_back, plan_more, plan_low, plan_root, some_gate, first_had, first_low, choose_start, plans_chosen}
 use Rattle.level_mapper.proofs.choose_plans.Given as goal
 
 abbrev pub invariant-loop-g : goal.invariant-loop-g

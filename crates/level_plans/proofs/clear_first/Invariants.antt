@@ -1,3 +1,4 @@
+-- The invariant: i places are cleared. The measure is how many are left.
 use Prim.Native.Nat.{◌-◌, ◌≤◌}
 use Rattle.level_arrays.specs.Arrays.{big}
 use Rattle.level_rows.specs.Runs.{RunWritten}

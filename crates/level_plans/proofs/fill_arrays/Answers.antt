@@ -1,21 +1,13 @@
 use Prim.Native.Nat.{◌+◌, ◌^◌, ◌≤◌}
 use native.Mathlib.Omega.{arith}
 use native.Mathlib.Numerals.{add-one}
-use mathlib.Core.Path.{◌≡◌, refl, ◌∙◌}
+use mathlib.Core.Path.{◌∙◌}
 use lib.Pow.{pow_mono}
 use Rattle.plan.specs.Limits.{masks}
 use Rattle.level_arrays.specs.AlikeLaws.{searched_likened}
 use Rattle.level_plans.proofs.Ranging.{ranged_next}
 use Rattle.level_plans.proofs.fill_arrays.Goals as goal
-use Rattle.level_plans.proofs.fill_arrays.Goals.{At-loop-i, Start}
-
-pub like_masks-end-requires : goal.like_masks-end-requires
-like_masks-end-requires c = (c.requires.fans.count, refl)
-
-pub loop-i-init : goal.loop-i-init
-loop-i-init c =
-    let p = c.requires in
-    (p.started, omega arith, refl, refl)
+use Rattle.level_plans.proofs.fill_arrays.Goals.{At-loop-i}
 
 -- the masks end within their room
 ended : (d : At-loop-i) → d.like_masks-end.result ≤ masks
@@ -28,11 +20,6 @@ lift-requires c =
     let p = c.requires in
     let v = c.loop-i.invariant in
     (p.some.table.1, ended (goal.at.lift-requires c).At-loop-i, v.3, omega (arith, v.0.room, p.few.1))
-
-pub look_rows-requires : goal.look_rows-requires
-look_rows-requires c =
-    let p = c.requires in
-    (p.fans, p.room, c.loop-i.invariant.2)
 
 pub fill_like-requires : goal.fill_like-requires
 fill_like-requires c =
@@ -64,9 +51,3 @@ loop-i-preserved c =
       c.look_rows.ensures.room ∙ v.2,
       c.lift.ensures.0,
     )
-
-pub returns : goal.returns
-returns c =
-    let v = c.loop-i.invariant in
-    let e : c.loop-i.i ≡ c.args.top = omega arith in
-    (c.like_masks-end.ensures.2, rw e at v.0)

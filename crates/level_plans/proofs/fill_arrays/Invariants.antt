@@ -1,3 +1,4 @@
+-- The invariant: i arrays are filled. The measure is how many are left.
 use Prim.Native.Nat.{◌-◌, ◌≤◌}
 use mathlib.Core.Path.{◌≡◌}
 use lib.ListN.{length}

@@ -1,3 +1,4 @@
+-- The invariant: no submask passed makes the entry. The measure is the submask that is next.
 use Rattle.level_plans.proofs.Halving.{SubmasksPassed}
 use Rattle.level_plans.proofs.halves_of.Given as goal
 

@@ -1,15 +1,11 @@
 use Prim.Native.Nat.{◌<◌}
 use native.Mathlib.Omega.{arith}
 use native.Mathlib.Numerals.{add-one}
-use mathlib.Core.Path.{◌≡◌}
 use lib.Pow.{pow-lt}
 use Rattle.plan.specs.Limits.{masks}
-use Rattle.level_plans.proofs.Starting.{singles_none, singles_more}
+use Rattle.level_plans.proofs.Starting.{singles_more}
 use Rattle.level_plans.proofs.put_singles.Goals as goal
 use Rattle.level_plans.proofs.put_singles.Goals.{In-loop-h}
-
-pub loop-h-init : goal.loop-h-init
-loop-h-init c = (singles_none, omega arith, omega arith)
 
 -- the bit is below that of a tenth fanin
 bit_low : (c : In-loop-h) → c.loop-h.b < masks
@@ -17,26 +13,10 @@ bit_low c =
     let l : c.loop-h.h < 10 = omega arith in
     omega (arith, pow-lt l)
 
-pub overflow_mul-b : goal.overflow_mul-b
-overflow_mul-b c = omega (arith, bit_low (goal.at.overflow_mul-b c).In-loop-h)
-
-pub look-requires : goal.look-requires
-look-requires c =
-    let p = c.requires in
-    (p.0.each c.loop-h.h (omega arith), p.1)
-
 pub put_row-requires : goal.put_row-requires
 put_row-requires c = omega (arith, bit_low (goal.at.put_row-requires c).In-loop-h, c.loop-h.invariant.0.room, c.requires.2)
-
-pub overflow_add-b : goal.overflow_add-b
-overflow_add-b c = omega (arith, bit_low (goal.at.overflow_add-b c).In-loop-h)
 
 pub loop-h-preserved : goal.loop-h-preserved
 loop-h-preserved c =
     let v = c.loop-h.invariant in
     (singles_more v.0 v.1 c.put_row.ensures c.look.ensures, rw (add-one c.loop-h.h) (omega arith), omega arith)
-
-pub returns : goal.returns
-returns c =
-    let e : c.loop-h.h ≡ c.args.f.count = omega arith in
-    rw e at c.loop-h.invariant.0

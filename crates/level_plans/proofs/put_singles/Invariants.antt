@@ -1,3 +1,4 @@
+-- The invariant: the rows of h fanins are put in, and b is the bit of the next. The measure is how many are left.
 use Prim.Native.Nat.{◌-◌, ◌^◌, ◌≤◌}
 use mathlib.Core.Path.{◌≡◌}
 use Rattle.level_plans.specs.Ranges.{SinglesPut}

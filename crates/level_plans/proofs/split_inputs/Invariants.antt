@@ -1,3 +1,4 @@
+-- The invariant: no number of inputs passed gives the sum. The measure is how many are left.
 use Prim.Native.Nat.{ℕ, ◌-◌, ◌≤◌, ◌<◌}
 use mathlib.Core.Logic.{◌≢◌}
 use Rattle.level_plans.specs.Backing.{row_sum}

@@ -1,3 +1,4 @@
+-- The invariant: b is a bit, and not above the mask. The measure is what is left up to the mask.
 use Prim.Native.Nat.{ℕ, ◌-◌, ◌^◌, ◌≤◌}
 use mathlib.Core.Path.{◌≡◌}
 use Rattle.level_plans.proofs.top_bit.Given as goal

@@ -1,10 +1,9 @@
-use Prim.Native.Nat.{◌≤◌, ◌<◌}
-use native.Mathlib.Omega.{arith}
+use Prim.Native.Nat.{◌≤◌}
 use mathlib.Core.Path.{◌≡◌, refl}
 use lib.ListN.{length}
 use borrow.Author.Rules.{rules}
 use Rattle.sheet.specs.Trusted.Limits.{most_gates}
-use Rattle.mapper_laws.specs.SheetLaws.{some_gates, step_reaches, end_room}
+use Rattle.mapper_laws.specs.SheetLaws.{step_reaches, end_room}
 use Rattle.level_mapping.specs.PlanSheetLaws.{plan_start, plan_runnable, plan_room, plan_next, plan_end}
 use Rattle.plan_runner.proofs.map_by_plans.Goals as goal
 use Rattle.plan_runner.proofs.map_by_plans.Goals.{In-loop-g, Start}

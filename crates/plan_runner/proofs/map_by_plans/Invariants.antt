@@ -1,14 +1,6 @@
-use Prim.Native.Nat.{◌-◌, ◌≤◌, ◌<◌}
-use native.Mathlib.Omega.{arith}
-use mathlib.Core.Path.{◌≡◌, refl, sym, ◌∙◌}
-use lib.ListN.{length, length-map}
-use borrow.Author.Rules.{rules}
-use Rattle.sheet.specs.contracts.Gate.{the_field}
-use Rattle.sheet.specs.Trusted.Limits.{most_gates}
+use Prim.Native.Nat.{◌-◌}
 use Rattle.sheet.specs.Trusted.Answers.{drawn_sheet}
-use Rattle.mapper_laws.specs.SheetLaws.{some_gates, step_reaches, end_room}
 use Rattle.level_mapping.specs.PlanMapped.{PlanGoing}
-use Rattle.level_mapping.specs.PlanSheetLaws.{plan_start, plan_runnable, plan_room, plan_next, plan_end}
 use Rattle.plan_runner.proofs.map_by_plans.Given as goal
 
 abbrev pub invariant-loop-g : goal.invariant-loop-g

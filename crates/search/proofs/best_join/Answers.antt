@@ -1,9 +1,7 @@
 use mathlib.Core.Path.{sym, ◌∙◌}
 use native.Mathlib.Omega.{arith}
-use lib.Bits.{and_self}
 use borrow.Author.Tests.{eqb-true}
-use Rattle.plan.specs.MaskLaws.{within_le, next_less}
-use Rattle.search.proofs.Submasks.{joinable_at, made_joined, made_least, tried_first, tried_stay, tried_take, tried_last}
+use Rattle.search.proofs.Submasks.{made_joined, made_least, tried_first, tried_stay, tried_take, tried_last}
 use Rattle.search.proofs.best_join.Goals as goal
 use Rattle.search.proofs.best_join.Goals.{then-precedes, else-precedes, then-loop-u-test+else-not-met, else-loop-u-test}
 

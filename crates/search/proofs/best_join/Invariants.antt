@@ -1,3 +1,5 @@
+-- The invariant: the key is made by a submask and is no worse than the join by any submask passed, and its volume is the bound where the flag says
+-- so. The measure is the submask that is next.
 use mathlib.Core.Path.{◌≡◌}
 use mathlib.Core.Bool.{true}
 use Rattle.plan.specs.Volume.{volume}

@@ -1,11 +1,10 @@
 use mathlib.Core.Path.{◌≡◌, refl, sym, ap, ◌∙◌}
 use mathlib.Core.Bool.{true}
 use Prim.Native.Nat.{◌^◌}
-use native.Mathlib.Omega.{arith}
 use lib.ListN.{length, take}
 use Rattle.plan.specs.Entries.{GoodKeys}
 use Rattle.plan.specs.PlanOf.{good_input}
-use Rattle.search.proofs.Planning.{whole_place, whole_writable, whole_answer, plan_keys, plan_refused, plan_found}
+use Rattle.search.proofs.Planning.{whole_place, whole_writable, whole_answer, plan_keys, plan_found}
 use borrow.Author.Rules.{rules}
 use Rattle.search.proofs.best_plan.Goals as goal
 use Rattle.search.proofs.best_plan.Goals.{After-fill-end, Else-not-is_good}

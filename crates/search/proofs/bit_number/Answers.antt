@@ -3,9 +3,7 @@ use native.Mathlib.Omega.{arith}
 use native.Mathlib.Numerals.{add-one}
 use native.Mathlib.Decide.{dec_lt}
 use mathlib.Core.Logic.{by_cases}
-use lib.Pow.{pow_pos, pow_mono, pow-lt}
-use Rattle.plan.specs.Limits.{masks}
-use Rattle.plan.specs.Entries.{OneBit}
+use lib.Pow.{pow_mono}
 use Rattle.search.proofs.bit_number.Goals as goal
 
 -- a bit below another, and the one after it

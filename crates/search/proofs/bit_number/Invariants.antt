@@ -1,3 +1,4 @@
+-- The invariant: b is the bit of the number h, and not above the mask. The measure is what is left up to the mask.
 use Prim.Native.Nat.{◌-◌, ◌^◌, ◌≤◌, ◌<◌}
 use mathlib.Core.Path.{◌≡◌}
 use Rattle.tree.specs.Trusted.Limits.{most_fanins}

@@ -1,8 +1,8 @@
-use Prim.Native.Nat.{◌^◌, ◌≤◌, ◌<◌}
-use mathlib.Core.Path.{◌≡◌, ap, ◌∙◌}
+use Prim.Native.Nat.{◌≤◌, ◌<◌}
+use mathlib.Core.Path.{◌≡◌}
 use native.Mathlib.Omega.{arith}
 use lib.ListN.{get_or, take}
-use Rattle.search.proofs.Filling.{Place, taken_at, filling_first, fanin_joined, filling_one, place_one, place_join, least_fits, filling_split, filling_join}
+use Rattle.search.proofs.Filling.{Place, taken_at, fanin_joined, filling_one, place_one, place_join, least_fits, filling_split, filling_join}
 use Rattle.plan.specs.declared.Key.{Key}
 use Rattle.plan.specs.Key.{leaf_key}
 use Rattle.tree.specs.Trusted.Limits.{most_fanins}

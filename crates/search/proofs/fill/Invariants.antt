@@ -1,3 +1,4 @@
+-- The invariant: every mask below s has its entry. The measure is what is left of the masks.
 use Prim.Native.Nat.{◌-◌, ◌^◌}
 use lib.ListN.{take}
 use Rattle.search.proofs.Filling.{Filling}

@@ -9,7 +9,7 @@ use Rattle.sheet.specs.PlaceLaws.{no_sheet_gate}
 use Rattle.level_arrays.specs.Arrays.{FansGood}
 use Rattle.level_arrays.specs.declared.Fans.{Fans}
 use Rattle.level_sheets.specs.Lined.{FansOf, net_level}
-use Rattle.level_mapping.specs.FastLaws.{fast_reach, fast_good, fast_more, rooms_more, fast_start_lem, fast_found}
+use Rattle.level_mapping.specs.FastLaws.{fast_reach, fast_good, fast_more, rooms_more, fast_found}
 use Rattle.sheet_lines.proofs.find_lines.Goals as goal
 use Rattle.sheet_lines.proofs.find_lines.Goals.{In-loop-g, Start}
 

@@ -1,3 +1,4 @@
+-- The invariant: the lines of the gates passed are there. The measure is what is left of the gates.
 use Prim.Native.Nat.{◌-◌}
 use Rattle.sheet.specs.Trusted.Answers.{drawn_sheet}
 use Rattle.level_sheets.specs.Lined.{Lined, net_level}

@@ -1,3 +1,4 @@
+-- The invariant: no line passed has an entry for k inputs. The measure is what is left of the lines.
 use Prim.Native.Nat.{ℕ, ◌+◌, ◌-◌, ◌≤◌, ◌<◌}
 use mathlib.Core.Path.{◌≡◌}
 use Rattle.level_arrays.specs.Arrays.{big, line_at}

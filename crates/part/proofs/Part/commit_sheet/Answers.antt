@@ -26,7 +26,7 @@ use Rattle.part.proofs.Part.commit_sheet.Goals.{After-offer-added, After-read-re
 pub returns-in-Refused : goal.returns-in-Refused
 returns-in-Refused c =
     let a = c.args in
-    subst (λ r. (ts : List Try) × Committed a.self a.text.now (adding_result (goal.at.returns-in-Refused c).After-read-reading ts)) (sym c.refused.ensures)
+    subst (λ r. (ts : List Try) × Committed a.self a.text.now (adding_result r ts)) (sym c.refused.ensures)
     (_, commit_misread a.self a.text.now c.requires.0 (number_of c.in-Refused.why) c.in-Refused.line (reading_is a.text.now c.read-reading.result c.read-reading.ensures c.in-Refused.is))
 
 -- the sheet that was read
@@ -37,7 +37,7 @@ sheet_read c =
 pub returns-then-sheet-reservation : goal.returns-then-sheet-reservation
 returns-then-sheet-reservation c =
     let a = c.args in
-    subst (λ r. (ts : List Try) × Committed a.self a.text.now (adding_result (goal.at.returns-then-sheet-reservation c).After-read-reading ts)) (sym c.refused-then-sheet-reservation.ensures)
+    subst (λ r. (ts : List Try) × Committed a.self a.text.now (adding_result r ts)) (sym c.refused-then-sheet-reservation.ensures)
     ([], commit_other a.self a.text.now c.requires.0 (drawn_sheet c.read-reading.result.sheet) (sheet_read (goal.at.returns-then-sheet-reservation c).In_default) c.if-sheet-reservation.true)
 
 -- and it is well formed
@@ -72,8 +72,8 @@ returns-in_default-why c =
     let a = c.args in
     let q = c.offer-added.result.part in
     let o = Offer least (released a.self) (circuit_of c.read-reading.result.sheet) q in
-    let (number, place, i) = refusal c.offer-added.result.answer (λ e. miss (1 ∷ 2 ∷ 3 ∷ 4 ∷ 5 ∷ 6 ∷ 7 ∷ []) 0 tt (rw (goal.at.returns-in_default-why c).In_default at c.in_default-why.keys2)) in
-    subst (λ r. (ts : List Try) × Committed a.self a.text.now (adding_result (goal.at.returns-in_default-why c).After-read-reading ts)) (sym c.refused-in_default-why.ensures) (
+    let (number, place, i) = refusal c.offer-added.result.answer c.in_default-why.not-Accepted in
+    subst (λ r. (ts : List Try) × Committed a.self a.text.now (adding_result r ts)) (sym c.refused-in_default-why.ensures) (
       _,
       subst (λ x. Committed a.self a.text.now (commit_sheet a.self a.text.now a.self q x)) (sym i)
           (commit_refused a.self a.text.now c.requires.0 (drawn_sheet c.read-reading.result.sheet) (sheet_read (goal.at.returns-in_default-why c).In_default) c.if-sheet-reservation.false q number place (subst o i (sheet_offered (goal.at.returns-in_default-why c).After-offer-added))),

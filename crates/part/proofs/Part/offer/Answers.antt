@@ -25,15 +25,9 @@ use Rattle.part.specs.declared.Part.{Part}
 use Rattle.part.specs.declared.Adding.TheVariants.{OutputDriven, OutputRead, Full}
 use Rattle.table.proofs.Shape.{past}
 use Rattle.part.proofs.Shape.{shaped}
+use Rattle.part.proofs.Part.offer.Invariants.{holding, pasted}
 use Rattle.part.proofs.Part.offer.Goals as goal
 use Rattle.part.proofs.Part.offer.Goals.{After-loop-i, Else-uses, Else-uses-2, Start}
-
--- the part with other records, and with the mapping's first n after those in use
-abbrev holding : Part → List Table → Part
-holding p rs = record { k = p.k; capacity = p.capacity; used = p.used; reservation = p.reservation; tables = rs }
-
-abbrev pasted : Part → Mapping → ℕ → List Table
-pasted p m n = paste p.tables p.used (new_records p m) n
 
 -- the record of a table that is placed at a level
 abbrev at_level : Lut → ℕ → Table
@@ -44,7 +38,7 @@ abbrev counting : ℕ → Part → Part
 counting n p = record { k = p.k; capacity = p.capacity; used = n; reservation = p.reservation; tables = p.tables }
 
 self_shaped : (c : Start) → Shaped c.args.self
-self_shaped c = let t = (search rules) in shaped c.args.self t.0 t.1.0.1 t.1.1
+self_shaped c = let t = c.well_formed.0.1.1.1.1.1.1.0 in shaped c.args.self t.0 t.1.0.1 t.1.1
 
 capacity_fits : (c : Start) → c.args.self.capacity ≤ table_room
 capacity_fits c = c.requires.0.capacity_range.1

@@ -27,6 +27,13 @@ use Rattle.table.proofs.Shape.{past}
 use Rattle.part.proofs.Shape.{shaped}
 use Rattle.part.proofs.Part.offer.Given as goal
 
+-- the part with other records, and with the mapping's first n after those in use
+abbrev pub holding : Part → List Table → Part
+holding p rs = record { k = p.k; capacity = p.capacity; used = p.used; reservation = p.reservation; tables = rs }
+
+abbrev pub pasted : Part → Mapping → ℕ → List Table
+pasted p m n = paste p.tables p.used (new_records p m) n
+
 abbrev pub invariant-loop-i : goal.invariant-loop-i
 invariant-loop-i l = (length l.self.tables ≡ table_room) × Looked l.self l.out l.i l.uses
 

@@ -18,7 +18,7 @@ use Rattle.part.proofs.Part.take_each.Goals.{After-take-added}
 
 pub loop-i-init : goal.loop-i-init
 loop-i-init c =
-    let t = (search rules) in
+    let t = c.well_formed.0.1.1.1.1.1.1.0 in
     let a = c.args in
     (set_start a.self a.lengths.now a.text.now (shaped a.self t.0 t.1.0.1 t.1.1) c.requires.0 c.requires.2, c.requires.1, refl)
 

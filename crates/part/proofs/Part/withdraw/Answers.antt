@@ -19,5 +19,5 @@ returns-then-open-eq0 c =
 
 pub returns : goal.returns
 returns c =
-    ap (λ r. adding_result (goal.at.returns c).After-released []) c.refused-2.ensures ∙ ap (λ p. adding_result (record { part = p; answer = Accepted }) []) c.released.ensures
+    ap (λ r. adding_result r []) c.refused-2.ensures ∙ ap (λ p. adding_result (record { part = p; answer = Accepted }) []) c.released.ensures
     ∙ withdraw_open c.args.self (sym c.sound.ensures ∙ c.if-not-sound.false) c.if-open-eq0.false
