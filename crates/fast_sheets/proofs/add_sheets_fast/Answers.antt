@@ -33,7 +33,7 @@ pub loop-at-init : goal.loop-at-init
 unfolding no_levels
 loop-at-init c =
     let a = c.args in
-    let t = (search rules) in
+    let t = c.well_formed.0.1.1.1.1.1.1.0 in
     let none : [] ≡ tables_of a.opened = ap (λ n. map table_of (take n a.opened.tables)) (sym c.requires.1) in
     (sheets_start fastest a.input.now a.opened a.start (shaped a.opened t.0 t.1.0.1 t.1.1) c.requires.0, subst (LevelsStand no_levels) none levels_none)
 
@@ -42,10 +42,9 @@ overflow_add-sheet c = record { fits = omega (arith, few_sheets c.loop-at.invari
 
 pub returns-in-Refused : goal.returns-in-Refused
 returns-in-Refused c =
-    let g = c.answer-1.given in
-    ended_stop c.loop-at.invariant.0 c.loop-at.added.part (record { number = c.number.result; line = g.0.1.0 }) c.read_next-next.result.end (omega arith)
-    (stepped_refused c.args.input.now c.loop-at.added.part c.loop-at.at c.loop-at.invariant.0.sound c.loop-at.invariant.0.shaped (omega arith) c.read_next-next.result c.read_next-next.ensures fastest g.0.0 g.0.1.0 c.number.result g.1 c.number.ensures)
-    (λ z. omega (arith, number_some g.0.0, c.number.ensures, z))
+    ended_stop c.loop-at.invariant.0 c.loop-at.added.part (record { number = c.number.result; line = c.in-Refused.line }) c.read_next-next.result.end (omega arith)
+    (stepped_refused c.args.input.now c.loop-at.added.part c.loop-at.at c.loop-at.invariant.0.sound c.loop-at.invariant.0.shaped (omega arith) c.read_next-next.result c.read_next-next.ensures fastest c.in-Refused.why c.in-Refused.line c.number.result c.in-Refused.is c.number.ensures)
+    (λ z. omega (arith, number_some c.in-Refused.why, c.number.ensures, z))
 
 pub map_joined_fast-mapping-requires : goal.map_joined_fast-mapping-requires
 map_joined_fast-mapping-requires c =

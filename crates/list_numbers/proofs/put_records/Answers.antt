@@ -17,7 +17,7 @@ use Rattle.list_numbers.proofs.put_records.Goals as goal
 
 pub loop-t-init : goal.loop-t-init
 loop-t-init c =
-    let t = (search rules) in
+    let t = c.well_formed.1.1.0.1.1.1.1.1.1.0 in
     let a = c.args in
     (omega arith, shaped a.p t.0 t.1.0.1 t.1.1, refl, sym (paste_none a.numbers.now a.at))
 
@@ -31,7 +31,7 @@ pub overflow_mul-t : goal.overflow_mul-t
 overflow_mul-t c = omega (arith, c.requires)
 
 pub overflow_add-at : goal.overflow_add-at
-overflow_add-at c = omega (arith, c.requires, (search rules))
+overflow_add-at c = omega (arith, c.requires)
 
 pub put_record-requires : goal.put_record-requires
 put_record-requires c = omega (arith, c.requires, c.loop-t.invariant.2)

@@ -19,8 +19,7 @@ returns-in-Unsound c = c.refused.ensures ∙ told (goal.at.returns-in-Unsound c)
 
 pub returns-in-Misread : goal.returns-in-Misread
 returns-in-Misread c =
-    let g = c.a-1.given in
-    c.refused-in-Misread.ensures ∙ ap (λ n. told_of c.args.position (refused n g.0.1.0)) c.number.ensures ∙ told (goal.at.returns-in-Misread c).Start g.1
+    c.refused-in-Misread.ensures ∙ ap (λ n. told_of c.args.position (refused n c.in-Misread.line)) c.number.ensures ∙ told (goal.at.returns-in-Misread c).Start c.in-Misread.is
 
 pub returns-in-OutputDriven : goal.returns-in-OutputDriven
 returns-in-OutputDriven c = c.refused-in-OutputDriven.ensures ∙ told (goal.at.returns-in-OutputDriven c).Start c.in-OutputDriven.is

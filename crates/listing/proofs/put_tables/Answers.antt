@@ -18,7 +18,7 @@ use Rattle.listing.proofs.put_tables.Goals as goal
 
 pub loop-t-init : goal.loop-t-init
 loop-t-init c =
-    let t = (search rules) in
+    let t = c.well_formed.1.1.0.1.1.1.1.1.1.0 in
     let a = c.args in
     (omega arith, (shaped a.p t.0 t.1.0.1 t.1.1).records, refl, omega arith, sym (paste_none a.buf.now a.at))
 
@@ -48,7 +48,7 @@ overflow_add-place c =
     let p = a.p in
     let l = c.loop-t in
     let e = c.table_width-place.ensures.0 ∙ ap table_width (get_d_any p.tables l.t past blank (omega (arith, c.requires))) in
-    omega (arith, e, c.requires, l.invariant.3, (search rules), lines_next_length p l.t, lines_more p (l.t + 1) p.used (omega arith))
+    omega (arith, e, c.requires, l.invariant.3, lines_next_length p l.t, lines_more p (l.t + 1) p.used (omega arith))
 
 pub overflow_add-t-in-loop-t : goal.overflow_add-t-in-loop-t
 overflow_add-t-in-loop-t c = omega (arith, c.requires)

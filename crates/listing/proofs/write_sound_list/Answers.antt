@@ -34,7 +34,7 @@ put_top-requires c =
 pub overflow_add-at : goal.overflow_add-at
 overflow_add-at c =
     let a = c.args in
-    omega (arith, leb-true (a.at + (19 + c.tables_width-width.result)) (length a.buf.now) (sym c.has_room.ensures ∙ c.if-not-has_room.false), (search rules))
+    omega (arith, leb-true (a.at + (19 + c.tables_width-width.result)) (length a.buf.now) (sym c.has_room.ensures ∙ c.if-not-has_room.false))
 
 pub put_tables-requires : goal.put_tables-requires
 put_tables-requires c =

@@ -5,4 +5,4 @@ use Rattle.opening.proofs.no_opening.Goals as goal
 use Rattle.opening.proofs.no_opening.Goals.{After-open-o}
 
 pub returns : goal.returns
-returns c = ap (λ r. record { part = r.part; answer = refused 1 0 }) (goal.at.returns c).After-open-o.«open».ensures
+returns c = ap (λ r. record { part = r.part; answer = refused 1 0 }) c.open-o.ensures

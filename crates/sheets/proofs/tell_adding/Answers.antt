@@ -9,8 +9,7 @@ returns-in-Unsound c = ap adding_answer (sym c.in-Unsound.is)
 
 pub returns-in-Misread : goal.returns-in-Misread
 returns-in-Misread c =
-    let g = c.a-1.given in
-    told_misread c.number.result g.0.1.0 g.0.0 c.number.ensures ∙ ap adding_answer (sym g.1)
+    told_misread c.number.result c.in-Misread.line c.in-Misread.why c.number.ensures ∙ ap adding_answer (sym c.in-Misread.is)
 
 pub returns-in-OutputDriven : goal.returns-in-OutputDriven
 returns-in-OutputDriven c = ap adding_answer (sym c.in-OutputDriven.is)

@@ -12,7 +12,7 @@ use Rattle.slacks.proofs.count_drivers.Goals as goal
 
 pub loop-t-init : goal.loop-t-init
 loop-t-init c =
-    let t = (search rules) in
+    let t = c.well_formed.0.1.1.1.1.1.1.0 in
     (omega arith, (shaped c.args.p t.0 t.1.0.1 t.1.1).records, refl, omega arith)
 
 pub offset_bounds-p-t : goal.offset_bounds-p-t

@@ -13,7 +13,7 @@ use Rattle.slacks.proofs.put_slacks.Goals as goal
 
 pub loop-t-init : goal.loop-t-init
 loop-t-init c =
-    let t = (search rules) in
+    let t = c.well_formed.1.1.0.1.1.1.1.1.1.0 in
     let a = c.args in
     (omega arith, (shaped a.p t.0 t.1.0.1 t.1.1).records, refl, omega arith, sym (paste_none a.buf.now a.at))
 
