@@ -3,7 +3,7 @@
 
 ghost use Rattle.std.specs.Prelude.{◌≡◌, true, false, min, ◌<◌};
 ghost use Rattle.plan.specs.Key.{join as join_of, cuts, ◌≼◌};
-ghost use Rattle.plan.specs.Volume.{volume as volumeOf};
+ghost use Rattle.plan.specs.Volume.{volume as volume_of};
 ghost use Rattle.plan.specs.Entries.{Joinable, Joined};
 
 use plan::{Cuts, Key};
@@ -82,7 +82,7 @@ pub fn precedes(a: Key, b: Key) -> bool
 // The most leaves that a cover with that key can have: each table below stands for one input and brings k.
 pub fn volume(k: u8, a: Key) -> u16
     requires { Joined k a }
-    ensures { result ≡ volumeOf k a }
+    ensures { result ≡ volume_of k a }
 {
     (k as u16 - 1) * a.below as u16 + a.width as u16
 }

@@ -2,9 +2,9 @@
 #![tactic(auto)]
 
 ghost use Rattle.std.specs.Prelude.{◌≡◌, ◌+◌, ◌<◌, ◌≤◌, take, ◌++◌};
-ghost use Rattle.lists.specs.Trusted.Lists.{insert as insertOf, sorted};
+ghost use Rattle.lists.specs.Trusted.Lists.{insert as insert_of, sorted};
 ghost use Rattle.pending.specs.Luts.{lut_of};
-ghost use Rattle.pending.specs.Operands.{single as singleOf, merged};
+ghost use Rattle.pending.specs.Operands.{single as single_of, merged};
 ghost use Rattle.pending.specs.Pendings.{operand_of, Mergeable};
 ghost use Rattle.pending.specs.Merging.{padded, MergeRoom, Ordered, Tabled, inverted_of};
 
@@ -14,7 +14,7 @@ use tree::Kind;
 
 // The table that has the value of one code.
 pub fn single(code: u16) -> Lut
-    ensures { result ≡ lut_of (singleOf code) }
+    ensures { result ≡ lut_of (single_of code) }
 {
     Lut {
         net: 0,
@@ -59,7 +59,7 @@ pub fn inverted(mut t: Lut) -> Lut
 // A code put among the first inputs, which are in order.
 fn insert(inputs: &mut [u16; 6], count: usize, code: u16)
     requires { (count < 6) × Ordered count inputs.old }
-    ensures { inputs.new ≡ padded (insertOf code (take count inputs.old)) }
+    ensures { inputs.new ≡ padded (insert_of code (take count inputs.old)) }
 {
     let mut next = code;
     let mut i = 0;

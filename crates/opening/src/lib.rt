@@ -6,7 +6,7 @@ ghost use Rattle.std.proofs.Math.Option.{none};
 ghost use Rattle.part.specs.Trusted.Add.{opened};
 ghost use Rattle.part.specs.Trusted.OpenAnswers.{opening_answer};
 ghost use Rattle.opening.specs.Trusted.Opening.{count as count_of, opening_numbers, opened_by};
-ghost use Rattle.opening.specs.Promises.{told as toldAnswer, start_result};
+ghost use Rattle.opening.specs.Promises.{told as told_answer, start_result};
 
 use decimal::Field;
 use part::{Opening, Part};
@@ -29,7 +29,7 @@ pub struct Start {
 }
 
 fn tell_opening(a: Opening) -> Told
-    ensures { toldAnswer result ≡ opening_answer a }
+    ensures { told_answer result ≡ opening_answer a }
 {
     match a {
         Opening::Accepted => Told { number: 0, line: 0 },

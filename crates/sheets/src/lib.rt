@@ -6,7 +6,7 @@ ghost use Rattle.std.specs.Prelude.{◌≡◌, drop};
 ghost use Rattle.part.specs.Trusted.AddAnswers.{adding_answer};
 ghost use Rattle.part.specs.Trusted.Sound.{Sound};
 ghost use Rattle.part.specs.Trusted.Ways.{least};
-ghost use Rattle.opening.specs.Promises.{told as toldAnswer};
+ghost use Rattle.opening.specs.Promises.{told as told_answer};
 ghost use Rattle.sheets.specs.Promises.{Ended};
 
 use joined_mapper::map_joined;
@@ -25,7 +25,7 @@ pub struct End {
 
 // The answer of an add as a number and a line.
 pub fn tell_adding(a: Adding) -> Told
-    ensures { toldAnswer result ≡ adding_answer a }
+    ensures { told_answer result ≡ adding_answer a }
 {
     match a {
         Adding::Accepted => Told { number: 0, line: 0 },

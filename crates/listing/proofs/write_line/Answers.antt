@@ -61,7 +61,7 @@ record_at : (k : Start) → k.args.line ≤ k.args.p.used → (k.args.line ≡ 0
     get_or k.args.p.tables (k.args.line - 1) past ≡ get_or k.args.p.tables (k.args.line - 1) blank
 record_at k l n s =
     let p = k.args.p in
-    let t = c.well_formed.0.1.1.1.1.1.1.0 in
+    let t = k.well_formed.0.1.1.1.1.1.1.0 in
     get_d_any p.tables (k.args.line - 1) past blank
     (omega (arith, l, n, used_room p s, (shaped p t.0 t.1.0.1 t.1.1).records))
 
