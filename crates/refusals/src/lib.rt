@@ -37,7 +37,7 @@ fn line_start(text: &[u8], number: u32) -> usize
 }
 
 // How many bytes stand before a text's first line feed: all of them, where there is none.
-fn line_count(text: &[u8]) -> usize
+fn line_len(text: &[u8]) -> usize
     ensures { result ≡ position_or_len (λ b. b == 10) text.now }
 {
     for (i, b) in text.iter().enumerate() {
@@ -54,7 +54,7 @@ fn put_line(text: &[u8], number: u32, out: &mut [u8]) -> usize
 {
     let start = line_start(text, number);
     let rest = &text[start..];
-    put(&rest[..line_count(rest)], out)
+    put(&rest[..line_len(rest)], out)
 }
 
 // Writes the sentence of a refusal to the front of the buffer and gives its length; 0, with the buffer as it was, for a number that is

@@ -1,7 +1,7 @@
 -- The first line feed is the first byte that passes the test for one.
 use Rattle.std.proofs.Common.{arith, ◌==◌, ◌≡◌, length, sym, ne_eqb, eq-eqb}
 use Rattle.std.proofs.lemmas.List.Sums.{position_or_len_is}
-use Rattle.refusals.proofs.line_count.Goals as goal
+use Rattle.refusals.proofs.line_len.Goals as goal
 
 pub returns-then-b-eq10 : goal.returns-then-b-eq10
 returns-then-b-eq10 c =
