@@ -9,7 +9,7 @@ use Rattle.search_test.proofs.Keys.{Light, light_take, light_set}
 use Rattle.search_test.proofs.example.Given as goal
 
 abbrev pub invariant-loop-i : goal.invariant-loop-i
-invariant-loop-i l = (l.i ≤ 10) × (length l.keys ≡ 10) × Every (Light 25) l.keys
+invariant-loop-i g l = (l.i ≤ 10) × (length l.keys ≡ 10) × Every (Light 25) l.keys
 
 abbrev pub decreases-loop-i : goal.decreases-loop-i
-decreases-loop-i l = 10 - l.i
+decreases-loop-i g l = 10 - l.i
