@@ -1,5 +1,3 @@
-use Prim.Native.Nat.{◌-◌, ◌≤◌, ◌<◌}
-use borrow.Author.Rules.{rules}
 use Rattle.search_test.proofs.generated.Goals as goal
 
 pub best_plan-requires : goal.best_plan-requires

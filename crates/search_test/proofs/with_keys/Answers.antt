@@ -1,4 +1,3 @@
-use borrow.Author.Rules.{rules}
 use Rattle.search_test.proofs.Keys.{two_few}
 use Rattle.search_test.proofs.with_keys.Goals as goal
 
