@@ -1,4 +1,4 @@
-/* Pailinstant for programs in C and C++. `rt staticlib pailinstant` writes the archive to link: target/staticlib/libpailinstant.a.
+/* Pailinstant for programs in C and C++. `rt lib` in crates/pailinstant writes the archive to link: crates/pailinstant/out/libpailinstant.a.
  *
  * A pointer is to as many bytes or numbers as the length beside it says; two of one call must not overlap. No function keeps one.
  * docs/PLACER.md shows how a list is read, and sheets are added to it. */

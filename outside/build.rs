@@ -1,4 +1,4 @@
-//! With the feature `linked`, links the archive that `rt staticlib NAME` writes: libNAME.a in the folder PAILINSTANT_LIB_DIR, where
+//! With the feature `linked`, links the archive that `rt lib` writes in crates/NAME: libNAME.a in the folder PAILINSTANT_LIB_DIR, where
 //! NAME is PAILINSTANT_LIB_NAME, or `pailinstant`.
 
 use std::env;

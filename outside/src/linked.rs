@@ -1,4 +1,4 @@
-//! The proved mapper, called from Rust through the archive that `rt staticlib` writes.
+//! The proved mapper, called from Rust through the archive that `rt lib` writes.
 
 use std::ffi::c_ulong;
 

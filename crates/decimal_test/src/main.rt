@@ -3,98 +3,89 @@
 #![tactic(auto)]
 
 use decimal::{Field, Parsed, Written};
-use libc::STDOUT_FILENO;
+use input_reader::read_file;
+use std::io;
 
-fn main() {
-    let path = b"fields";
-    let fd = os::open_read(path);
-    if fd < 0 {
-        os::fail(path);
-        return;
-    }
-    let mut text = io::buffer();
-    let n = io::read_full(fd, &mut text);
-    libc::close(fd);
-    print_fields(&text[..n]);
+fn main(rt: HostRuntime) -> io::Result<()> {
+    let mut text = [0u8; 4096];
+    let n = read_file(&rt, "fields", &mut text)?;
+    print_fields(&rt, &text[..n])?;
 
-    print_number(6, 0);
-    print_number(6, 7);
-    print_number(6, 999999);
-    print_number(6, 1000000);
-    print_number(21, 18446744073709551615);
-    print_number(20, 18446744073709551615);
-    print_number(19, 18446744073709551615);
-    print_number(0, 0);
-    print_number(23, 5);
-    print_number(24, 5);
+    print_number(&rt, 6, 0)?;
+    print_number(&rt, 6, 7)?;
+    print_number(&rt, 6, 999999)?;
+    print_number(&rt, 6, 1000000)?;
+    print_number(&rt, 21, 18446744073709551615)?;
+    print_number(&rt, 20, 18446744073709551615)?;
+    print_number(&rt, 19, 18446744073709551615)?;
+    print_number(&rt, 0, 0)?;
+    print_number(&rt, 23, 5)?;
+    print_number(&rt, 24, 5)?;
 
-    print_signed(6, -1);
-    print_signed(6, 0);
-    print_signed(6, 5);
-    print_signed(6, -99999);
-    print_signed(6, -100000);
-    print_signed(11, -2147483648);
-    print_signed(1, -1);
-    print_signed(24, -1);
+    print_signed(&rt, 6, -1)?;
+    print_signed(&rt, 6, 0)?;
+    print_signed(&rt, 6, 5)?;
+    print_signed(&rt, 6, -99999)?;
+    print_signed(&rt, 6, -100000)?;
+    print_signed(&rt, 11, -2147483648)?;
+    print_signed(&rt, 1, -1)?;
+    print_signed(&rt, 24, -1)
 }
 
 // Prints what each line of a text holds.
-fn print_fields(text: &[u8]) {
+fn print_fields(rt: &impl Print, text: &[u8]) -> io::Result<()> {
     let mut start = 0;
     let mut i = 0;
     while i < text.len() {
         if text[i] == b'\n' {
-            print_field(&text[start..i]);
+            print_field(rt, &text[start..i])?;
             start = i + 1;
         }
         i += 1;
     }
+    Ok(())
 }
 
-fn print_field(s: &[u8]) {
-    print(b"[");
-    print(s);
-    print(b"] ");
+fn print_field(rt: &impl Print, s: &[u8]) -> io::Result<()> {
+    print(rt, b"[")?;
+    print(rt, s)?;
+    print(rt, b"] ")?;
     match decimal_reader::read(s) {
         Field::Value(v) => {
             if decimal::negative(v) {
-                print(b"minus ");
+                print(rt, b"minus ")?;
             }
-            io::print_decimal(STDOUT_FILENO, decimal::magnitude(v) as u64);
+            rt.print(decimal::magnitude(v))?;
         }
-        Field::NoNumber => print(b"no number"),
+        Field::NoNumber => print(rt, b"no number")?,
     }
     match decimal_reader::read_word(s) {
-        Parsed::Natural(n) => {
-            print(b", word ");
-            io::print_decimal(STDOUT_FILENO, n);
-            print(b"\n");
-        }
-        Parsed::Nothing => print(b", no word\n"),
+        Parsed::Natural(n) => println!(rt; ", word {n}"),
+        Parsed::Nothing => print(rt, b", no word\n"),
     }
 }
 
-fn print_number(width: usize, n: u64) {
+fn print_number(rt: &impl Print, width: usize, n: u64) -> io::Result<()> {
     let mut line = [b'.'; 24];
     let answer = decimal_writer::write_at(&mut line, 1, width, n);
-    print(&line);
-    print_answer(answer);
+    print(rt, &line)?;
+    print_answer(rt, answer)
 }
 
-fn print_signed(width: usize, v: i32) {
+fn print_signed(rt: &impl Print, width: usize, v: i32) -> io::Result<()> {
     let mut line = [b'.'; 24];
     let answer = decimal_writer::write_signed_at(&mut line, 1, width, v);
-    print(&line);
-    print_answer(answer);
+    print(rt, &line)?;
+    print_answer(rt, answer)
 }
 
-fn print_answer(answer: Written) {
+fn print_answer(rt: &impl Print, answer: Written) -> io::Result<()> {
     match answer {
-        Written::Done => print(b" done\n"),
-        Written::TooWide => print(b" too wide\n"),
+        Written::Done => print(rt, b" done\n"),
+        Written::TooWide => print(rt, b" too wide\n"),
     }
 }
 
-fn print(s: &[u8]) {
-    io::write_all(STDOUT_FILENO, s);
+fn print(rt: &impl Print, s: &[u8]) -> io::Result<()> {
+    rt.write_all(s)
 }

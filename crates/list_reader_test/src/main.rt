@@ -4,69 +4,64 @@
 
 ghost use Rattle.std.specs.Prelude.{◌<◌};
 
-use libc::STDOUT_FILENO;
+use input_reader::read_file;
 use list_reader::read_list;
 use list_reading::ListAnswer;
 use listing::WriteAnswer;
 use part::Part;
 use printing::print_refusal;
+use std::rt::Files;
+use std::{env, io};
 
-fn main() {
-    let count = os::arg_count();
-    for i in 1..count {
-        print_case(i);
+fn main(rt: HostRuntime) -> io::Result<()> {
+    for name in env::args(&rt)?.skip(1) {
+        print_case(&rt, name.as_str())?;
     }
+    Ok(())
 }
 
-fn print_case(i: usize) {
-    let mut name = io::buffer();
-    let n = os::arg(i, &mut name);
-    print(&name[..n]);
-    print(b"\n");
-    let fd = os::open_read(&name[..n]);
-    if fd < 0 {
-        os::fail(&name[..n]);
-        return;
-    }
-    let mut text = io::large_buffer();
-    let got = io::read_full(fd, &mut text);
-    libc::close(fd);
-    print_read(&text[..got]);
+fn print_case(rt: &(impl Files + Print), name: &str) -> io::Result<()> {
+    print(rt, name.as_bytes())?;
+    print(rt, b"\n")?;
+    let mut text = [0u8; 65536];
+    let got = read_file(rt, name, &mut text)?;
+    print_read(rt, &text[..got])
 }
 
-fn print_read(text: &[u8]) {
+fn print_read(rt: &impl Print, text: &[u8]) -> io::Result<()> {
     let read = read_list(text);
     let answer = read.answer;
     let part = read.part;
     match answer {
-        ListAnswer::Accepted => print_part(part),
-        ListAnswer::KOutOfRange => print_refused(2, 0),
-        ListAnswer::CapacityOutOfRange => print_refused(3, 0),
-        ListAnswer::NotLaidOut(line) => print_refused(31, line),
-        ListAnswer::RuleBroken(line) => print_refused(32, line),
+        ListAnswer::Accepted => print_part(rt, part),
+        ListAnswer::KOutOfRange => print_refused(rt, 2, 0),
+        ListAnswer::CapacityOutOfRange => print_refused(rt, 3, 0),
+        ListAnswer::NotLaidOut(line) => print_refused(rt, 31, line),
+        ListAnswer::RuleBroken(line) => print_refused(rt, 32, line),
     }
 }
 
 // The line of a refusal.
-fn print_refused(number: u8, line: u16)
+fn print_refused(rt: &impl Print, number: u8, line: u16) -> io::Result<()>
     requires { 0 < number }
 {
     let mut output = [0u8; 19];
     print_refusal(&mut output, number, 0, line);
-    print(&output);
+    print(rt, &output)
 }
 
 // The list of the part that was read, and its levels.
-fn print_part(part: Part) {
-    print_list(part);
-    print_levels(part);
+fn print_part(rt: &impl Print, part: Part) -> io::Result<()> {
+    print_list(rt, part)?;
+    print_levels(rt, part)
 }
 
-fn print_list(part: Part) {
-    let mut output = io::large_buffer();
+fn print_list(rt: &impl Print, part: Part) -> io::Result<()> {
+    let mut output = [0u8; 65536];
     if let WriteAnswer::Wrote(count) = listing::write_list(part, &mut output, 0) {
-        print_front(&output, count);
+        print_front(rt, &output, count)?;
     }
+    Ok(())
 }
 
 // How many records are in use, 800 at most.
@@ -85,27 +80,28 @@ fn level_at(part: Part, at: usize) -> u16 {
 }
 
 // The levels of the records in use, on a line of their own.
-fn print_levels(part: Part) {
+fn print_levels(rt: &impl Print, part: Part) -> io::Result<()> {
     let many = in_use(part);
     for at in 0..many {
-        print_level(level_at(part, at));
+        print_level(rt, level_at(part, at))?;
     }
-    print(b"\n");
+    print(rt, b"\n")
 }
 
 // A level in six columns.
-fn print_level(level: u16) {
+fn print_level(rt: &impl Print, level: u16) -> io::Result<()> {
     let mut b = [b' '; 6];
     decimal_writer::write(&mut b, level as u64);
-    print(&b);
+    print(rt, &b)
 }
 
-fn print_front(s: &[u8], count: usize) {
+fn print_front(rt: &impl Print, s: &[u8], count: usize) -> io::Result<()> {
     if count <= s.len() {
-        print(&s[..count]);
+        print(rt, &s[..count])?;
     }
+    Ok(())
 }
 
-fn print(s: &[u8]) {
-    io::write_all(STDOUT_FILENO, s);
+fn print(rt: &impl Print, s: &[u8]) -> io::Result<()> {
+    rt.write_all(s)
 }

@@ -3,12 +3,11 @@
 // the bytes read, which are the whole input, or as much of it as decides what is printed.
 #![tactic(auto)]
 
-ghost use Rattle.std.specs.Prelude.{◌≡◌, length};
-ghost use Rattle.io.specs.Counts.{IsPrefixLen};
+ghost use Rattle.std.specs.Prelude.{◌≡◌, ◌≤◌, length};
 ghost use Rattle.program_laws.specs.Front.{front_bytes};
 
 use fast_program::LONGEST_FAST;
-use libc::{STDERR_FILENO, STDIN_FILENO, STDOUT_FILENO};
+use std::io::Read;
 
 // So many bytes of an input decide what is printed for it: `fast_front_decides` in fast_program/specs/FastFrontLaws. No more are read.
 const ROOM: usize = 131072;
@@ -20,30 +19,34 @@ struct Got {
     failed: bool,
 }
 
-fn say(s: &[u8]) {
-    io::write_all(STDERR_FILENO, s);
+fn say(rt: &impl Eprint, s: &str) {
+    let _ = rt.eprint(s);
 }
 
 // One read.
-fn read_some(fd: i32, part: &mut [u8]) -> Got
-    ensures { IsPrefixLen result.count part.new }
+fn read_some(from: &mut impl Read, part: &mut [u8]) -> Got
+    ensures { result.count ≤ length part.new }
 {
-    let got = libc::read(fd, part);
-    let count = io::count(got, part);
-    Got {
-        count,
-        failed: got < 0,
+    match from.read(part) {
+        Ok(count) => Got {
+            count,
+            failed: false,
+        },
+        Err(_) => Got {
+            count: 0,
+            failed: true,
+        },
     }
 }
 
 // Reads until the buffer, which has room for all the bytes that decide, is full or the input ends.
-fn read_all(fd: i32, buf: &mut [u8]) -> Got
+fn read_all(from: &mut impl Read, buf: &mut [u8]) -> Got
     requires { length buf.old ≡ front_bytes }
-    ensures { IsPrefixLen result.count buf.new }
+    ensures { result.count ≤ length buf.new }
 {
     let mut done: usize = 0;
     while done < buf.len() {
-        let got = read_some(fd, &mut buf[done..]);
+        let got = read_some(from, &mut buf[done..]);
         if got.failed {
             return Got {
                 count: done,
@@ -64,21 +67,22 @@ fn read_all(fd: i32, buf: &mut [u8]) -> Got
     }
 }
 
-fn print(input: &[u8]) {
+fn print(rt: &(impl Print + Eprint), input: &[u8]) {
     let mut output = [0u8; LONGEST_FAST];
     let n = fast_program::print(input, &mut output);
-    if !io::write_all(STDOUT_FILENO, &output[..n]) {
-        say(b"map_fast: standard output cannot be written\n");
+    if rt.write_all(&output[..n]).is_err() {
+        say(rt, "map_fast: standard output cannot be written\n");
     }
 }
 
-fn main() {
+#[tactic(auto, unfolding(program_laws::specs::Front::front_bytes))]
+fn main(rt: HostRuntime) {
     let mut input = [0u8; ROOM];
-    let got = read_all(STDIN_FILENO, &mut input);
+    let got = read_all(&mut rt.stdin(), &mut input);
     if got.failed {
-        say(b"map_fast: standard input cannot be read\n");
+        say(&rt, "map_fast: standard input cannot be read\n");
         return;
     }
     let n = got.count;
-    print(&input[..n]);
+    print(&rt, &input[..n]);
 }

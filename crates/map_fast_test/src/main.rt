@@ -3,37 +3,31 @@
 #![tactic(auto)]
 
 use fast_program::LONGEST_FAST;
-use libc::STDOUT_FILENO;
+use input_reader::read_file;
+use std::rt::Files;
+use std::{env, io};
 
-fn main() {
-    let count = os::arg_count();
-    for i in 1..count {
-        print_case(i);
+fn main(rt: HostRuntime) -> io::Result<()> {
+    for name in env::args(&rt)?.skip(1) {
+        print_case(&rt, name.as_str())?;
     }
+    Ok(())
 }
 
-fn print_case(i: usize) {
-    let mut name = io::buffer();
-    let n = os::arg(i, &mut name);
-    print(&name[..n]);
-    print(b"\n");
-    let fd = os::open_read(&name[..n]);
-    if fd < 0 {
-        os::fail(&name[..n]);
-        return;
-    }
-    let mut text = io::large_buffer();
-    let got = io::read_full(fd, &mut text);
-    libc::close(fd);
-    print_mapped(&text[..got]);
+fn print_case(rt: &(impl Files + Print), name: &str) -> io::Result<()> {
+    print(rt, name.as_bytes())?;
+    print(rt, b"\n")?;
+    let mut text = [0u8; 65536];
+    let got = read_file(rt, name, &mut text)?;
+    print_mapped(rt, &text[..got])
 }
 
-fn print_mapped(text: &[u8]) {
+fn print_mapped(rt: &impl Print, text: &[u8]) -> io::Result<()> {
     let mut output = [0u8; LONGEST_FAST];
     let n = fast_program::print(text, &mut output);
-    print(&output[..n]);
+    print(rt, &output[..n])
 }
 
-fn print(s: &[u8]) {
-    io::write_all(STDOUT_FILENO, s);
+fn print(rt: &impl Print, s: &[u8]) -> io::Result<()> {
+    rt.write_all(s)
 }

@@ -2,47 +2,40 @@
 // begins with "+" only the first line, K, capacity and used count: its list is long, or its covers are free.
 #![tactic(auto)]
 
-use libc::STDOUT_FILENO;
+use input_reader::read_file;
 use program::LONGEST;
+use std::rt::Files;
+use std::{env, io};
 
 // The bytes of a list's first line.
 const FIRST: usize = 19;
 
-fn main() {
-    let count = os::arg_count();
-    for i in 1..count {
-        print_case(i);
+fn main(rt: HostRuntime) -> io::Result<()> {
+    for name in env::args(&rt)?.skip(1) {
+        print_case(&rt, name.as_str())?;
     }
+    Ok(())
 }
 
-fn print_case(i: usize) {
-    let mut name = io::buffer();
-    let n = os::arg(i, &mut name);
-    print(&name[..n]);
-    print(b"\n");
-    let fd = os::open_read(&name[..n]);
-    if fd < 0 {
-        os::fail(&name[..n]);
-        return;
-    }
-    let mut text = io::large_buffer();
-    let got = io::read_full(fd, &mut text);
-    libc::close(fd);
-    print_mapped(&text[..got], name[0] == b'+');
+fn print_case(rt: &(impl Files + Print), name: &str) -> io::Result<()> {
+    print(rt, name.as_bytes())?;
+    print(rt, b"\n")?;
+    let mut text = [0u8; 65536];
+    let got = read_file(rt, name, &mut text)?;
+    print_mapped(rt, &text[..got], name.starts_with('+'))
 }
 
-fn print_mapped(text: &[u8], short: bool) {
+fn print_mapped(rt: &impl Print, text: &[u8], short: bool) -> io::Result<()> {
     let mut output = [0u8; LONGEST];
     let n = program::print(text, &mut output);
     if short {
         if n > FIRST {
-            print(&output[..FIRST]);
-            return;
+            return print(rt, &output[..FIRST]);
         }
     }
-    print(&output[..n]);
+    print(rt, &output[..n])
 }
 
-fn print(s: &[u8]) {
-    io::write_all(STDOUT_FILENO, s);
+fn print(rt: &impl Print, s: &[u8]) -> io::Result<()> {
+    rt.write_all(s)
 }

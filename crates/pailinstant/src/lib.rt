@@ -1,4 +1,4 @@
-// The mapper, the reader of its lists, and sets and reservations on them, for programs in other languages: `rt staticlib pailinstant` writes the archive.
+// The mapper, the reader of its lists, and sets and reservations on them, for programs in other languages: `rt lib` writes the archive, out/libpailinstant.a.
 #![tactic(auto)]
 
 ghost use Rattle.std.specs.Prelude.{◌≡◌};

@@ -30,12 +30,15 @@
 #![tactic(auto)]
 
 ghost use Rattle.std.specs.Prelude.{◌≤◌};
-ghost use Rattle.io.specs.Counts.{IsPrefixLen};
+ghost use Rattle.std.specs.Io.{ReadsAtMost};
 
 use decimal::Field;
-use libc::STDOUT_FILENO;
+use input_reader::{read_file, read_full};
 use listing::WriteAnswer;
 use part::{Added, Adding, Opening, Part, SetAdded, SetAdding};
+use std::env::Env;
+use std::rt::{Files, Runtime};
+use std::{env, io};
 use table::Table;
 
 const FIELDS: usize = 12;
@@ -82,16 +85,16 @@ fn low8(x: u32) -> u8 {
 }
 
 // A number in six columns.
-fn put(v: i32) {
+fn put(rt: &impl Print, v: i32) -> io::Result<()> {
     let mut b = [b' '; 6];
     decimal_writer::write_signed(&mut b, v);
-    io::write_all(STDOUT_FILENO, &b);
+    rt.write_all(&b)
 }
 
 // A number on a line of its own.
-fn say(v: i32) {
-    put(v);
-    io::write_all(STDOUT_FILENO, b"\n");
+fn say(rt: &impl Print, v: i32) -> io::Result<()> {
+    put(rt, v)?;
+    rt.write_all(b"\n")
 }
 
 fn opening(a: Opening) -> i32 {
@@ -165,9 +168,9 @@ fn written(a: WriteAnswer) -> i32 {
 }
 
 // The count, 0 for a refusal.
-fn count(a: WriteAnswer) -> isize {
+fn count(a: WriteAnswer) -> u32 {
     match a {
-        WriteAnswer::Wrote(n) => (n % 100000) as isize,
+        WriteAnswer::Wrote(n) => (n % 100000) as u32,
         _ => 0,
     }
 }
@@ -261,10 +264,10 @@ fn with_field(mut p: Part, which: u32, x: u32) -> Part {
 }
 
 // The answer, and the buffer's first bytes.
-fn show(a: WriteAnswer, buf: &[u8]) {
-    say(written(a));
-    io::write_all(STDOUT_FILENO, buf);
-    io::write_all(STDOUT_FILENO, b"\n");
+fn show(rt: &impl Print, a: WriteAnswer, buf: &[u8]) -> io::Result<()> {
+    say(rt, written(a))?;
+    rt.write_all(buf)?;
+    rt.write_all(b"\n")
 }
 
 // As many bytes as asked for, if the buffer has them.
@@ -275,55 +278,49 @@ fn room(n: u32, len: usize) -> usize
     if asked < len { asked } else { len }
 }
 
-fn line_into(p: Part, s: &[u8], buf: &mut [u8]) {
+fn line_into(rt: &impl Print, p: Part, s: &[u8], buf: &mut [u8]) -> io::Result<()> {
     let a = listing::write_line(p, field(s, 1), &mut *buf, field(s, 3) as usize);
-    show(a, buf);
+    show(rt, a, buf)
 }
 
-fn list_into(p: Part, s: &[u8], buf: &mut [u8]) {
+fn list_into(rt: &impl Print, p: Part, s: &[u8], buf: &mut [u8]) -> io::Result<()> {
     let a = listing::write_list(p, &mut *buf, field(s, 2) as usize);
-    show(a, buf);
+    show(rt, a, buf)
 }
 
-fn write_line(p: Part, s: &[u8], buf: &mut [u8]) {
+fn write_line(rt: &impl Print, p: Part, s: &[u8], buf: &mut [u8]) -> io::Result<()> {
     let n = room(field(s, 2), buf.len());
-    line_into(p, s, &mut buf[..n]);
+    line_into(rt, p, s, &mut buf[..n])
 }
 
-fn write_list(p: Part, s: &[u8], buf: &mut [u8]) {
+fn write_list(rt: &impl Print, p: Part, s: &[u8], buf: &mut [u8]) -> io::Result<()> {
     let n = room(field(s, 1), buf.len());
-    list_into(p, s, &mut buf[..n]);
+    list_into(rt, p, s, &mut buf[..n])
 }
 
-fn open(s: &[u8]) -> Part {
+fn open(rt: &impl Print, s: &[u8]) -> io::Result<Part> {
     let o = Part::open(field(s, 1), field(s, 2));
     let a = o.answer;
-    say(opening(a));
-    o.part
+    say(rt, opening(a))?;
+    Ok(o.part)
 }
 
 // Reads the file that an argument names into the buffer, and gives its length.
-fn read_sheet(argument: usize, buf: &mut [u8]) -> usize
-    ensures { IsPrefixLen result buf.new }
+fn read_sheet(rt: &(impl Env + Files + Alloc), argument: usize, buf: &mut [u8]) -> io::Result<usize>
+    ensures { ReadsAtMost result buf.new }
 {
-    let mut name = io::buffer();
-    let n = os::arg(argument, &mut name);
-    let fd = os::open_read(&name[..n]);
-    if fd < 0 {
-        os::fail(&name[..n]);
-        return 0;
+    match env::args(rt)?.nth(argument) {
+        Some(name) => read_file(rt, name.as_str(), buf),
+        None => Err(io::Error::from(io::ErrorKind::NotFound)),
     }
-    let got = io::read_full(fd, &mut *buf);
-    libc::close(fd);
-    got
 }
 
 // The list, where the part is sound.
-fn print_list(p: Part) {
-    let mut buf = io::large_buffer();
+fn print_list(rt: &impl Print, p: Part) -> io::Result<()> {
+    let mut buf = [0u8; 65536];
     let a = listing::write_list(p, &mut buf, 0);
-    let n = io::count(count(a), &buf);
-    io::write_all(STDOUT_FILENO, &buf[..n]);
+    let n = room(count(a), buf.len());
+    rt.write_all(&buf[..n])
 }
 
 // How many records are in use, 800 at most.
@@ -342,44 +339,44 @@ fn level_at(p: Part, at: usize) -> u16 {
 }
 
 // The levels of the records in use, on a line of their own.
-fn print_levels(p: Part) {
+fn print_levels(rt: &impl Print, p: Part) -> io::Result<()> {
     let many = in_use(p);
     for at in 0..many {
-        put(level_at(p, at) as i32);
+        put(rt, level_at(p, at) as i32)?;
     }
-    io::write_all(STDOUT_FILENO, b"\n");
+    rt.write_all(b"\n")
 }
 
 // The number set aside and the net, on a line of their own.
-fn print_reservation(p: Part) {
+fn print_reservation(rt: &impl Print, p: Part) -> io::Result<()> {
     let r = p.reservation;
-    put(r.count as i32);
-    say(r.net as i32);
+    put(rt, r.count as i32)?;
+    say(rt, r.net as i32)
 }
 
 // The sheet in a file added, by the fewest tables or the fewest levels, reserved for or committed, by the step.
-fn offered(p: Part, s: &[u8]) -> Added {
-    let mut text = io::large_buffer();
-    let n = read_sheet(field(s, 1) as usize, &mut text);
-    match field(s, 0) {
+fn offered(rt: &(impl Env + Files + Alloc), p: Part, s: &[u8]) -> io::Result<Added> {
+    let mut text = [0u8; 65536];
+    let n = read_sheet(rt, field(s, 1) as usize, &mut text)?;
+    Ok(match field(s, 0) {
         10 => p.add(&text[..n]),
         17 => p.reserve(&text[..n]),
         21 => p.add_fast(&text[..n]),
         _ => p.commit(&text[..n]),
-    }
+    })
 }
 
 // Prints what a call answers, the reservation where it is asked for, and the list, where the part is sound. Gives the part handed back.
-fn print_added(added: Added, reserving: bool) -> Part {
+fn print_added(rt: &impl Print, added: Added, reserving: bool) -> io::Result<Part> {
     let answer = added.answer;
     let part = added.part;
-    put(adding(answer));
-    say(place(answer) as i32);
+    put(rt, adding(answer))?;
+    say(rt, place(answer) as i32)?;
     if reserving {
-        print_reservation(part);
+        print_reservation(rt, part)?;
     }
-    print_list(part);
-    part
+    print_list(rt, part)?;
+    Ok(part)
 }
 
 // The length of step 13.
@@ -408,69 +405,69 @@ fn set_added(p: Part, text: &[u8], lengths: [u32; 20], count: u32) -> SetAdded {
     p.add_set(text, &lengths[..many])
 }
 
-fn add_set(state: State, s: &[u8]) -> State {
-    let mut text = io::large_buffer();
-    let n = read_sheet(field(s, 1) as usize, &mut text);
+fn add_set(rt: &impl Runtime, state: State, s: &[u8]) -> io::Result<State> {
+    let mut text = [0u8; 65536];
+    let n = read_sheet(rt, field(s, 1) as usize, &mut text)?;
     let part = state.part;
     let lengths = state.lengths;
     let added = set_added(part, &text[..n], lengths, state.count);
     let answer = added.answer;
     let part = added.part;
-    put(set_number(answer));
-    put(set_place(answer) as i32);
-    say(set_position(answer) as i32);
-    print_list(part);
-    State {
+    put(rt, set_number(answer))?;
+    put(rt, set_place(answer) as i32)?;
+    say(rt, set_position(answer) as i32)?;
+    print_list(rt, part)?;
+    Ok(State {
         part,
         lengths,
         count: 0,
-    }
+    })
 }
 
 // A step on the part alone.
-fn step(p: Part, s: &[u8]) -> Part {
+fn step(rt: &impl Runtime, p: Part, s: &[u8]) -> io::Result<Part> {
     match field(s, 0) {
-        0 => open(s),
-        1 | 2 | 3 | 15 | 16 => with_field(p, field(s, 0), field(s, 1)),
-        4 => with_record(p, field(s, 1), record(s)),
-        5 => with_full_truth(p, field(s, 1)),
-        6 => filled(p, field(s, 1)),
-        10 | 21 => print_added(offered(p, s), false),
-        12 => with_level(p, field(s, 1), low16(field(s, 2))),
-        17 | 18 => print_added(offered(p, s), true),
-        19 => print_added(p.withdraw(), true),
-        _ => shown(p, s),
+        0 => open(rt, s),
+        1 | 2 | 3 | 15 | 16 => Ok(with_field(p, field(s, 0), field(s, 1))),
+        4 => Ok(with_record(p, field(s, 1), record(s))),
+        5 => Ok(with_full_truth(p, field(s, 1))),
+        6 => Ok(filled(p, field(s, 1))),
+        10 | 21 => print_added(rt, offered(rt, p, s)?, false),
+        12 => Ok(with_level(p, field(s, 1), low16(field(s, 2)))),
+        17 | 18 => print_added(rt, offered(rt, p, s)?, true),
+        19 => print_added(rt, p.withdraw(), true),
+        _ => shown(rt, p, s),
     }
 }
 
 // A step that only prints.
-fn shown(p: Part, s: &[u8]) -> Part {
+fn shown(rt: &impl Print, p: Part, s: &[u8]) -> io::Result<Part> {
     let mut buf = [b'.'; 4096];
     match field(s, 0) {
-        7 => say(if p.sound() { 1 } else { 0 }),
-        8 => write_line(p, s, &mut buf),
-        11 => print_levels(p),
-        20 => print_reservation(p),
-        _ => write_list(p, s, &mut buf),
+        7 => say(rt, if p.sound() { 1 } else { 0 })?,
+        8 => write_line(rt, p, s, &mut buf)?,
+        11 => print_levels(rt, p)?,
+        20 => print_reservation(rt, p)?,
+        _ => write_list(rt, p, s, &mut buf)?,
     }
-    p
+    Ok(p)
 }
 
 // One step of the script.
-fn next(mut state: State, s: &[u8]) -> State {
+fn next(rt: &impl Runtime, mut state: State, s: &[u8]) -> io::Result<State> {
     match field(s, 0) {
-        13 => collected(state, field(s, 1), length(s)),
-        14 => add_set(state, s),
+        13 => Ok(collected(state, field(s, 1), length(s))),
+        14 => add_set(rt, state, s),
         _ => {
             let part = state.part;
-            state.part = step(part, s);
-            state
+            state.part = step(rt, part, s)?;
+            Ok(state)
         }
     }
 }
 
 // The lines of the script, one after another, from a part of all zeros.
-fn run(script: &[u8]) {
+fn run(rt: &impl Runtime, script: &[u8]) -> io::Result<()> {
     let o = Part::open(0, 0);
     let part = o.part;
     let mut state = State {
@@ -481,13 +478,14 @@ fn run(script: &[u8]) {
     let mut at: usize = 0;
     while LINE <= script.len() - at {
         let end = at + LINE;
-        state = next(state, &script[at..end]);
+        state = next(rt, state, &script[at..end])?;
         at = end;
     }
+    Ok(())
 }
 
-fn main() {
+fn main(rt: HostRuntime) -> io::Result<()> {
     let mut script = [0u8; SCRIPT];
-    let n = io::read_full(0, &mut script);
-    run(&script[..n]);
+    let n = read_full(&mut rt.stdin(), &mut script)?;
+    run(&rt, &script[..n])
 }

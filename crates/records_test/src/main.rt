@@ -5,8 +5,10 @@
 #![tactic(auto)]
 
 use decimal::Field;
-use libc::STDOUT_FILENO;
+use input_reader::read_file;
 use records::Found;
+use std::rt::Files;
+use std::{env, io};
 use table::Table;
 
 // The bytes of the first line, and of a record's.
@@ -14,27 +16,18 @@ const HEAD: usize = 13;
 
 const LINE: usize = 61;
 
-fn main() {
-    let count = os::arg_count();
-    for i in 1..count {
-        print_case(i);
+fn main(rt: HostRuntime) -> io::Result<()> {
+    for name in env::args(&rt)?.skip(1) {
+        print_case(&rt, name.as_str())?;
     }
+    Ok(())
 }
 
-fn print_case(i: usize) {
-    let mut name = io::buffer();
-    let n = os::arg(i, &mut name);
-    io::write_all(STDOUT_FILENO, &name[..n]);
-    io::write_all(STDOUT_FILENO, b"\n");
-    let fd = os::open_read(&name[..n]);
-    if fd < 0 {
-        os::fail(&name[..n]);
-        return;
-    }
-    let mut text = io::buffer();
-    let got = io::read_full(fd, &mut text);
-    libc::close(fd);
-    print_found(test(&text[..got]));
+fn print_case(rt: &(impl Files + Print), name: &str) -> io::Result<()> {
+    rt.println(name)?;
+    let mut text = [0u8; 4096];
+    let got = read_file(rt, name, &mut text)?;
+    print_found(rt, test(&text[..got]))
 }
 
 // The test of the run that a text holds.
@@ -105,20 +98,20 @@ fn low8(x: u32) -> u8 {
     (x % 256) as u8
 }
 
-fn print_found(f: Found) {
+fn print_found(rt: &impl Print, f: Found) -> io::Result<()> {
     let number = match f {
         Found::Nothing => 0,
         Found::At(n) => (n % 100000) as i32,
         Found::KOutOfRange => -2,
         Found::CapacityOutOfRange => -3,
     };
-    print_number(number);
+    print_number(rt, number)
 }
 
 // A number on a line of its own.
-fn print_number(v: i32) {
+fn print_number(rt: &impl Print, v: i32) -> io::Result<()> {
     let mut b = [b' '; 6];
     decimal_writer::write_signed(&mut b, v);
-    io::write_all(STDOUT_FILENO, &b);
-    io::write_all(STDOUT_FILENO, b"\n");
+    rt.write_all(&b)?;
+    rt.write_all(b"\n")
 }

@@ -1,31 +1,17 @@
 -- The sentences of all refusals as the lines of one text: a test that computes says that each line is the sentence of its number.
-use Rattle.std.specs.Prelude.{ℕ, zero, suc, ◌+◌, ◌-◌, ◌≤◌, ◌<◌, ◌≡◌, refl, Bool, true, false, cond, ◌&&◌, List, [], ◌∷◌, T, ltb, eqb, length, get_or, take, drop}
-use Rattle.std.proofs.Common.{add-one, arith, sym, ap, ap₂, subst, ◌∙◌, drop-cons, eq-eqb, ne_eqb}
-use Rattle.std.proofs.Math.Seq.{take-length}
+use Rattle.std.specs.Prelude.{ℕ, zero, suc, ◌-◌, ◌≤◌, ◌<◌, ◌≡◌, refl, Bool, true, false, cond, ◌&&◌, List, [], ◌∷◌, T, ltb, eqb, length, take}
+use Rattle.std.proofs.Common.{arith, sym, ap, ap₂, subst, ◌∙◌, ne_eqb}
+use Rattle.std.specs.List.{position_or_len}
 use Rattle.lists.specs.Cases.{by_eqb, by_leb, and_split}
 use Rattle.lists.specs.TestLaws.{reflects_eq, reflects_lt}
 use Rattle.refusals.specs.Trusted.Sentences.{Entry, ◌means◌, sentence_in, bytes_of}
-use Rattle.refusals.specs.Lines.{index_of, slice, after_lines, text_line}
+use Rattle.refusals.specs.Lines.{after_lines, text_line}
 
 -- ---- a text byte by byte
 
 pub after_none : (bs : List ℕ) → after_lines 0 bs ≡ bs
 after_none [] = refl
 after_none (b ∷ bs) = refl
-
-pub after_feed : (bs : List ℕ) (n i : ℕ) → i < length bs → (n ≡ 0 → ⊥) → get_or bs i 0 ≡ 10 → after_lines n (drop i bs) ≡ after_lines (n - 1) (drop (i + 1) bs)
-after_feed bs n i h z e = ap (after_lines n) (drop-cons bs i 0 h) ∙ rw (add-one i, ne_eqb n 0 z, eq-eqb (get_or bs i 0) 10 e)
-
-pub after_other : (bs : List ℕ) (n i : ℕ) → i < length bs → (n ≡ 0 → ⊥) → (get_or bs i 0 ≡ 10 → ⊥) → after_lines n (drop i bs) ≡ after_lines n (drop (i + 1) bs)
-after_other bs n i h z e = ap (after_lines n) (drop-cons bs i 0 h) ∙ rw (add-one i, ne_eqb n 0 z, ne_eqb (get_or bs i 0) 10 e)
-
--- from a line's start to the first line feed from there on
-pub line_part : (text : List ℕ) (n start end : ℕ) → drop start text ≡ after_lines n text → end ≡ start + index_of 10 (slice start (length text) text) →
-    take (end - start) (drop start text) ≡ text_line n text
-line_part text n start end e f =
-    let whole = ap (λ t. index_of 10 (drop start t)) (take-length text) in
-    let count : end - start ≡ index_of 10 (drop start text) = omega (arith, f, whole) in
-    ap (λ k. take k (drop start text)) count ∙ ap (λ bs. take (index_of 10 bs) bs) e
 
 -- ---- the lines against the sentences
 
@@ -90,5 +76,5 @@ LinesAre text es k = T (lines_equal text es k) × T (keys_below es k) × (after_
 pub line_is_lem : (text : List ℕ) (es : List Entry) (k n : ℕ) → LinesAre text es k → text_line n text ≡ bytes_of (sentence_in es n)
 line_is_lem text es k n l =
     by_leb (λ c. text_line n text ≡ bytes_of (sentence_in es n)) k n
-    (λ le. ap (λ bs. take (index_of 10 bs) bs) (past text k n l.2 le) ∙ sym (ap bytes_of (none_past es k n l.1 le)))
+    (λ le. ap (λ bs. take (position_or_len (λ b. eqb b 10) bs) bs) (past text k n l.2 le) ∙ sym (ap bytes_of (none_past es k n l.1 le)))
     (λ lt. line_same text es k n l.0 lt)

@@ -1,15 +1,7 @@
 -- The lines of a text, each ended by a line feed, the byte 10. Internal definitions: the laws are in LineLaws.
-use Rattle.std.specs.Prelude.{ℕ, suc, ◌-◌, cond, List, [], ◌∷◌, ◌++◌, eqb, take, drop, replicate}
+use Rattle.std.specs.Prelude.{ℕ, suc, ◌-◌, cond, List, [], ◌∷◌, ◌++◌, eqb, take, replicate}
+use Rattle.std.specs.List.{position_or_len}
 use Rattle.refusals.specs.Trusted.Sentences.{Entry, ◌means◌, bytes_of}
-
--- how many bytes stand before the first byte x; all of them, where it is not there
-abbrev pub index_of : ℕ → List ℕ → ℕ
-index_of x [] = 0
-index_of x (b ∷ bs) = cond (eqb b x) 0 (suc (index_of x bs))
-
--- the bytes from place start up to place end
-abbrev pub slice : ℕ → ℕ → List ℕ → List ℕ
-slice start end bs = drop start (take end bs)
 
 -- the text after its first n lines
 abbrev pub after_lines : ℕ → List ℕ → List ℕ
@@ -18,7 +10,7 @@ after_lines n (b ∷ bs) = cond (eqb n 0) (b ∷ bs) (after_lines (cond (eqb b 1
 
 -- the line after the first n, without its line feed
 abbrev pub text_line : ℕ → List ℕ → List ℕ
-text_line n text = take (index_of 10 (after_lines n text)) (after_lines n text)
+text_line n text = take (position_or_len (λ b. eqb b 10) (after_lines n text)) (after_lines n text)
 
 -- the sentences of entries as the lines of their numbers, from line k on; a line before the next number is empty
 abbrev pub text_from : ℕ → List Entry → List ℕ

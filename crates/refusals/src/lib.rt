@@ -1,7 +1,8 @@
 // What each refusal's number means, in plain words.
 #![tactic(auto)]
 
-ghost use Rattle.std.specs.Prelude.{◌≡◌, ◌≤◌, length, drop};
+ghost use Rattle.std.specs.Prelude.{◌≡◌, ◌≤◌, ◌==◌, length, drop};
+ghost use Rattle.std.specs.List.{position_or_len};
 ghost use Rattle.refusals.specs.Trusted.Sentences.{refusal_text, front_write};
 ghost use Rattle.refusals.specs.Lines.{after_lines, text_line};
 
@@ -12,7 +13,9 @@ fn put(text: &[u8], out: &mut [u8]) -> usize
     if text.len() > out.len() {
         return 0;
     }
-    bytes::copy(text, out)
+    let count = text.len();
+    out[..count].copy_from_slice(text);
+    count
 }
 
 // Where the line of a number starts in a text whose lines are counted from 0; the text's end, where it has no such line.
@@ -33,13 +36,25 @@ fn line_start(text: &[u8], number: u32) -> usize
     i
 }
 
+// How many bytes stand before a text's first line feed: all of them, where there is none.
+fn line_len(text: &[u8]) -> usize
+    ensures { result ≡ position_or_len (λ b. b == 10) text.now }
+{
+    for (i, b) in text.iter().enumerate() {
+        if *b == b'\n' {
+            return i;
+        }
+    }
+    text.len()
+}
+
 // Writes the line of a number to the front of the buffer, as `put` does.
 fn put_line(text: &[u8], number: u32, out: &mut [u8]) -> usize
     ensures { record { count = result; bytes = out.new } ≡ front_write (text_line number text.now) out.old }
 {
     let start = line_start(text, number);
-    let end = bytes::scan::find(text, start, text.len(), b'\n');
-    put(&text[start..end], out)
+    let rest = &text[start..];
+    put(&rest[..line_len(rest)], out)
 }
 
 // Writes the sentence of a refusal to the front of the buffer and gives its length; 0, with the buffer as it was, for a number that is

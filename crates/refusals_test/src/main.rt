@@ -2,30 +2,31 @@
 // bin/map takes its words from the file `stdout` here.
 #![tactic(auto)]
 
-use libc::STDOUT_FILENO;
+use std::io;
 
 // The number in six columns, and a blank.
-fn say_number(number: u32) {
+fn say_number(rt: &impl Print, number: u32) -> io::Result<()> {
     let mut columns = [b' '; 6];
     decimal_writer::write(&mut columns, number as u64);
-    io::write_all(STDOUT_FILENO, &columns);
-    io::write_all(STDOUT_FILENO, b" ");
+    rt.write_all(&columns)?;
+    rt.write_all(b" ")
 }
 
 // The line of a number, where it has a sentence.
-fn say(number: u32) {
-    let mut text = io::buffer();
+fn say(rt: &impl Print, number: u32) -> io::Result<()> {
+    let mut text = [0u8; 4096];
     let n = refusals::write(number, &mut text);
     if n == 0 {
-        return;
+        return Ok(());
     }
-    say_number(number);
-    io::write_all(STDOUT_FILENO, &text[..n]);
-    io::write_all(STDOUT_FILENO, b"\n");
+    say_number(rt, number)?;
+    rt.write_all(&text[..n])?;
+    rt.write_all(b"\n")
 }
 
-fn main() {
+fn main(rt: HostRuntime) -> io::Result<()> {
     for number in 0..100 {
-        say(number);
+        say(&rt, number)?;
     }
+    Ok(())
 }

@@ -8,8 +8,7 @@ ghost use Rattle.plan.specs.Entries.{FewLeaves};
 ghost use Rattle.plan.specs.Volume.{fewest_leaves};
 
 use plan::{Key, Plan};
-
-const OUT: i32 = 1;
+use std::io;
 
 fn leaf() -> Key
     ensures { fewest_leaves result ≤ 1 }
@@ -17,23 +16,23 @@ fn leaf() -> Key
     Key { below: 0, width: 1 }
 }
 
-fn show_number(n: u64) {
-    io::print_decimal(OUT, n);
+fn show_number(rt: &impl Print, n: u64) -> io::Result<()> {
+    rt.print(n)
 }
 
-fn show(p: Plan) {
+fn show(rt: &impl Print, p: Plan) -> io::Result<()> {
     let key = p.key;
     if p.ok {
-        io::write_all(OUT, b"1 ");
+        rt.write_all(b"1 ")?;
     } else {
-        io::write_all(OUT, b"0 ");
+        rt.write_all(b"0 ")?;
     }
-    show_number(key.below as u64);
-    io::write_all(OUT, b" ");
-    show_number(key.width as u64);
-    io::write_all(OUT, b" ");
-    show_number(p.len as u64);
-    io::write_all(OUT, b"\n");
+    show_number(rt, key.below as u64)?;
+    rt.write_all(b" ")?;
+    show_number(rt, key.width as u64)?;
+    rt.write_all(b" ")?;
+    show_number(rt, p.len as u64)?;
+    rt.write_all(b"\n")
 }
 
 // The key of a gate of that many leaves, or of a leaf.
@@ -48,51 +47,52 @@ fn gate_of(k: u8, leaves: u8) -> Key
 }
 
 // The root of an example: each fanin is a gate of that many leaves, or a leaf.
-fn example(k: u8, count: u8, leaves: [u8; 10]) {
+fn example(rt: &impl Print, k: u8, count: u8, leaves: [u8; 10]) -> io::Result<()> {
     let mut keys = [leaf(); 10];
     let mut i: usize = 0;
     while i < 10 {
         keys[i] = gate_of(k, leaves[i]);
         i += 1;
     }
-    show(search::best_plan(k, count, keys));
+    show(rt, search::best_plan(k, count, keys))
 }
 
-fn examples() {
-    example(2, 2, [1, 1, 1, 1, 1, 1, 1, 1, 1, 1]);
-    example(2, 5, [1, 1, 1, 1, 1, 1, 1, 1, 1, 1]);
-    example(5, 10, [1, 1, 1, 1, 1, 1, 1, 1, 1, 1]);
-    example(6, 10, [1, 1, 1, 1, 1, 1, 1, 1, 1, 1]);
-    example(4, 2, [2, 2, 1, 1, 1, 1, 1, 1, 1, 1]);
-    example(3, 2, [2, 2, 1, 1, 1, 1, 1, 1, 1, 1]);
-    example(4, 3, [5, 1, 1, 1, 1, 1, 1, 1, 1, 1]);
-    example(5, 5, [3, 2, 2, 2, 2, 1, 1, 1, 1, 1]);
-    example(4, 5, [3, 2, 2, 2, 2, 1, 1, 1, 1, 1]);
-    example(5, 3, [3, 3, 3, 1, 1, 1, 1, 1, 1, 1]);
+fn examples(rt: &impl Print) -> io::Result<()> {
+    example(rt, 2, 2, [1, 1, 1, 1, 1, 1, 1, 1, 1, 1])?;
+    example(rt, 2, 5, [1, 1, 1, 1, 1, 1, 1, 1, 1, 1])?;
+    example(rt, 5, 10, [1, 1, 1, 1, 1, 1, 1, 1, 1, 1])?;
+    example(rt, 6, 10, [1, 1, 1, 1, 1, 1, 1, 1, 1, 1])?;
+    example(rt, 4, 2, [2, 2, 1, 1, 1, 1, 1, 1, 1, 1])?;
+    example(rt, 3, 2, [2, 2, 1, 1, 1, 1, 1, 1, 1, 1])?;
+    example(rt, 4, 3, [5, 1, 1, 1, 1, 1, 1, 1, 1, 1])?;
+    example(rt, 5, 5, [3, 2, 2, 2, 2, 1, 1, 1, 1, 1])?;
+    example(rt, 4, 5, [3, 2, 2, 2, 2, 1, 1, 1, 1, 1])?;
+    example(rt, 5, 3, [3, 3, 3, 1, 1, 1, 1, 1, 1, 1])
 }
 
 // A gate whose first two fanins have the keys; the others are leaves.
-fn with_keys(k: u8, count: u8, a: Key, b: Key)
+fn with_keys(rt: &impl Print, k: u8, count: u8, a: Key, b: Key) -> io::Result<()>
     requires { fewest_leaves a + fewest_leaves b ≤ 248 }
 {
     let mut keys = [leaf(); 10];
     keys[0] = a;
     keys[1] = b;
-    show(search::best_plan(k, count, keys));
+    show(rt, search::best_plan(k, count, keys))
 }
 
-fn not_good() {
-    with_keys(1, 3, leaf(), leaf());
-    with_keys(7, 3, leaf(), leaf());
-    with_keys(4, 1, leaf(), leaf());
-    with_keys(4, 11, leaf(), leaf());
-    with_keys(4, 3, Key { below: 0, width: 0 }, leaf());
-    with_keys(4, 3, Key { below: 0, width: 5 }, leaf());
+fn not_good(rt: &impl Print) -> io::Result<()> {
+    with_keys(rt, 1, 3, leaf(), leaf())?;
+    with_keys(rt, 7, 3, leaf(), leaf())?;
+    with_keys(rt, 4, 1, leaf(), leaf())?;
+    with_keys(rt, 4, 11, leaf(), leaf())?;
+    with_keys(rt, 4, 3, Key { below: 0, width: 0 }, leaf())?;
+    with_keys(rt, 4, 3, Key { below: 0, width: 5 }, leaf())
 }
 
 // Gates of at least 256 leaves.
-fn most_leaves() {
+fn most_leaves(rt: &impl Print) -> io::Result<()> {
     with_keys(
+        rt,
         2,
         10,
         Key {
@@ -100,17 +100,17 @@ fn most_leaves() {
             width: 2,
         },
         leaf(),
-    );
+    )?;
     let pair = Key {
         below: 122,
         width: 2,
     };
-    with_keys(2, 10, pair, pair);
+    with_keys(rt, 2, 10, pair, pair)?;
     let wide = Key {
         below: 118,
         width: 6,
     };
-    with_keys(6, 10, wide, wide);
+    with_keys(rt, 6, 10, wide, wide)
 }
 
 // The generator: its next state, and a number from the upper bits.
@@ -169,21 +169,22 @@ fn draw(start: u64) -> Drawn
     }
 }
 
-fn generated() {
+fn generated(rt: &impl Print) -> io::Result<()> {
     let mut state: u64 = 1;
     let mut i: usize = 0;
     while i < 200 {
         let d = draw(state);
         let keys = d.keys;
-        show(search::best_plan(d.k, d.count, keys));
+        show(rt, search::best_plan(d.k, d.count, keys))?;
         state = d.state;
         i += 1;
     }
+    Ok(())
 }
 
-fn main() {
-    examples();
-    not_good();
-    most_leaves();
-    generated();
+fn main(rt: HostRuntime) -> io::Result<()> {
+    examples(&rt)?;
+    not_good(&rt)?;
+    most_leaves(&rt)?;
+    generated(&rt)
 }

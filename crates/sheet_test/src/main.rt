@@ -3,126 +3,122 @@
 // one after the other. Each number has a column for its sign, and six for its digits.
 #![tactic(auto)]
 
-use libc::STDOUT_FILENO;
+use input_reader::read_file;
 use sheet::{Edge, Gate, ReadAnswer, Sheet, Source};
+use std::rt::Files;
+use std::{env, io};
 use tree::Kind;
 
-fn main() {
-    let count = os::arg_count();
-    for i in 1..count {
-        print_case(i);
+fn main(rt: HostRuntime) -> io::Result<()> {
+    for name in env::args(&rt)?.skip(1) {
+        print_case(&rt, name.as_str())?;
     }
+    Ok(())
 }
 
-fn print_case(i: usize) {
-    let mut name = io::buffer();
-    let n = os::arg(i, &mut name);
-    print(&name[..n]);
-    end_line();
-    let fd = os::open_read(&name[..n]);
-    if fd < 0 {
-        os::fail(&name[..n]);
-        return;
-    }
-    let mut text = io::large_buffer();
-    let got = io::read_full(fd, &mut text);
-    libc::close(fd);
-    if name[0] == b'+' {
-        print_two(&text[..got]);
+fn print_case(rt: &(impl Files + Print), name: &str) -> io::Result<()> {
+    print(rt, name.as_bytes())?;
+    end_line(rt)?;
+    let mut text = [0u8; 65536];
+    let got = read_file(rt, name, &mut text)?;
+    if name.starts_with('+') {
+        print_two(rt, &text[..got])
     } else {
-        print_one(&text[..got]);
+        print_one(rt, &text[..got])
     }
 }
 
-fn print_one(text: &[u8]) {
+fn print_one(rt: &impl Print, text: &[u8]) -> io::Result<()> {
     let r = sheet_reader::read(text);
     let answer = r.answer;
     let sheet = r.sheet;
-    print_answer(answer, sheet);
+    print_answer(rt, answer, sheet)
 }
 
-fn print_two(text: &[u8]) {
-    let first = print_next(text, 0);
-    print_next(text, first);
+fn print_two(rt: &impl Print, text: &[u8]) -> io::Result<()> {
+    let first = print_next(rt, text, 0)?;
+    print_next(rt, text, first)?;
+    Ok(())
 }
 
 // The place after the sheet.
-fn print_next(text: &[u8], start: usize) -> usize {
+fn print_next(rt: &impl Print, text: &[u8], start: usize) -> io::Result<usize> {
     let r = sheet_reader::read_next(text, start);
     let answer = r.answer;
     let sheet = r.sheet;
-    print_answer(answer, sheet);
-    r.end
+    print_answer(rt, answer, sheet)?;
+    Ok(r.end)
 }
 
-fn print_answer(answer: ReadAnswer, sheet: Sheet) {
+fn print_answer(rt: &impl Print, answer: ReadAnswer, sheet: Sheet) -> io::Result<()> {
     match answer {
-        ReadAnswer::Accepted => print_sheet(sheet),
+        ReadAnswer::Accepted => print_sheet(rt, sheet),
         ReadAnswer::Refused(why, line) => {
-            print_signed(true, sheet::number(why) as u32);
-            print_number(line as u32);
-            end_line();
+            print_signed(rt, true, sheet::number(why) as u32)?;
+            print_number(rt, line as u32)?;
+            end_line(rt)
         }
     }
 }
 
-fn print_sheet(sheet: Sheet) {
-    print_signed(sheet.inverted, sheet.out as u32);
-    print_number(sheet.count as u32);
-    end_line();
+fn print_sheet(rt: &impl Print, sheet: Sheet) -> io::Result<()> {
+    print_signed(rt, sheet.inverted, sheet.out as u32)?;
+    print_number(rt, sheet.count as u32)?;
+    end_line(rt)?;
     let fanins = sheet.fanins;
     for g in 0..sheet.count as usize {
         let gate = sheet.gates[g];
-        print_gate(gate, fanins);
+        print_gate(rt, gate, fanins)?;
     }
+    Ok(())
 }
 
-fn print_gate(gate: Gate, fanins: [Edge; sheet::FANIN_ROOM]) {
+fn print_gate(rt: &impl Print, gate: Gate, fanins: [Edge; sheet::FANIN_ROOM]) -> io::Result<()> {
     let kind = gate.kind;
     match kind {
-        Kind::And => print_number(1),
-        Kind::Or => print_number(2),
+        Kind::And => print_number(rt, 1)?,
+        Kind::Or => print_number(rt, 2)?,
     }
-    print_number(gate.count as u32);
+    print_number(rt, gate.count as u32)?;
     let first = gate.first as usize;
     let end = first + gate.count as usize;
     for i in first..end {
         if i < sheet::FANIN_ROOM {
             let fanin = fanins[i];
-            print_fanin(fanin);
+            print_fanin(rt, fanin)?;
         }
     }
-    end_line();
+    end_line(rt)
 }
 
-fn print_fanin(fanin: Edge) {
+fn print_fanin(rt: &impl Print, fanin: Edge) -> io::Result<()> {
     let source = fanin.source;
     match source {
-        Source::Net(n) => print_signed(fanin.inverted, n as u32),
-        Source::Gate(g) => print_signed(fanin.inverted, tree::CODE_BASE as u32 + g as u32),
+        Source::Net(n) => print_signed(rt, fanin.inverted, n as u32),
+        Source::Gate(g) => print_signed(rt, fanin.inverted, tree::CODE_BASE as u32 + g as u32),
     }
 }
 
 // The sign in a column of its own, and the number in six.
-fn print_signed(negative: bool, n: u32) {
+fn print_signed(rt: &impl Print, negative: bool, n: u32) -> io::Result<()> {
     if negative {
-        print(b"-");
+        print(rt, b"-")?;
     } else {
-        print(b" ");
+        print(rt, b" ")?;
     }
     let mut field = [b' '; 6];
     decimal_writer::write(&mut field, n as u64);
-    print(&field);
+    print(rt, &field)
 }
 
-fn print_number(n: u32) {
-    print_signed(false, n);
+fn print_number(rt: &impl Print, n: u32) -> io::Result<()> {
+    print_signed(rt, false, n)
 }
 
-fn end_line() {
-    print(b"\n");
+fn end_line(rt: &impl Print) -> io::Result<()> {
+    print(rt, b"\n")
 }
 
-fn print(s: &[u8]) {
-    io::write_all(STDOUT_FILENO, s);
+fn print(rt: &impl Print, s: &[u8]) -> io::Result<()> {
+    rt.write_all(s)
 }

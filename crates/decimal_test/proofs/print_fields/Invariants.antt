@@ -1,11 +1,9 @@
-use Prim.Native.Nat.{◌-◌, ◌≤◌}
-use native.Mathlib.Omega.{arith}
-use mathlib.Core.Logic.{⊎_elim}
-use lib.ListN.{length}
+-- The line begins before the byte that is read. The measure is the bytes left.
+use Rattle.std.proofs.Common.{length, ◌-◌, ◌≤◌}
 use Rattle.decimal_test.proofs.print_fields.Given as goal
 
 abbrev pub invariant-loop-i : goal.invariant-loop-i
-invariant-loop-i l = (l.start ≤ l.i) × (l.i ≤ length l.text)
+invariant-loop-i g l = (l.start ≤ l.i) × (l.i ≤ length l.text)
 
 abbrev pub decreases-loop-i : goal.decreases-loop-i
-decreases-loop-i l = length l.text - l.i
+decreases-loop-i g l = length l.text - l.i

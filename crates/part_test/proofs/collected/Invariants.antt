@@ -1,7 +1,5 @@
-use Prim.Native.Nat.{◌-◌, ◌≤◌}
-use native.Mathlib.Omega.{arith}
-use mathlib.Core.Logic.{⊎_elim}
-use borrow.Author.Rules.{rules}
+-- No more lengths than there is room for. The measure is the times left.
+use Rattle.std.proofs.Common.{◌-◌, ◌≤◌}
 use Rattle.part_test.proofs.collected.Given as goal
 
 abbrev pub invariant-loop-i : goal.invariant-loop-i

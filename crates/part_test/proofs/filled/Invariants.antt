@@ -1,6 +1,5 @@
-use Prim.Native.Nat.{◌-◌, ◌≤◌}
-use native.Mathlib.Omega.{arith}
-use mathlib.Core.Logic.{⊎_elim}
+-- No more records than there is room for. The measure is the records left.
+use Rattle.std.proofs.Common.{◌-◌, ◌≤◌}
 use Rattle.part_test.proofs.filled.Given as goal
 
 abbrev pub invariant-loop-t : goal.invariant-loop-t

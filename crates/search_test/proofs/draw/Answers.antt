@@ -1,9 +1,6 @@
-use Prim.Native.Nat.{◌-◌, ◌≤◌, ◌<◌}
 use native.Mathlib.Omega.{arith}
-use mathlib.Core.Path.{◌≡◌, refl}
-use lib.ListN.{length, length-set}
-use borrow.Author.Rules.{rules}
-use Rattle.lists.specs.Trusted.Lists.{Every}
+use mathlib.Core.Path.{refl}
+use lib.ListN.{length-set}
 use Rattle.lists.specs.ListLaws.{every_replicate}
 use Rattle.search_test.proofs.Keys.{Light, light_take, light_set}
 use Rattle.search_test.proofs.draw.Goals as goal

@@ -1,11 +1,8 @@
 use Prim.Native.Nat.{◌-◌, ◌≤◌, ◌<◌}
-use native.Mathlib.Omega.{arith}
-use mathlib.Core.Path.{◌≡◌, refl}
-use lib.ListN.{length, length-set}
-use borrow.Author.Rules.{rules}
+use mathlib.Core.Path.{◌≡◌}
+use lib.ListN.{length}
 use Rattle.lists.specs.Trusted.Lists.{Every}
-use Rattle.lists.specs.ListLaws.{every_replicate}
-use Rattle.search_test.proofs.Keys.{Light, light_take, light_set}
+use Rattle.search_test.proofs.Keys.{Light}
 use Rattle.search_test.proofs.draw.Given as goal
 
 abbrev pub invariant-loop-i : goal.invariant-loop-i

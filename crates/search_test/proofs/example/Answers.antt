@@ -1,20 +1,17 @@
-use Prim.Native.Nat.{◌-◌, ◌≤◌}
 use native.Mathlib.Omega.{arith}
-use mathlib.Core.Path.{◌≡◌, refl}
-use lib.ListN.{length, length-set}
-use borrow.Author.Rules.{rules}
-use Rattle.lists.specs.Trusted.Lists.{Every}
+use mathlib.Core.Path.{refl}
+use lib.ListN.{length-set}
 use Rattle.lists.specs.ListLaws.{every_replicate}
 use Rattle.search_test.proofs.Keys.{Light, light_take, light_set}
 use Rattle.search_test.proofs.example.Goals as goal
 
 pub loop-i-init : goal.loop-i-init
-loop-i-init c = (omega arith, refl, every_replicate (Light 25) 10 _ (omega (arith, c.leaf-keys.ensures)))
+loop-i-init g c = (omega arith, refl, every_replicate (Light 25) 10 _ (omega (arith, c.leaf-keys.ensures)))
 
 pub loop-i-preserved : goal.loop-i-preserved
-loop-i-preserved c =
+loop-i-preserved g c =
     let v = c.loop-i.invariant in
     (omega arith, simp length-set v.1, light_set _ _ _ v.2 c.gate_of.ensures)
 
 pub best_plan-requires : goal.best_plan-requires
-best_plan-requires c = let v = c.loop-i.invariant in omega (arith, light_take 25 c.loop-i.keys c.args.count v.1 v.2)
+best_plan-requires g c = let v = c.loop-i.invariant in omega (arith, light_take 25 c.loop-i.keys c.args.count v.1 v.2)

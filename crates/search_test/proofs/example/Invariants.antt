@@ -1,15 +1,12 @@
 use Prim.Native.Nat.{◌-◌, ◌≤◌}
-use native.Mathlib.Omega.{arith}
-use mathlib.Core.Path.{◌≡◌, refl}
-use lib.ListN.{length, length-set}
-use borrow.Author.Rules.{rules}
+use mathlib.Core.Path.{◌≡◌}
+use lib.ListN.{length}
 use Rattle.lists.specs.Trusted.Lists.{Every}
-use Rattle.lists.specs.ListLaws.{every_replicate}
-use Rattle.search_test.proofs.Keys.{Light, light_take, light_set}
+use Rattle.search_test.proofs.Keys.{Light}
 use Rattle.search_test.proofs.example.Given as goal
 
 abbrev pub invariant-loop-i : goal.invariant-loop-i
-invariant-loop-i l = (l.i ≤ 10) × (length l.keys ≡ 10) × Every (Light 25) l.keys
+invariant-loop-i g l = (l.i ≤ 10) × (length l.keys ≡ 10) × Every (Light 25) l.keys
 
 abbrev pub decreases-loop-i : goal.decreases-loop-i
-decreases-loop-i l = 10 - l.i
+decreases-loop-i g l = 10 - l.i

@@ -4,7 +4,6 @@ use native.Mathlib.Omega.{arith}
 use lib.ListN.{take, replicate}
 use Rattle.lists.specs.Trusted.Lists.{sum}
 use Rattle.plan.specs.Volume.{fewest_leaves}
-use borrow.Author.Rules.{rules}
 use Rattle.lists.specs.ListLaws.{every_replicate}
 use Rattle.search_test.proofs.Keys.{Light, light_take, plan_light}
 use Rattle.search_test.proofs.gate_of.Goals as goal

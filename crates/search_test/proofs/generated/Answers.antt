@@ -1,6 +1,4 @@
-use Prim.Native.Nat.{◌-◌, ◌≤◌, ◌<◌}
-use borrow.Author.Rules.{rules}
 use Rattle.search_test.proofs.generated.Goals as goal
 
 pub best_plan-requires : goal.best_plan-requires
-best_plan-requires c = c.draw-d.ensures.1 c.draw-d.result.count
+best_plan-requires g c = c.draw-d.ensures.1 c.draw-d.result.count

@@ -1,8 +1,0 @@
-use borrow.Author.Rules.{rules}
-use Rattle.program_laws.specs.Front.{front_bytes}
-use Rattle.map.proofs.main.Goals as goal
-
--- the buffer has `front_bytes` bytes
-pub read_all-got-requires : goal.read_all-got-requires
-unfolding front_bytes
-read_all-got-requires c = search rules
