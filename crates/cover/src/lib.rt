@@ -1,3 +1,2 @@
 // Decompositions and covers of a tree, the tables of a cover, and their values: definitions and laws.
 #![tactic(auto)]
-

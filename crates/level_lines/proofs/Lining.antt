@@ -17,7 +17,7 @@ use Rattle.level_arrays.specs.Alike.{fan_labels, LikeMasks, Likened}
 use Rattle.level_arrays.specs.AlikeLaws.{searched_likened}
 use Rattle.level_rows.specs.Rows.{pick_some}
 use Rattle.level_rows.specs.Runs.{RunWritten}
-use Rattle.level_lines.specs.Looked.{FansStored, RowsLooked, SameRows}
+use Rattle.level_lines.specs.Looked.{RowsLooked, SameRows}
 use Rattle.level_lines.proofs.Looking.{fan_below, look_net, fan_line_lem}
 
 -- an array that has no entry
@@ -186,18 +186,6 @@ pub record Lining (K g : ℕ) (f : Fans) (a : ℕ) (old store rows own array bef
   pub same : SameRows array before (2 ^ f.count * 8)
   pub lines : (earlier : List ℕ) × LinesSo K g f a old store own earlier array (bound - start_at f.count a) count
 
--- no level is high
-pub greatest_low : {K g a : ℕ} {f : Fans} → FansGood K g f → GreatestFan f a → a ≤ 2000
-greatest_low good greatest = let m = greatest.met in omega (arith, good.low m.0 m.1, m.2)
-
 -- the rows change up to the greatest level at least
 pub change_above : {f : Fans} {a r : ℕ} → GreatestFan f a → ((h : ℕ) → h < f.count → get_or f.levels h 0 + (get_or f.lines h 0 - 1) ≤ r) → a ≤ r
 change_above greatest p = let m = greatest.met in omega (arith, p m.0 m.1, m.2)
-
--- the fanins' lines are in the store
-pub fans_stored : {K g : ℕ} {f : Fans} → FansGood K g f → g < 255 → FansStored f
-fans_stored good l =
-    let n = good.some.fanins.1 in record {
-      count = n;
-      each = λ h k. record { place = omega arith; gate = λ p. omega (arith, good.before h k p); few = good.few h k };
-    }

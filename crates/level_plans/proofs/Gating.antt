@@ -1,4 +1,4 @@
--- The plan of a gate: its arrays can be filled, and its plan is read back from the last of them. Assumes nothing.
+-- The plan of a gate is read back from the last of its arrays. Assumes nothing.
 use Prim.Native.Nat.{ℕ, ◌+◌, ◌-◌, ◌^◌, ◌<◌}
 use native.Mathlib.Omega.{arith}
 use mathlib.Core.Path.{◌≡◌, refl}
@@ -11,34 +11,12 @@ use Rattle.plan.specs.MaskLaws.{select_all}
 use Rattle.level_arrays.specs.declared.Fans.{Fans}
 use Rattle.level_arrays.specs.declared.Draft.{Draft}
 use Rattle.level_arrays.specs.Arrays.{start_at}
-use Rattle.level_lines.specs.Looked.{FansStored}
 use Rattle.level_plans.specs.Backing.{arrays_room, Backed, Drafts}
-use Rattle.level_plans.specs.Ranges.{RangeFilled, RangeStarted, RangeFillable, empty_draft, range_of, PlanArrays, PlanAsked, GatePlanned}
+use Rattle.level_plans.specs.Ranges.{RangeFilled, empty_draft, range_of, PlanArrays, PlanAsked, GatePlanned}
 
 module _ {K bound w : ℕ} {f : Fans} {store a : List ℕ} (q : PlanAsked K f bound w store a) where
   abbrev n : ℕ
   n = f.count
-
-  pub plan_stored : FansStored f
-  plan_stored = record {
-    count = q.good.some.fanins.1;
-    each = λ h l. record {
-      place = omega (arith, q.good.some.fanins.1);
-      gate = λ p. omega (arith, q.good.before h l p, q.sheet);
-      few = q.good.few h l;
-    };
-  }
-
-  pub plan_fillable : {from : ℕ} {b : List ℕ} → from ≡ start_at n bound → RangeStarted from f store b →
-      RangeFillable K from (bound - from + 1) f store b
-  plan_fillable e s = record {
-    some = q.good.some;
-    fans = plan_stored;
-    room = q.rooms.0;
-    low = omega (arith, q.low);
-    few = (omega arith, omega (arith, q.good.some.fanins));
-    started = s K q.good.some;
-  }
 
   whole_mask : (0 < 2 ^ n - 1) × (2 ^ n - 1 < 2 ^ n)
   whole_mask = let m = pow_mono q.good.some.fanins.0 in (omega arith, omega arith)

@@ -2,7 +2,7 @@
 use Prim.Native.Nat.{ℕ, ◌+◌, ◌-◌, ◌*◌, ◌^◌, ◌≤◌, ◌<◌}
 use native.Mathlib.Omega.{arith}
 use native.Mathlib.Decide.{dec_lt}
-use mathlib.Core.Path.{◌≡◌, refl, ap, ◌∙◌}
+use mathlib.Core.Path.{◌≡◌, ap, ◌∙◌}
 use mathlib.Core.Logic.{by_cases}
 use mathlib.Core.List.{List}
 use lib.ListN.{length, get_or}
@@ -17,9 +17,6 @@ use Rattle.level_plans.specs.Ranges.{SinglesPut, RangeStarted}
 -- ---- the rows of the fanins, put in one after the other
 
 module _ {store : List ℕ} {f : Fans} {bound : ℕ} {a : List ℕ} where
-  pub singles_none : SinglesPut store f bound a a 0
-  singles_none = record { is = λ h w l. absurd (omega arith); others = λ h r w o l k. refl; room = refl }
-
   pub singles_more : {b c : List ℕ} {h t : ℕ} {row : ℕ → ℕ} → SinglesPut store f bound a b h → t ≡ 2 ^ h → RunWritten b c (t * 8) 8 row →
       ((w : ℕ) → w ≤ 6 → row w ≡ fan_row store f bound h w) → SinglesPut store f bound a c (h + 1)
   singles_more {c = c} {h} {t} p e q g = record {

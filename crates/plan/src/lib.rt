@@ -1,7 +1,6 @@
 // Keys of covers and plans for a gate: what the search finds, as types, with the laws that it rests on. The search is the crate `search`.
 #![tactic(auto)]
 
-
 // The inputs of a table.
 pub const LEAST_INPUTS: u8 = 2;
 

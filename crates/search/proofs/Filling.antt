@@ -49,20 +49,6 @@ abbrev pub Place : ℕ → ℕ → Type 0
 Place count s = (s < 2 ^ count) × (s < masks)
 
 module _ {K count : ℕ} {ks : List Key} where
-  pub filling_first : {bs ws us vs : List ℕ} →
-      (length bs ≡ masks) × (length ws ≡ masks) × (length us ≡ masks) × (length vs ≡ masks) → Filling K count ks bs ws us vs 0 0 1 1
-  filling_first l = record {
-    fanins = omega arith;
-    bit = refl;
-    room = pow_pos count;
-    some = omega arith;
-    most = omega arith;
-    half = λ l. absurd (omega arith);
-    sizes = l;
-    entries = record { at = λ s p l. absurd (omega arith) };
-    volumes = record { at = λ s p l. absurd (omega arith) };
-  }
-
   module _ (good : GoodKeys K ks) (size : length ks ≡ count) {bs ws us vs : List ℕ} {h top next s : ℕ}
       (f : Filling K count ks bs ws us vs h top next s) where
     -- no mask is past the arrays

@@ -2,7 +2,7 @@
 use Prim.Native.Nat.{ℕ, ◌+◌, ◌-◌, ◌^◌, ◌<◌}
 use native.Mathlib.Omega.{arith}
 use mathlib.Core.Path.{◌≡◌, refl, sym, ap, subst, ◌∙◌}
-use mathlib.Core.Bool.{true, false}
+use mathlib.Core.Bool.{true}
 use mathlib.Core.List.{List}
 use lib.ListN.{length, take}
 use lib.Dec.{T}
@@ -13,7 +13,6 @@ use Rattle.plan.specs.declared.Key.{Key}
 use Rattle.plan.specs.declared.Plan.{Plan}
 use Rattle.tree.specs.Trusted.Limits.{most_fanins}
 use Rattle.plan.specs.Limits.{masks}
-use Rattle.plan.specs.Key.{key}
 use Rattle.plan.specs.Masks.{select}
 use Rattle.plan.specs.MaskLaws.{select_all}
 use Rattle.plan.specs.Reach.{LeastReach}
@@ -76,11 +75,6 @@ plan_keys K count keys l few e =
     let t = subst T (sym e) tt in
     let s = good_size K count keys (omega arith) t in
     (s, (reflects_good K count keys s few).to t)
-
--- the promise, by the test's result
-pub plan_refused : (K count : ℕ) (keys : List Key) {r : Plan} → good_input K count keys ≡ false → r ≡ empty_plan false (key 0 0) →
-    PlanOf K count keys r
-plan_refused K count keys e h = rw e h
 
 pub plan_found : (K count : ℕ) (keys : List Key) {r : Plan} → good_input K count keys ≡ true → PlanAnswer K (take count keys) r →
     PlanOf K count keys r

@@ -2,14 +2,14 @@
 use Prim.Native.Nat.{ℕ, suc, ◌+◌, ◌-◌, ◌≤◌, ◌<◌}
 use native.Mathlib.Omega.{arith}
 use native.Mathlib.Numerals.{add-one}
-use mathlib.Core.Path.{◌≡◌, refl, sym, ap, ◌∙◌}
+use mathlib.Core.Path.{◌≡◌, sym, ap, ◌∙◌}
 use mathlib.Core.Bool.{true, false}
 use mathlib.Core.List.{List, ◌∷◌}
 use Rattle.lists.specs.Trusted.Lists.{from}
 use Rattle.lists.specs.Trusted.Tests.{elem}
 use Rattle.tree.specs.Trusted.Limits.{code_base}
 use Rattle.sheet.specs.Trusted.Limits.{most_gates}
-use Rattle.lists.specs.Trusted.Checked.{passed, refused, ◌>>=◌, require}
+use Rattle.lists.specs.Trusted.Checked.{refused, ◌>>=◌, require}
 use Rattle.sheet.specs.Trusted.Read.{read_unread}
 use Rattle.flags.specs.Flags.{flag_at}
 use Rattle.sheet_fanin.specs.Fanins.{Flagged}
@@ -18,9 +18,6 @@ use Rattle.sheet_fanin.specs.Fanins.{Flagged}
 pub record Passed (words : List ℕ) (count g : ℕ) : Type 0 where
   pub least : 1 ≤ g
   pub same : (read : List ℕ) → Flagged code_base (most_gates + 1) words read → read_unread (from 1 (count - 1)) read ≡ read_unread (from g (count - g)) read
-
-pub passed_none : (words : List ℕ) (count : ℕ) → Passed words count 1
-passed_none words count = record { least = omega arith; same = λ read h. refl }
 
 module _ (g : ℕ) (gs read : List ℕ) where
   unread_first : elem g read ≡ false → read_unread (g ∷ gs) read ≡ refused 13 (suc g)
@@ -50,6 +47,3 @@ module _ {words : List ℕ} {count g : ℕ} (p : Passed words count g) where
         p.same read h
         ∙ (ap (λ gs. read_unread gs read) one_more
         ∙ (unread_first g (from (g + 1) (count - (g + 1))) read (sym (h g (omega arith)) ∙ e) ∙ ap (refused 13) (sym (add-one g))))
-
-  pub passed_all : count ≤ g → (read : List ℕ) → Flagged code_base (most_gates + 1) words read → read_unread (from 1 (count - 1)) read ≡ passed tt
-  passed_all l read h = p.same read h ∙ ap (λ n. read_unread (from g n) read) (let q : count - g ≡ 0 = omega arith in q)

@@ -6,7 +6,7 @@ use mathlib.Core.Path.{◌≡◌, refl, sym, ap, ◌∙◌}
 use mathlib.Core.Bool.{true, false, cond}
 use mathlib.Core.Option.{Option, none, some}
 use mathlib.Core.List.{List, [], ◌∷◌, ◌++◌, map, map-append, append_assoc, append-nil}
-use lib.ListN.{length, take, drop, set, replicate, length-drop, length-set, drop_of_length-le}
+use lib.ListN.{length, take, drop, set, length-drop, length-set, drop_of_length-le}
 use lib.Seq.{take_all, drop-drop, take-suc-set}
 use borrow.Author.Tests.{ne_eqb}
 use Rattle.decimal.specs.Trusted.Number.{Number, columns, number, field_number}
@@ -15,7 +15,7 @@ use Rattle.sheet_line.specs.declared.Fields.{Fields}
 use Rattle.sheet.specs.Trusted.Limits.{most_fields}
 use Rattle.sheet.specs.Trusted.Line.{with, cells, fields}
 use Rattle.sheet_line.specs.Inside.{value_of, FieldsRoom, FieldsRead}
-use Rattle.sheet_line.proofs.HeadLaws.{zero_value, fields_none}
+use Rattle.sheet_line.proofs.HeadLaws.{fields_none}
 
 -- numbers before others, where all are there
 abbrev pub with_all : List Number → Option (List Number) → Option (List Number)
@@ -25,14 +25,6 @@ with_all xs (some ys) = some (xs ++ ys)
 with_more : (xs : List Number) (x : Number) (o : Option (List Number)) → with_all xs (with (some x) o) ≡ with_all (xs ++ (x ∷ [])) o
 with_more xs x none = refl
 with_more xs x (some ys) = ap some (sym (append_assoc xs (x ∷ []) ys))
-
-with_none : (o : Option (List Number)) → o ≡ with_all [] o
-with_none none = refl
-with_none (some xs) = refl
-
-fields_start : (bs : List ℕ) → 0 < length bs → fields bs ≡ with_all [] (cells most_fields (drop 0 bs))
-fields_start [] l = absurd (omega arith)
-fields_start (b ∷ bs) l = with_none (cells most_fields (b ∷ bs))
 
 cells_end : (n : ℕ) → cells n [] ≡ some []
 cells_end zero = refl
@@ -61,24 +53,6 @@ pub record SoFar (bytes : List ℕ) (numbers : List FieldValue) (count at : ℕ)
   pub place : at ≡ columns * count
   pub inside : at ≤ length bytes
   pub same : fields bytes ≡ with_all (map value_of (take count numbers)) (cells (most_fields - count) (drop at bytes))
-
-pub empty_list : {A : Type 0} (xs : List A) → length xs ≡ 0 → xs ≡ []
-empty_list [] e = refl
-empty_list (x ∷ xs) e = absurd (omega arith)
-
-pub nonempty : {A : Type 0} (xs : List A) → (length xs ≡ 0 → ⊥) → 0 < length xs
-nonempty [] d = absurd (d refl)
-nonempty (x ∷ xs) d = omega arith
-
-pub so_far_start : (bytes : List ℕ) → 0 < length bytes → SoFar bytes (replicate most_fields zero_value) 0 0
-so_far_start bytes l = record {
-  any = l;
-  whole = refl;
-  within = omega arith;
-  place = refl;
-  inside = omega arith;
-  same = fields_start bytes l;
-}
 
 module _ {bytes : List ℕ} {numbers : List FieldValue} {count at : ℕ} (h : SoFar bytes numbers count at) where
   -- a field is missing or none: the line is not laid out

@@ -6,8 +6,8 @@ use mathlib.Core.Path.{◌≡◌, refl, sym, ap, ◌∙◌}
 use mathlib.Core.Logic.{◌≢◌}
 use mathlib.Core.Bool.{true, false}
 use mathlib.Core.Option.{Option, none, some}
-use mathlib.Core.List.{List, [], ◌∷◌, ◌++◌, append_assoc, append-nil}
-use lib.ListN.{length, take, drop, get_or, length-drop, drop_of_length-le}
+use mathlib.Core.List.{List, [], ◌∷◌, ◌++◌, append_assoc}
+use lib.ListN.{length, take, drop, get_or, length-drop}
 use lib.Seq.{take-suc, drop-cons, get_or-drop}
 use Rattle.lists.specs.Cases.{by_eqb}
 use Rattle.sheet.specs.Trusted.Line.{after, line}
@@ -16,10 +16,6 @@ use Rattle.sheet.specs.Trusted.Line.{after, line}
 abbrev pub before : List ℕ → Option (List ℕ × List ℕ) → Option (List ℕ × List ℕ)
 before bs none = none
 before bs (some p) = some (bs ++ p.0, p.1)
-
-before_none : (o : Option (List ℕ × List ℕ)) → o ≡ before [] o
-before_none none = refl
-before_none (some p) = refl
 
 before_more : (bs : List ℕ) (b : ℕ) (o : Option (List ℕ × List ℕ)) → before bs (after b o) ≡ before (bs ++ (b ∷ [])) o
 before_more bs b none = refl
@@ -53,18 +49,3 @@ module _ (text : List ℕ) (start i : ℕ) (from : start ≤ i) (within : i < le
       ap (λ l. before part (line l)) here
       ∙ (line_step (λ o. before part o ≡ before part (after (get_or text i 0) (line (drop (i + 1) text)))) (get_or text i 0) (drop (i + 1) text) (λ e. absurd (d e)) (λ n. refl)
       ∙ (before_more part (get_or text i 0) (line (drop (i + 1) text)) ∙ ap (λ l. before l (line (drop (i + 1) text))) (sym part_more)))
-
-  pub line_here : get_or text i 0 ≡ 10 →
-      before (take (i - start) (drop start text)) (line (drop i text)) ≡ some (take (i - start) (drop start text), drop (i + 1) text)
-  unfolding part
-  line_here e =
-      ap (λ l. before part (line l)) here
-      ∙ line_step (λ o. before part o ≡ some (part, drop (i + 1) text)) (get_or text i 0) (drop (i + 1) text)
-      (λ q. ap (λ l. some (l, drop (i + 1) text)) (append-nil part)) (λ n. absurd (n e))
-
-pub line_start : (text : List ℕ) (start : ℕ) → line (drop start text) ≡ before (take (start - start) (drop start text)) (line (drop start text))
-line_start text start =
-    before_none (line (drop start text)) ∙ ap (λ n. before (take n (drop start text)) (line (drop start text))) (let h : 0 ≡ start - start = omega arith in h)
-
-pub line_past : (text bs : List ℕ) (i : ℕ) → length text ≤ i → before bs (line (drop i text)) ≡ none
-line_past text bs i l = ap (λ t. before bs (line t)) (drop_of_length-le text l)

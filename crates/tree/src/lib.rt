@@ -2,7 +2,6 @@
 // no net.
 #![tactic(auto)]
 
-
 // The greatest net. Nets go from 1.
 pub const GREATEST_NET: u16 = 9999;
 

@@ -12,21 +12,20 @@ use Rattle.sheet.specs.declared.Source.TheVariants.{Gate as reads}
 use Rattle.sheet.specs.declared.Edge.{Edge}
 use Rattle.sheet.specs.declared.Gate.{Gate}
 use Rattle.sheet.specs.declared.Sheet.{Sheet}
-use Rattle.sheet.specs.Trusted.Limits.{most_gates, fanin_room}
+use Rattle.sheet.specs.Trusted.Limits.{most_gates}
 use Rattle.sheet.specs.Trusted.Formed.{WellFormed}
 use Rattle.sheet.specs.Trusted.Answers.{drawn_gate, drawn_sheet}
-use Rattle.sheet.specs.PlaceLaws.{no_sheet_gate, no_edge, sheet_gates, sheet_gate, gate_counted, gate_reads, fanin_placed, edge_drawn, every_source}
+use Rattle.sheet.specs.PlaceLaws.{no_sheet_gate, no_edge, sheet_gates, sheet_gate, gate_counted, gate_reads, edge_drawn, every_source}
 use Rattle.joined.specs.Trusted.Joined.{chained}
 use Rattle.joined.specs.JoinedSheet.{joins_source}
 use Rattle.joiner_laws.specs.NoneJoinedLaws.{fanins_first, fanins_last, fanin_stays, fanin_joins}
 use Rattle.chained_gates.proofs.none_joined.Goals as goal
 use Rattle.chained_gates.proofs.none_joined.Goals.{In-loop-i}
 
--- a gate's turn, in a sheet whose arrays are as long as their types say
+-- a gate's turn, in a sheet whose array is as long as its type says
 record Turn (sheet : Sheet) (g : ℕ) : Type 0 where
   formed : WellFormed (drawn_sheet sheet)
   gates : length sheet.gates ≡ most_gates
-  fanins : length sheet.fanins ≡ fanin_room
   few : sheet.count ≤ most_gates
   inside : g < sheet.count
 
@@ -45,9 +44,6 @@ joins_in sheet g i =
     joins_source (drawn_sheet sheet).gates (gate_in sheet g).kind (length (fanins_in sheet g) - 1) e.inverted e.source
 
 module _ (sheet : Sheet) (g : ℕ) (t : Turn sheet g) (i : ℕ) (l : i < length (fanins_in sheet g)) where
-  placed : (gate_in sheet g).first + i < fanin_room
-  placed = fanin_placed sheet t.formed t.gates t.few t.inside l t.fanins
-
   edge_is : get_or (fanins_in sheet g) i no_edge ≡ edge_in sheet g i
   edge_is = edge_drawn sheet.fanins (gate_in sheet g) l
 
@@ -77,7 +73,7 @@ module _ (sheet : Sheet) (g : ℕ) (t : Turn sheet g) (i : ℕ) (l : i < length 
 
 -- a fanin's turn
 turn : (c : In-loop-i) → Turn c.args.sheet c.loop-g.g
-turn c = record { formed = c.requires; gates = search rules; fanins = search rules; few = search rules; inside = c.loop-g-test.true }
+turn c = record { formed = c.requires; gates = search rules; few = search rules; inside = c.loop-g-test.true }
 
 count_is : (c : In-loop-i) → c.fanin_count-count.result ≡ length (fanins_in c.args.sheet c.loop-g.g)
 count_is c = c.fanin_count-count.ensures c.args.sheet.fanins (search rules)

@@ -21,7 +21,7 @@ returns c =
     let s = a.s.now in
     let same : natural (drop a.at s) ≡ digits 0 (drop a.at s) =
     elim c.if-s-at-eq48.branch [
-      then-s-at-eq48+else-at-s w ↦ natural_last s a.at (omega arith) w.if-at-s.false
-    | else-s-at-eq48 w ↦ natural_first s a.at (omega arith) w.if-s-at-eq48.false
+      | then-s-at-eq48+else-at-s w ↦ natural_last s a.at (omega arith) w.if-at-s.false
+      | else-s-at-eq48 w ↦ natural_first s a.at (omega arith) w.if-s-at-eq48.false
     ] in
     c.digits.ensures ∙ sym (ap parsed same)

@@ -37,8 +37,8 @@ loop-i-preserved c =
       omega arith,
       omega arith,
       elim c.if-sum-least.branch [
-        then-sum-least w ↦ least_more _ l.invariant.0 l.invariant.2 (omega arith) (omega arith) (inr (omega arith))
-      | else-sum-least w ↦ least_more _ l.invariant.0 l.invariant.2 (omega arith) (omega arith) (inl w.least-is)
+        | then-sum-least w ↦ least_more _ l.invariant.0 l.invariant.2 (omega arith) (omega arith) (inr (omega arith))
+        | else-sum-least w ↦ least_more _ l.invariant.0 l.invariant.2 (omega arith) (omega arith) (inl w.least-is)
       ],
     )
 

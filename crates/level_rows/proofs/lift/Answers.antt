@@ -21,8 +21,8 @@ lifted_is c =
     let a = c.args in
     let g = get_d_any a.arrays.now (a.at + l.s * 8 + a.k) 0 big (omega arith) in
     elim c.if-below-lt-NONE.branch [
-      then-below-lt-NONE w ↦ omega arith
-    | else-below-lt-NONE w ↦ omega (arith, c.type_inv.arrays (a.at + l.s * 8 + a.k))
+      | then-below-lt-NONE w ↦ omega arith
+      | else-below-lt-NONE w ↦ omega (arith, c.type_inv.arrays (a.at + l.s * 8 + a.k))
     ]
 
 pub loop-s-preserved : goal.loop-s-preserved

@@ -12,8 +12,8 @@ pub loop-i-preserved : goal.loop-i-preserved
 loop-i-preserved c =
     let a = c.args in
     elim c.if-next-x.branch [
-      then-next-x w ↦ rw (w.inputs-is, w.next-is) (inserting_up a.inputs.now a.count a.code c.requires.0 c.requires.1 c.loop-i.invariant c.loop-i-test.true w.if-next-x.true)
-    | else-next-x w ↦ rw (w.inputs-is, w.next-is) (inserting_stay a.inputs.now a.count a.code c.requires.0 c.requires.1 c.loop-i.invariant c.loop-i-test.true w.if-next-x.false)
+      | then-next-x w ↦ rw (w.inputs-is, w.next-is) (inserting_up a.inputs.now a.count a.code c.requires.0 c.requires.1 c.loop-i.invariant c.loop-i-test.true w.if-next-x.true)
+      | else-next-x w ↦ rw (w.inputs-is, w.next-is) (inserting_stay a.inputs.now a.count a.code c.requires.0 c.requires.1 c.loop-i.invariant c.loop-i-test.true w.if-next-x.false)
     ]
 
 pub returns : goal.returns

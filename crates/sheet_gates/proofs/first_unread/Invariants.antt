@@ -1,3 +1,4 @@
+-- Each gate passed was read.
 use Prim.Native.Nat.{◌-◌}
 use Rattle.sheet_gates.proofs.UnreadLaws.{Passed}
 use Rattle.sheet_gates.proofs.first_unread.Given as goal

@@ -1,3 +1,4 @@
+-- What is left to read, with what was read put before it, is the same at each line (`AtLine`) and at each fanin (`AtFanin`).
 use Prim.Native.Nat.{◌-◌}
 use Rattle.sheet_gates.proofs.LinesLaws.{AtLine, AtFanin}
 use Rattle.sheet_gates.proofs.gate_lines.Given as goal

@@ -1,3 +1,4 @@
+-- The line from `start` on is the bytes passed before the line from `i` on.
 use Prim.Native.Nat.{◌-◌, ◌≤◌}
 use mathlib.Core.Path.{◌≡◌}
 use lib.ListN.{length, take, drop}

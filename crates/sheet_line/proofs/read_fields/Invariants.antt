@@ -1,3 +1,4 @@
+-- The fields of the line are the numbers read, and then those of the bytes left.
 use Prim.Native.Nat.{◌-◌}
 use lib.ListN.{length}
 use Rattle.sheet_line.proofs.FieldLaws.{SoFar}

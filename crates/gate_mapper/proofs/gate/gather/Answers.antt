@@ -1,8 +1,7 @@
-use Prim.Native.Nat.{ℕ, ◌+◌, ◌-◌, ◌<◌, ◌≤◌}
+use Prim.Native.Nat.{ℕ, ◌+◌, ◌<◌, ◌≤◌}
 use native.Mathlib.Omega.{arith}
 use mathlib.Core.Path.{◌≡◌, ap, ◌∙◌, subst}
-use mathlib.Core.List.{List}
-use lib.ListN.{length, get_or, drop, length-take, length-drop}
+use lib.ListN.{length, get_or}
 use borrow.Author.Rules.{rules}
 use Rattle.sheet.specs.declared.Source.TheVariants.{Gate}
 use Rattle.sheet.specs.declared.Edge.{Edge}
@@ -10,7 +9,7 @@ use Rattle.sheet.specs.Trusted.Limits.{most_gates, fanin_room}
 use Rattle.sheet.specs.Trusted.Answers.{drawn_gate}
 use Rattle.mapper_laws.specs.CodeMap.{with_fanin, Gathering}
 use Rattle.sheet.specs.PlaceLaws.{no_edge}
-use Rattle.mapper_laws.specs.CodeMapLaws.{gathering_start, gather_net, gather_gate, gate_reached}
+use Rattle.mapper_laws.specs.CodeMapLaws.{gather_net, gather_gate, gate_reached}
 use Rattle.gate_mapper.proofs.gate.gather.Goals as goal
 use Rattle.gate_mapper.proofs.gate.gather.Goals.{After-fanin_count-count, In-loop-i}
 
@@ -25,13 +24,6 @@ inside c =
     let e : c.fanin_count-count.result ≡ length (drawn_gate c.args.fanins c.args.gate).fanins = c.fanin_count-count.ensures c.args.fanins wide in
     (omega (arith, e, c.loop-i-test.true), omega (arith, e, c.requires.few, c.loop-i-test.true))
 
--- and has its place in the sheet
-placed : (c : In-loop-i) → c.args.gate.first + c.loop-i.i < fanin_room
-placed c =
-    let x = c.args.gate in
-    let wide : length c.args.fanins ≡ fanin_room = search rules in
-    omega (arith, (inside c).0, wide, length-take x.count (drop x.first c.args.fanins), length-drop x.first c.args.fanins)
-
 module _ (c : In-loop-i) where
   abbrev edge : Edge
   edge = get_or c.args.fanins (c.args.gate.first + c.loop-i.i) no_edge
@@ -39,21 +31,6 @@ module _ (c : In-loop-i) where
   reached : {j : ℕ} → edge.source ≡ Gate j → (1 ≤ j) × (j ≤ most_gates)
   reached =
       gate_reached c.args.fanins c.args.gate c.args.held c.loop-i.invariant (inside c).0 (inside c).1 c.requires
-
-pub loop-i-init : goal.loop-i-init
-loop-i-init c = gathering_start c.no_operands-o.ensures
-
-pub overflow_add-place : goal.overflow_add-place
-overflow_add-place c = omega (arith, placed (goal.at.overflow_add-place c).In-loop-i)
-
-pub offset_bounds-fanins-place : goal.offset_bounds-fanins-place
-offset_bounds-fanins-place c = omega (arith, placed (goal.at.offset_bounds-fanins-place c).In-loop-i)
-
-pub bounds-fanins-place : goal.bounds-fanins-place
-bounds-fanins-place c = placed (goal.at.bounds-fanins-place c).In-loop-i
-
-pub with_fanin-o-requires : goal.with_fanin-o-requires
-with_fanin-o-requires c = omega (arith, (inside (goal.at.with_fanin-o-requires c).In-loop-i).1, c.loop-i.invariant.count)
 
 pub loop-i-preserved-in-Net : goal.loop-i-preserved-in-Net
 loop-i-preserved-in-Net c =
@@ -63,14 +40,8 @@ loop-i-preserved-in-Net c =
 pub overflow_sub-at : goal.overflow_sub-at
 overflow_sub-at c = (reached (goal.at.overflow_sub-at c).In-loop-i c.in-Gate.is).0
 
-pub offset_bounds-held-at : goal.offset_bounds-held-at
-offset_bounds-held-at c = omega (arith, reached (goal.at.offset_bounds-held-at c).In-loop-i c.in-Gate.is)
-
 pub bounds-held-at : goal.bounds-held-at
 bounds-held-at c = omega (arith, reached (goal.at.bounds-held-at c).In-loop-i c.in-Gate.is)
-
-pub with_fanin-o-requires-in-Gate : goal.with_fanin-o-requires-in-Gate
-with_fanin-o-requires-in-Gate c = omega (arith, (inside (goal.at.with_fanin-o-requires-in-Gate c).In-loop-i).1, c.loop-i.invariant.count)
 
 pub loop-i-preserved : goal.loop-i-preserved
 loop-i-preserved c =

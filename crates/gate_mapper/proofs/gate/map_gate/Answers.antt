@@ -1,5 +1,4 @@
 use Rattle.mapper_laws.specs.CodeMapLaws.{gate_answer, gate_runnable}
-use borrow.Author.Rules.{rules}
 use Rattle.gate_mapper.proofs.gate.map_gate.Goals as goal
 
 pub run_gate-requires : goal.run_gate-requires

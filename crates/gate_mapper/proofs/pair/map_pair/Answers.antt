@@ -1,11 +1,10 @@
 use mathlib.Core.Path.{◌≡◌, sym, ap, ap₂, ◌∙◌, subst₂}
-use borrow.Author.Rules.{rules}
 use Rattle.plan.specs.Key.{cuts}
 use Rattle.plan.specs.Entries.{Joinable}
 use Rattle.pending.specs.Pendings.{Mergeable}
 use Rattle.mapper_laws.specs.CodeRun.{held_if}
 use Rattle.mapper_laws.specs.CodePair.{pending_of, key_in, count_if}
-use Rattle.mapper_laws.specs.PairLaws.{pair_joinable, pair_mergeable, pair_by}
+use Rattle.mapper_laws.specs.PairLaws.{pair_joinable, pair_mergeable}
 use Rattle.gate_mapper.proofs.pair.map_pair.Goals as goal
 
 pub join-key-requires : goal.join-key-requires
@@ -32,19 +31,3 @@ merge-merged-requires c =
     let left : held_if (cuts a.k (key_in a.high) (key_in a.low)).0 a.first 0 (pending_of a.j a.high) ≡ c.hold-x.result = cc in
     let right : held_if (cuts a.k (key_in a.high) (key_in a.low)).1 a.first (count_if (cuts a.k (key_in a.high) (key_in a.low)).0) (pending_of a.i a.low) ≡ c.hold-y.result = cc in
     subst₂ Mergeable left right (pair_mergeable a.i a.low a.j a.high c.requires a.kind)
-
-pub returns : goal.returns
-returns c =
-    let a = c.args in
-    pair_by a.k a.first a.kind a.i a.low a.j a.high
-    c.key_of-a.ensures
-    c.key_of-b.ensures
-    c.join-key.ensures
-    c.cuts_of-cuts.ensures
-    c.hold-x.ensures
-    c.count_if.ensures.0
-    c.hold-y.ensures
-    c.merge-merged.ensures
-    c.count_if-2.ensures.0
-    c.count_if-3.ensures.0
-    c.two_tables.ensures
