@@ -15,10 +15,10 @@ use Rattle.list_reader.proofs.read_list.Goals.{Else-not-laid, Else-not-within, E
 pub returns-then-not-laid : goal.returns-then-not-laid
 returns-then-not-laid c =
     handed_refused c.refused.ensures refl
-    (top_bad c.args.text.now c.read_top-top.result c.read_top-top.ensures (not-true _ c.if-not-laid.true))
+    (top_bad c.args.text.now c.read_top-top.result c.read_top-top.ensures c.if-not-laid.true)
 
 laid : (c : Else-not-laid) → c.read_top-top.result.laid ≡ true
-laid c = not-false _ c.if-not-laid.false
+laid c = c.if-not-laid.false
 
 good_k : (c : Else-not-within) → within 2 6 c.read_top-top.result.k ≡ true
 good_k c = sym c.within.ensures ∙ c.if-not-within.false

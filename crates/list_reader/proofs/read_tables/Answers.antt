@@ -56,7 +56,7 @@ loop-t-preserved c =
       c.loop-t.invariant.0,
       c.loop-t.invariant.1,
       c.loop-t.invariant.2,
-      subst (λ s. LinesSoFar a.text.now a.k a.used (set c.loop-t.part.tables c.loop-t.t (at_level n.result c.read_table-read.result.table)) s n.new.0 c.read_table-read.result.end (c.loop-t.t + 1)) (sym c.after-prefix.ensures)
+      subst (λ s. LinesSoFar a.text.now a.k a.used (set c.loop-t.part.tables c.loop-t.t (at_level n.result c.read_table-read.result.table)) s n.new.levels c.read_table-read.result.end (c.loop-t.t + 1)) (sym c.after-prefix.ensures)
           (line_good a.text.now a.k a.used c.loop-t.invariant.3 (omega arith) c.read_table-read.result c.read_table-read.ensures (laid (goal.at.loop-t-preserved c).After-keeps_points)
           (sym c.keeps_points.ensures ∙ c.if-not-keeps_points.false) n.ensures.0 n.ensures.1),
     )

@@ -9,6 +9,7 @@ use Rattle.part.proofs.Shape.{shaped}
 use Rattle.slacks.specs.Trusted.Slack.{drivers}
 use Rattle.slacks.specs.SlackLaws.{one_driver, no_driver}
 use Rattle.slacks.proofs.count_drivers.Goals as goal
+use Rattle.slacks.proofs.count_drivers.Goals.{then-net-ne0, else-net-ne0}
 
 pub loop-t-init : goal.loop-t-init
 loop-t-init c =
@@ -32,20 +33,20 @@ loop-t-preserved c =
     let p = c.args.p in
     let l = c.loop-t in
     let h : l.t < length p.tables = omega (arith, c.requires, l.invariant.1) in
-    ⊎_elim
-    (λ w. (
-      omega arith,
-      l.invariant.1,
-      w.1 ∙ ap (λ m. m + 1) l.invariant.2 ∙ sym (one_driver p.tables l.t past h w.0.taken),
-      omega arith,
-    ))
-    (λ w. (
-      omega arith,
-      l.invariant.1,
-      w.1 ∙ l.invariant.2 ∙ sym (no_driver p.tables l.t past h w.0.left),
-      omega arith,
-    ))
-    c.if-net-ne0.branch
+    elim c.if-net-ne0.branch [
+      then-net-ne0 w ↦ (
+        omega arith,
+        l.invariant.1,
+        w.count-is ∙ ap (λ m. m + 1) l.invariant.2 ∙ sym (one_driver p.tables l.t past h w.if-net-ne0.true),
+        omega arith,
+      )
+    | else-net-ne0 w ↦ (
+        omega arith,
+        l.invariant.1,
+        w.count-is ∙ l.invariant.2 ∙ sym (no_driver p.tables l.t past h w.if-net-ne0.false),
+        omega arith,
+      )
+    ]
 
 pub returns : goal.returns
 returns c =

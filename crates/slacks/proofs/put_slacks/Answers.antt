@@ -44,9 +44,9 @@ loop-t-preserved c =
     let h : l.t < length p.tables = omega (arith, c.requires.0, l.invariant.1) in (
       omega arith,
       l.invariant.1,
-      w.auto.0 ∙ l.invariant.2,
+      w.auto.buf ∙ l.invariant.2,
       omega (arith, w.ensures.0, l.invariant.3, text_next_length p.tables l.t past h a.wanted),
-      paste_next a.buf.now l.buf w.new.0 a.at l.place (slack_text a.wanted (take l.t p.tables)) (driver_line a.wanted r.net r.level)
+      paste_next a.buf.now l.buf w.new.buf a.at l.place (slack_text a.wanted (take l.t p.tables)) (driver_line a.wanted r.net r.level)
           l.invariant.4 l.invariant.3 (text_room a.wanted p a.at l.t (length a.buf.now) past (omega arith) h c.requires.1) w.ensures.1
           ∙ ap (pasted a.buf.now a.at) (sym (text_next p.tables l.t past h a.wanted)),
     )
