@@ -4,11 +4,11 @@ use Rattle.std.proofs.Common.{arith, sym, ap, subst}
 use Rattle.tree.specs.Trusted.Limits.{code_base}
 use Rattle.part.specs.Trusted.Parts.{Shaped}
 use Rattle.part.specs.Trusted.Ways.{Way, least, NumberBy}
-use Rattle.part.specs.WayLaws.{reading_right, number_unique, some_tables, chosen_number}
+use Rattle.part.proofs.WayLaws.{reading_right, number_unique, some_tables, chosen_number}
 use Rattle.part.specs.Trusted.Answers.{Answer, accepted, refused}
 use Rattle.part.specs.Trusted.Add.{Add}
 use Rattle.part.specs.Trusted.Reservations.{SetAside}
-use Rattle.part.specs.AddLaws.{Kept, AddCase, unsound, misread, driven, read, full, taken, add_case, not_refused}
+use Rattle.part.proofs.AddLaws.{Kept, AddCase, unsound, misread, driven, read, full, taken, add_case, not_refused}
 use Rattle.part.specs.declared.Part.{Part}
 
 -- an add leaves what is reserved

@@ -16,7 +16,7 @@ use Rattle.part.specs.Trusted.Add.{Add}
 use Rattle.part.specs.Trusted.Tries.{CallResult}
 use Rattle.part.specs.Trusted.Sets.{InTurn, all, next, stop, turned_away}
 use Rattle.part.specs.Trusted.Reservations.{reservation_open, Reserves, reserving_sheet, Reserve, is_other, Commit, withdrawn}
-use Rattle.part.specs.ReserveLaws.{open_reflects}
+use Rattle.part.proofs.ReserveLaws.{open_reflects}
 use Rattle.part.specs.declared.Part.{Part}
 
 -- ---- whether a reservation is open

@@ -1,5 +1,1 @@
 pub mod Trusted
-pub mod RunsByLaws
-pub mod SlackLineLaws
-pub mod FastRunLaws
-pub mod FastExamples

@@ -10,7 +10,7 @@ use Rattle.list_line.specs.Line.{top_line}
 use Rattle.list_line.specs.PasteLaws.{paste_length}
 use Rattle.listing.specs.Trusted.Listing.{list_of}
 use Rattle.listing.specs.Lines.{turned_down, fitted, table_lines}
-use Rattle.listing.specs.LineLaws.{list_is, fitted_in, fitted_out}
+use Rattle.listing.proofs.LineLaws.{list_is, fitted_in, fitted_out}
 use Rattle.printing.specs.Promises.{printed_result}
 use Rattle.printing.specs.declared.Printed.{Printed}
 use Rattle.printing.specs.declared.Printed.TheVariants.{Wrote, NoRoom}

@@ -31,8 +31,8 @@ use Rattle.part.specs.declared.Part.{Part}
 use Rattle.list_line.specs.Line.{top_line}
 use Rattle.listing.specs.Trusted.Listing.{list_of}
 use Rattle.listing.specs.Lines.{table_lines}
-use Rattle.listing.specs.LineLaws.{list_is, lines_next}
-use Rattle.part.specs.OpenLaws.{opened_shaped, opened_sound}
+use Rattle.listing.proofs.LineLaws.{list_is, lines_next}
+use Rattle.part.proofs.OpenLaws.{opened_shaped, opened_sound}
 use Rattle.list_layout.specs.Taken.{at_level}
 use Rattle.list_layout.specs.LayoutLaws.{top_taken, top_text, says_level, table_taken, table_text}
 use Rattle.list_reading.specs.Trusted.ReadList.{read_tables, is_nil, read_list}

@@ -13,8 +13,8 @@ use Rattle.part.specs.Trusted.Answers.{Answer, accepted, refused}
 use Rattle.part.specs.Trusted.Tries.{CallResult}
 use Rattle.part.specs.Trusted.Sets.{InTurn, all, next, stop, turned_away}
 use Rattle.part.specs.Trusted.Reservations.{is_other, Commit}
-use Rattle.part.specs.AddLaws.{add_case, kept, not_refused}
-use Rattle.part.specs.ReserveLaws.{open_reflects, released_sound}
+use Rattle.part.proofs.AddLaws.{add_case, kept, not_refused}
+use Rattle.part.proofs.ReserveLaws.{open_reflects, released_sound}
 use Rattle.part.specs.declared.Part.{Part}
 use Rattle.list_sets.specs.Told.{ReadBeside, told_of}
 use Rattle.list_sets.specs.ListSetLaws.{by_unread, by_passed, told_of_accepted}

@@ -11,12 +11,12 @@ use Rattle.part.specs.Trusted.Sound.{Sound}
 use Rattle.part.specs.Trusted.Answers.{Answer, accepted, refused}
 use Rattle.part.specs.Trusted.Tries.{CallResult}
 use Rattle.part.specs.Trusted.Sets.{AddSet}
-use Rattle.part.specs.AddLaws.{not_refused}
-use Rattle.part.specs.SetLaws.{SetCase, unsound_part, unfit, in_turn, set_case, set_kept}
+use Rattle.part.proofs.AddLaws.{not_refused}
+use Rattle.part.proofs.SetLaws.{SetCase, unsound_part, unfit, in_turn, set_case, set_kept}
 use Rattle.part.specs.declared.Part.{Part}
 use Rattle.list_line.specs.Trusted.Writes.{WriteOutcome, pasted}
 use Rattle.listing.specs.Lines.{turned_down}
-use Rattle.listing.specs.LineLaws.{fitted_out, fitted_in}
+use Rattle.listing.proofs.LineLaws.{fitted_out, fitted_in}
 use Rattle.list_reading.specs.Trusted.ReadList.{read_list, read_result}
 use Rattle.list_reading.specs.Trusted.ListAnswers.{list_answer, list_result}
 use Rattle.list_reading.specs.ReadLaws.{read_shaped}

@@ -1,3 +1,2 @@
 pub mod Trusted
 pub mod Lines
-pub mod LineLaws

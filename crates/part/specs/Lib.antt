@@ -4,10 +4,4 @@ pub mod ExtendedLaws
 pub mod Readable
 pub mod ReadingLaws
 pub mod ExtendLaws
-pub mod WayLaws
-pub mod AddLaws
-pub mod SetLaws
 pub mod Storing
-pub mod StoringLaws
-pub mod OpenLaws
-pub mod ReserveLaws

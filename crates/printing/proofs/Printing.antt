@@ -28,7 +28,7 @@ use Rattle.list_line.specs.Trusted.Writes.{WriteOutcome, pasted}
 use Rattle.listing.specs.Trusted.WriteAnswers.{result_of}
 use Rattle.listing.specs.Lines.{turned_down, fitted, list_written}
 use Rattle.list_line.specs.PasteLaws.{paste_one, paste_length, paste_next}
-use Rattle.listing.specs.LineLaws.{fitted_out, fitted_in, list_there}
+use Rattle.listing.proofs.LineLaws.{fitted_out, fitted_in, list_there}
 use Rattle.listing.specs.declared.WriteAnswer.{WriteAnswer}
 use Rattle.listing.specs.declared.WriteAnswer.TheVariants.{Wrote, NotSound, NoLine, NoRoom}
 use Rattle.list_line.proofs.Written.{number_written}

@@ -4,7 +4,7 @@ use Rattle.std.proofs.Common.{arith, sym, ap, ◌∙◌, subst, take_at, drop_at
 use Rattle.lists.specs.Trusted.Checked.{passed, refused as unwritten}
 use Rattle.list_line.specs.Trusted.Writes.{WriteOutcome, pasted}
 use Rattle.list_line.specs.PasteLaws.{paste_length}
-use Rattle.listing.specs.LineLaws.{fitted_in}
+use Rattle.listing.proofs.LineLaws.{fitted_in}
 use Rattle.printing.specs.Promises.{WrittenAs}
 use Rattle.program.specs.Promises.{AnsweredBy, AtFrontBy}
 use Rattle.printing.specs.declared.Printed.{Printed}

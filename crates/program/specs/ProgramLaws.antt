@@ -7,8 +7,8 @@ use Rattle.part.specs.Trusted.Parts.{Shaped}
 use Rattle.part.specs.Trusted.Sound.{Sound}
 use Rattle.part.specs.Trusted.Ways.{least}
 use Rattle.part.specs.Trusted.Answers.{Answer, accepted, refused, Result}
-use Rattle.part.specs.OpenLaws.{opened_shaped, opened_sound, opened_empty}
-use Rattle.part.specs.AddLaws.{not_refused}
+use Rattle.part.proofs.OpenLaws.{opened_shaped, opened_sound, opened_empty}
+use Rattle.part.proofs.AddLaws.{not_refused}
 use Rattle.listing.specs.Trusted.Listing.{list_of}
 use Rattle.opening.specs.Trusted.Opening.{opening_numbers, count, opened_by}
 use Rattle.opening.specs.Promises.{told, start_result}

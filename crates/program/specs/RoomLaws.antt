@@ -6,7 +6,7 @@ use Rattle.part.specs.Trusted.Sound.{Sound}
 use Rattle.part.specs.Trusted.Answers.{Answer, accepted, refused}
 use Rattle.part.specs.declared.Part.{Part}
 use Rattle.listing.specs.Lines.{longest}
-use Rattle.listing.specs.LineLaws.{list_short}
+use Rattle.listing.proofs.LineLaws.{list_short}
 use Rattle.opening.specs.Trusted.Opening.{opening_numbers, opened_by}
 use Rattle.sheets.specs.SheetsBounds.{sheets_short}
 use Rattle.program.specs.Trusted.Program.{After, Prints}

@@ -22,8 +22,8 @@ use Rattle.part.specs.Trusted.Ways.{Way, least, fastest, NumberBy}
 use Rattle.part.specs.Trusted.Answers.{Answer, accepted}
 use Rattle.part.specs.Trusted.Add.{Add}
 use Rattle.part.specs.Trusted.Reading.{read_of}
-use Rattle.part.specs.AddLaws.{AddCase, unsound, misread, driven, read, full, taken, add_case, kept, not_refused}
-use Rattle.part.specs.WayLaws.{reading_drawn, some_tables, chosen_number}
+use Rattle.part.proofs.AddLaws.{AddCase, unsound, misread, driven, read, full, taken, add_case, kept, not_refused}
+use Rattle.part.proofs.WayLaws.{reading_drawn, some_tables, chosen_number}
 use Rattle.part.specs.declared.Part.{Part}
 use Rattle.sheets.specs.Trusted.Sheets.{SheetsPrint, ended, stopped, added}
 

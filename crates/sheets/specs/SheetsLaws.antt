@@ -19,11 +19,11 @@ use Rattle.part.specs.Trusted.Parts.{Shaped}
 use Rattle.part.specs.Trusted.Sound.{Sound}
 use Rattle.part.specs.Trusted.Answers.{Answer, accepted, refused}
 use Rattle.part.specs.Trusted.Ways.{Way}
-use Rattle.part.specs.WayLaws.{some_tables, chosen_number}
+use Rattle.part.proofs.WayLaws.{some_tables, chosen_number}
 use Rattle.part.specs.Trusted.Add.{Offer, Add}
-use Rattle.part.specs.AddLaws.{AddCase, unsound, misread, driven, read, full, taken, add_case, kept, not_refused}
+use Rattle.part.proofs.AddLaws.{AddCase, unsound, misread, driven, read, full, taken, add_case, kept, not_refused}
 use Rattle.joined_mapper.specs.JoinedMap.{circuit_of}
-use Rattle.part.specs.StoringLaws.{add_misread, add_offered}
+use Rattle.part.proofs.StoringLaws.{add_misread, add_offered}
 use Rattle.part.specs.declared.Part.{Part}
 use Rattle.opening.specs.Promises.{told}
 use Rattle.opening.specs.declared.Told.{Told}

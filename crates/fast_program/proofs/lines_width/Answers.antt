@@ -9,7 +9,7 @@ use Rattle.table.proofs.Shape.{past}
 use Rattle.part.proofs.Shape.{shaped}
 use Rattle.list_line.specs.Line.{table_width}
 use Rattle.listing.specs.Lines.{table_lines}
-use Rattle.listing.specs.LineLaws.{lines_next_length}
+use Rattle.listing.proofs.LineLaws.{lines_next_length}
 use Rattle.fast_program.proofs.lines_width.Goals as goal
 
 pub loop-t-init : goal.loop-t-init

@@ -12,7 +12,7 @@ use Rattle.table.specs.LevelTestLaws.{levels_none}
 use Rattle.part.specs.Trusted.Parts.{tables_of}
 use Rattle.part.specs.Trusted.AddAnswers.{adding_answer}
 use Rattle.part.specs.Trusted.Ways.{fastest}
-use Rattle.part.specs.StoringLaws.{sheet_mappable, levels_low, fast_storable, fast_offered}
+use Rattle.part.proofs.StoringLaws.{sheet_mappable, levels_low, fast_storable, fast_offered}
 use Rattle.part.proofs.Shape.{shaped}
 use Rattle.sheets.specs.SheetsLaws.{number_some, SheetsSoFar, sheets_start, sheets_more, few_sheets, on_the_way, ended_stop, ended_all, Stepped, next_formed, stepped_refused, stepped_offered}
 use Rattle.fast_sheets.proofs.add_sheets_fast.Goals as goal

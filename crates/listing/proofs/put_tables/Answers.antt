@@ -13,7 +13,7 @@ use Rattle.list_line.specs.Line.{table_width}
 use Rattle.listing.specs.Lines.{table_lines}
 use Rattle.list_line.specs.PasteLaws.{paste_none, paste_next}
 use Rattle.list_line.specs.FieldLaws.{table_length}
-use Rattle.listing.specs.LineLaws.{lines_next, lines_next_length, lines_more}
+use Rattle.listing.proofs.LineLaws.{lines_next, lines_next_length, lines_more}
 use Rattle.listing.proofs.put_tables.Goals as goal
 
 pub loop-t-init : goal.loop-t-init

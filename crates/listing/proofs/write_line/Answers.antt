@@ -16,7 +16,7 @@ use Rattle.part.proofs.Shape.{shaped}
 use Rattle.list_line.specs.Trusted.Writes.{pasted}
 use Rattle.list_line.specs.Line.{table_width}
 use Rattle.list_line.specs.FieldLaws.{table_length}
-use Rattle.listing.specs.LineLaws.{fitted_out, fitted_in, line_unsound, line_absent, line_there, line_table, used_room}
+use Rattle.listing.proofs.LineLaws.{fitted_out, fitted_in, line_unsound, line_absent, line_there, line_table, used_room}
 use borrow.Author.Rules.{rules}
 use Rattle.listing.proofs.write_line.Goals as goal
 use Rattle.listing.proofs.write_line.Goals.{Start}

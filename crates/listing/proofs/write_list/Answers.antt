@@ -1,6 +1,6 @@
 use mathlib.Core.Path.{sym, ◌∙◌}
 use borrow.Author.Tests.{not-true, not-false}
-use Rattle.listing.specs.LineLaws.{list_unsound}
+use Rattle.listing.proofs.LineLaws.{list_unsound}
 use borrow.Author.Rules.{rules}
 use Rattle.listing.proofs.write_list.Goals as goal
 

@@ -9,7 +9,7 @@ use Rattle.lists.specs.Trusted.Checked.{passed}
 use Rattle.list_line.specs.Line.{top_line}
 use Rattle.listing.specs.Lines.{table_lines}
 use Rattle.list_line.specs.PasteLaws.{paste_next}
-use Rattle.listing.specs.LineLaws.{fitted_out, fitted_in, list_is, list_there, used_room}
+use Rattle.listing.proofs.LineLaws.{fitted_out, fitted_in, list_is, list_there, used_room}
 use borrow.Author.Rules.{rules}
 use Rattle.listing.proofs.write_sound_list.Goals as goal
 

@@ -1,5 +1,5 @@
 use Rattle.fast_program.specs.FastLongest.{fast_longest}
-use Rattle.fast_program.specs.FastRoomLaws.{fast_prints_short}
+use Rattle.fast_program.proofs.FastRoomLaws.{fast_prints_short}
 use Rattle.pailinstant.specs.CallLaws.{printed_by_lem}
 use Rattle.pailinstant.proofs.pailinstant_map_fast.Goals as goal
 

@@ -12,7 +12,7 @@ use Rattle.table.specs.LevelTestLaws.{levels_none}
 use Rattle.part.specs.Trusted.Parts.{tables_of}
 use Rattle.part.specs.Trusted.AddAnswers.{adding_answer}
 use Rattle.part.specs.Trusted.Ways.{least}
-use Rattle.part.specs.StoringLaws.{sheet_mappable, mapped_storable, mapped_offered}
+use Rattle.part.proofs.StoringLaws.{sheet_mappable, mapped_storable, mapped_offered}
 use Rattle.part.proofs.Shape.{shaped}
 use Rattle.sheets.specs.SheetsLaws.{number_some, SheetsSoFar, sheets_start, sheets_more, few_sheets, on_the_way, ended_stop, ended_all, Stepped, next_formed, stepped_refused, stepped_offered}
 use Rattle.sheets.proofs.add_sheets.Goals as goal

@@ -6,7 +6,7 @@ use lib.Dec.{leb}
 use lib.ListN.{length}
 use Rattle.lists.specs.Trusted.Checked.{passed}
 use Rattle.part.specs.Trusted.Parts.{in_use}
-use Rattle.listing.specs.LineLaws.{fitted_out, fitted_in}
+use Rattle.listing.proofs.LineLaws.{fitted_out, fitted_in}
 use Rattle.slacks.specs.Trusted.Slack.{slack_lines}
 use Rattle.slacks.specs.SlackLaws.{text_length}
 use borrow.Author.Rules.{rules}

@@ -6,7 +6,7 @@ use Rattle.table.specs.LevelTest.{no_levels}
 use Rattle.part.specs.Trusted.SoundTest.{sound}
 use Rattle.part.specs.Trusted.Ways.{least}
 use Rattle.part.specs.SoundLaws.{sound_reflects}
-use Rattle.part.specs.StoringLaws.{add_same, add_unsound}
+use Rattle.part.proofs.StoringLaws.{add_same, add_unsound}
 use Rattle.part.specs.declared.Adding.TheVariants.{Unsound}
 use Rattle.part.proofs.Part.add.Goals as goal
 

@@ -14,7 +14,7 @@ use Rattle.part.specs.SoundLaws.{sound_reflects}
 use Rattle.part.specs.Trusted.Tries.{Try}
 use Rattle.part.specs.Trusted.Sets.{AddSet}
 use Rattle.part.specs.Trusted.SetAnswers.{set_result, Positioned}
-use Rattle.part.specs.SetLaws.{set_unsound, set_unfit, set_fit}
+use Rattle.part.proofs.SetLaws.{set_unsound, set_unfit, set_fit}
 use Rattle.part.specs.declared.Part.{Part}
 use Rattle.part.specs.declared.SetAdded.{SetAdded}
 use Rattle.part.proofs.Part.add_set.Goals as goal

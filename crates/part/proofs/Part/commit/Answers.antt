@@ -11,7 +11,7 @@ use Rattle.part.specs.SoundLaws.{sound_reflects}
 use Rattle.part.specs.Trusted.Tries.{Try}
 use Rattle.part.specs.Trusted.Reservations.{Commit}
 use Rattle.part.specs.Trusted.AddAnswers.{adding_result}
-use Rattle.part.specs.ReserveLaws.{commit_unsound, commit_closed, commit_tried}
+use Rattle.part.proofs.ReserveLaws.{commit_unsound, commit_closed, commit_tried}
 use Rattle.part.specs.declared.Part.{Part}
 use Rattle.part.specs.declared.Added.{Added}
 use Rattle.part.proofs.Part.commit.Goals as goal

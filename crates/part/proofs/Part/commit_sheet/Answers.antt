@@ -17,9 +17,9 @@ use Rattle.part.specs.Trusted.Reservations.{Committed}
 use Rattle.part.specs.Trusted.AddAnswers.{adding_answer, adding_result}
 use Rattle.part.specs.Storing.{Offered}
 use Rattle.joined_mapper.specs.JoinedMap.{circuit_of}
-use Rattle.part.specs.StoringLaws.{sheet_mappable, mapped_storable, mapped_offered, reading_is}
-use Rattle.part.specs.SetLaws.{refusal}
-use Rattle.part.specs.ReserveLaws.{released_sound, commit_sheet, commit_misread, commit_other, commit_refused, commit_accepted}
+use Rattle.part.proofs.StoringLaws.{sheet_mappable, mapped_storable, mapped_offered, reading_is}
+use Rattle.part.proofs.SetLaws.{refusal}
+use Rattle.part.proofs.ReserveLaws.{released_sound, commit_sheet, commit_misread, commit_other, commit_refused, commit_accepted}
 use Rattle.part.proofs.Part.commit_sheet.Goals as goal
 use Rattle.part.proofs.Part.commit_sheet.Goals.{After-offer-added, After-read-reading, In_default}
 

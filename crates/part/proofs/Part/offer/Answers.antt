@@ -20,7 +20,7 @@ use Rattle.part.specs.Trusted.Parts.{tables_of, Shaped}
 use Rattle.part.specs.Trusted.Answers.{accepted}
 use Rattle.part.specs.Trusted.Add.{is_driven, net_read}
 use Rattle.part.specs.Storing.{new_tables, new_records, Offered}
-use Rattle.part.specs.StoringLaws.{used_padded, new_room, store_record, store_levels, levels_stored, Looked, looked_none, looked_more, looked_all, offer_driven, offer_read, offer_full, offer_stored, offer_same}
+use Rattle.part.proofs.StoringLaws.{used_padded, new_room, store_record, store_levels, levels_stored, Looked, looked_none, looked_more, looked_all, offer_driven, offer_read, offer_full, offer_stored, offer_same}
 use Rattle.part.specs.declared.Part.{Part}
 use Rattle.part.specs.declared.Adding.TheVariants.{OutputDriven, OutputRead, Full}
 use Rattle.table.proofs.Shape.{past}

@@ -11,7 +11,7 @@ use Rattle.part.specs.SoundLaws.{sound_reflects}
 use Rattle.part.specs.Trusted.Tries.{Try}
 use Rattle.part.specs.Trusted.Reservations.{Reserve}
 use Rattle.part.specs.Trusted.AddAnswers.{adding_result}
-use Rattle.part.specs.ReserveLaws.{reserve_unsound, reserve_open, reserve_tried}
+use Rattle.part.proofs.ReserveLaws.{reserve_unsound, reserve_open, reserve_tried}
 use Rattle.part.specs.declared.Part.{Part}
 use Rattle.part.specs.declared.Added.{Added}
 use Rattle.part.proofs.Part.reserve.Goals as goal

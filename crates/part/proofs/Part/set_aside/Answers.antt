@@ -13,9 +13,9 @@ use Rattle.part.specs.Trusted.Ways.{least}
 use Rattle.part.specs.Trusted.Add.{Add}
 use Rattle.part.specs.Trusted.Reservations.{Reserves}
 use Rattle.part.specs.Trusted.AddAnswers.{adding_answer}
-use Rattle.part.specs.StoringLaws.{sheet_mappable, mapped_storable, mapped_offered, add_misread, add_offered, reading_is}
-use Rattle.part.specs.SetLaws.{refusal}
-use Rattle.part.specs.ReserveLaws.{grown_number, covered_read, aside_refused, aside_accepted}
+use Rattle.part.proofs.StoringLaws.{sheet_mappable, mapped_storable, mapped_offered, add_misread, add_offered, reading_is}
+use Rattle.part.proofs.SetLaws.{refusal}
+use Rattle.part.proofs.ReserveLaws.{grown_number, covered_read, aside_refused, aside_accepted}
 use Rattle.part.proofs.Part.set_aside.Goals as goal
 use Rattle.part.proofs.Part.set_aside.Goals.{After-offer-added, In-Accepted, In_default}
 

@@ -9,7 +9,7 @@ use Rattle.table.specs.LevelTest.{LevelsStand}
 use Rattle.part.specs.Trusted.Parts.{tables_of}
 use Rattle.part.specs.Trusted.Ways.{least}
 use Rattle.part.specs.Trusted.AddAnswers.{adding_answer}
-use Rattle.part.specs.StoringLaws.{sheet_mappable, mapped_storable, mapped_offered, add_same, add_misread, add_offered, reading_is}
+use Rattle.part.proofs.StoringLaws.{sheet_mappable, mapped_storable, mapped_offered, add_same, add_misread, add_offered, reading_is}
 use Rattle.part.specs.declared.Adding.TheVariants.{Misread}
 use Rattle.part.proofs.Part.take.Goals as goal
 use Rattle.part.proofs.Part.take.Goals.{In_default}

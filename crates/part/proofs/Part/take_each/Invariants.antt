@@ -11,7 +11,7 @@ use Rattle.part.specs.Trusted.Parts.{tables_of}
 use Rattle.part.specs.Trusted.Ways.{least}
 use Rattle.part.specs.Trusted.Add.{Add}
 use Rattle.part.specs.Trusted.AddAnswers.{adding_answer}
-use Rattle.part.specs.SetLaws.{SetEnded, SetSoFar, set_start, set_room, set_stop, set_more, set_all}
+use Rattle.part.proofs.SetLaws.{SetEnded, SetSoFar, set_start, set_room, set_stop, set_more, set_all}
 use Rattle.part.proofs.Shape.{shaped}
 use Rattle.part.proofs.Part.take_each.Given as goal
 

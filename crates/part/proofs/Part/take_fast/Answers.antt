@@ -9,7 +9,7 @@ use Rattle.table.specs.LevelTest.{LevelsStand}
 use Rattle.part.specs.Trusted.Parts.{tables_of}
 use Rattle.part.specs.Trusted.Ways.{fastest}
 use Rattle.part.specs.Trusted.AddAnswers.{adding_answer}
-use Rattle.part.specs.StoringLaws.{sheet_mappable, levels_low, fast_storable, fast_offered, add_same, add_misread, add_offered, reading_is}
+use Rattle.part.proofs.StoringLaws.{sheet_mappable, levels_low, fast_storable, fast_offered, add_same, add_misread, add_offered, reading_is}
 use Rattle.part.specs.declared.Adding.TheVariants.{Misread}
 use Rattle.part.proofs.Part.take_fast.Goals as goal
 use Rattle.part.proofs.Part.take_fast.Goals.{In_default}

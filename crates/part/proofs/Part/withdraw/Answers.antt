@@ -3,7 +3,7 @@ use mathlib.Core.List.{[]}
 use borrow.Author.Rules.{rules}
 use borrow.Author.Tests.{not-true, not-false}
 use Rattle.part.specs.Trusted.AddAnswers.{adding_result}
-use Rattle.part.specs.ReserveLaws.{withdraw_unsound, withdraw_closed, withdraw_open}
+use Rattle.part.proofs.ReserveLaws.{withdraw_unsound, withdraw_closed, withdraw_open}
 use Rattle.part.specs.declared.Adding.TheVariants.{Accepted}
 use Rattle.part.proofs.Part.withdraw.Goals as goal
 use Rattle.part.proofs.Part.withdraw.Goals.{After-released}

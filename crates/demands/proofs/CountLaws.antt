@@ -5,12 +5,12 @@ use Rattle.lists.specs.Trusted.Lists.{Every}
 use Rattle.lists.specs.ListLaws.{every_none, every_cons, every_head, every_left, every_right}
 use Rattle.part.specs.Trusted.Parts.{available, Shaped}
 use Rattle.part.specs.Trusted.Tries.{Try, CallResult}
-use Rattle.part.specs.AddLaws.{Kept, same_kept, kept_trans}
+use Rattle.part.proofs.AddLaws.{Kept, same_kept, kept_trans}
 use Rattle.part.specs.declared.Part.{Part}
 use Rattle.demands.specs.Trusted.Calls.{Call, withheld, Promise, Chain, done, call, final, SheetEntry, sheet_entries, accepted_in, Link, here, next}
 use Rattle.demands.specs.Trusted.Demands.{Total, left, Accounted, CallAccounted, Demand3}
-use Rattle.demands.specs.TryLaws.{Trying, CountGrown, none_grown, grown_append, try_accounted, line_kept, line_reserved, line_grown}
-use Rattle.demands.specs.CallLaws.{call_tries, call_tried, call_ahead, call_reserved, stands_kept, call_kept, call_grown}
+use Rattle.demands.proofs.TryLaws.{Trying, CountGrown, none_grown, grown_append, try_accounted, line_kept, line_reserved, line_grown}
+use Rattle.demands.proofs.CallLaws.{call_tries, call_tried, call_ahead, call_reserved, stands_kept, call_kept, call_grown}
 
 pub chain_kept : {p : Part} {cs : List Call} {rs : List CallResult} → Chain p cs rs → Shaped p → Kept p (final p rs)
 chain_kept {p} done shape = same_kept p shape p refl

@@ -20,16 +20,16 @@ use Rattle.table.specs.Trusted.Records.{table_of}
 use Rattle.part.specs.Trusted.Parts.{in_use, tables_of, Shaped}
 use Rattle.part.specs.Trusted.Sound.{Sound}
 use Rattle.part.specs.Trusted.Ways.{reading}
-use Rattle.part.specs.WayLaws.{reading_right, reading_drawn, chosen_added}
+use Rattle.part.proofs.WayLaws.{reading_right, reading_drawn, chosen_added}
 use Rattle.part.specs.Trusted.Answers.{accepted, refused}
 use Rattle.part.specs.Trusted.Tries.{adding, Try, CallResult}
 use Rattle.part.specs.Trusted.Add.{opened}
-use Rattle.part.specs.AddLaws.{not_refused}
-use Rattle.part.specs.OpenLaws.{opened_shaped, opened_empty}
+use Rattle.part.proofs.AddLaws.{not_refused}
+use Rattle.part.proofs.OpenLaws.{opened_shaped, opened_empty}
 use Rattle.demands.specs.Trusted.Calls.{Call, Promise, Chain, done, call, final, SheetEntry, entered, sheet_entries, if_accepted, accepted_by, accepted_in, Link, here, next}
 use Rattle.demands.specs.Trusted.Demands.{OnEachOther, no_try, next_try, TriedSheets, before_any, every, up_to, sets_aside, values_in, last_part, Served, CallServed}
-use Rattle.demands.specs.TryLaws.{Adds, Trying, adds, entries_of, try_kept, try_taken}
-use Rattle.demands.specs.CallLaws.{call_tries, call_tried, stands_kept, call_same_tables, call_kept}
+use Rattle.demands.proofs.TryLaws.{Adds, Trying, adds, entries_of, try_kept, try_taken}
+use Rattle.demands.proofs.CallLaws.{call_tries, call_tried, stands_kept, call_same_tables, call_kept}
 use Rattle.part.specs.declared.Part.{Part}
 
 -- ---- inputs

@@ -12,12 +12,12 @@ use Rattle.part.specs.Trusted.Ways.{Way}
 use Rattle.part.specs.Trusted.Answers.{Answer, accepted, refused}
 use Rattle.part.specs.Trusted.Tries.{CallResult}
 use Rattle.part.specs.Trusted.Add.{opened, Add}
-use Rattle.part.specs.OpenLaws.{opened_shaped}
-use Rattle.part.specs.AddLaws.{not_refused}
+use Rattle.part.proofs.OpenLaws.{opened_shaped}
+use Rattle.part.proofs.AddLaws.{not_refused}
 use Rattle.demands.specs.Trusted.Calls.{Call, add, one_sheet, Promise, Chain, done, call, final}
 use Rattle.demands.specs.Trusted.Demands.{last_part}
-use Rattle.demands.specs.Theorems.{demand_2, demand_3}
-use Rattle.demands.specs.CallLaws.{call_kept}
+use Rattle.demands.proofs.Theorems.{demand_2, demand_3}
+use Rattle.demands.proofs.CallLaws.{call_kept}
 use Rattle.demands.specs.Determined.{Alike}
 use Rattle.part.specs.declared.Part.{Part}
 use Rattle.list_line.specs.Line.{top_line}

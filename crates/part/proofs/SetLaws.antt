@@ -20,7 +20,7 @@ use Rattle.part.specs.Trusted.AddAnswers.{adding_answer}
 use Rattle.part.specs.Trusted.Tries.{Try, CallResult}
 use Rattle.part.specs.Trusted.Sets.{member, InTurn, all, next, stop, turned_away, AddSet}
 use Rattle.part.specs.Trusted.SetAnswers.{set_result, Positioned}
-use Rattle.part.specs.AddLaws.{add_case, Kept, kept_trans, same_kept, kept}
+use Rattle.part.proofs.AddLaws.{add_case, Kept, kept_trans, same_kept, kept}
 use Rattle.part.specs.declared.Part.{Part}
 use Rattle.part.specs.declared.Adding.{Adding}
 use Rattle.part.specs.declared.Adding.TheVariants.{Accepted as Added, Unsound, Misread, OutputDriven, OutputRead, Full, AlreadyReserved, NotReserved}

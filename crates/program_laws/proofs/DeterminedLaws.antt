@@ -12,22 +12,22 @@ use Rattle.part.specs.Trusted.Ways.{least}
 use Rattle.part.specs.Trusted.Answers.{Answer, accepted, refused}
 use Rattle.part.specs.Trusted.Tries.{CallResult}
 use Rattle.part.specs.Trusted.Add.{opened}
-use Rattle.part.specs.OpenLaws.{opened_shaped, opened_sound}
-use Rattle.part.specs.AddLaws.{not_refused}
+use Rattle.part.proofs.OpenLaws.{opened_shaped, opened_sound}
+use Rattle.part.proofs.AddLaws.{not_refused}
 use Rattle.demands.specs.Trusted.Calls.{Call, add, Promise, Chain, done, call, final}
-use Rattle.demands.specs.CallLaws.{call_kept}
+use Rattle.demands.proofs.CallLaws.{call_kept}
 use Rattle.listing.specs.Trusted.Listing.{list_of}
 use Rattle.demands.specs.Determined.{Alike}
-use Rattle.demands.specs.DeterminedLaws.{alike_refl, add_alike}
+use Rattle.demands.proofs.DeterminedLaws.{alike_refl, add_alike}
 use Rattle.part.specs.declared.Part.{Part}
 use Rattle.list_line.specs.Line.{top_line}
 use Rattle.listing.specs.Lines.{table_lines}
-use Rattle.listing.specs.LineLaws.{list_is}
+use Rattle.listing.proofs.LineLaws.{list_is}
 use Rattle.opening.specs.Trusted.Opening.{opening_numbers, count, opened_by}
 use Rattle.printing.specs.Trusted.RefusalLine.{refusal_line}
 use Rattle.program.specs.Trusted.Program.{After, Prints}
 use Rattle.program_laws.specs.Trusted.Runs.{Texts, end, stop, next, answers, used_counts, first_refusal, printed_by, Run, Determined, refusal, lists}
-use Rattle.program_laws.specs.ChainLaws.{mapped_run}
+use Rattle.program_laws.proofs.ChainLaws.{mapped_run}
 
 -- ---- two runs of a text, from parts that differ in nothing that an answer depends on
 

@@ -8,13 +8,13 @@ use Rattle.cover.specs.Trusted.CoverTables.{Circuit}
 use Rattle.part.specs.Trusted.Parts.{available, released, Shaped}
 use Rattle.part.specs.Trusted.Sound.{Sound}
 use Rattle.part.specs.Trusted.Ways.{least, reading, NumberBy}
-use Rattle.part.specs.WayLaws.{reading_below, number_unique, some_tables}
+use Rattle.part.proofs.WayLaws.{reading_below, number_unique, some_tables}
 use Rattle.part.specs.Trusted.Answers.{Answer, accepted, refused}
 use Rattle.part.specs.Trusted.Add.{Add}
 use Rattle.part.specs.Trusted.Tries.{CallResult}
 use Rattle.part.specs.Trusted.Sets.{turned_away}
 use Rattle.part.specs.Trusted.Reservations.{SetAside, Reserved, Reserve, Commit, withdrawn}
-use Rattle.part.specs.AddLaws.{Kept, AddCase, unsound, misread, driven, read, full, taken, add_case, not_refused}
+use Rattle.part.proofs.AddLaws.{Kept, AddCase, unsound, misread, driven, read, full, taken, add_case, not_refused}
 use Rattle.part.specs.declared.Part.{Part}
 use Rattle.demands.specs.Trusted.Calls.{Call, add, add_set, reserve, commit, withdraw, Promise, Chain, done, call, final}
 use Rattle.demands.specs.Trusted.Demands.{Passes, ReserveCondition, reserve_on_unsound, open_already, as_an_add, ReserveTold}
@@ -23,10 +23,10 @@ use Rattle.demands.specs.Trusted.Demands.{WithdrawCondition, withdraw_on_unsound
 use Rattle.demands.specs.ReserveCases.{ReserveCase, unsound_reserve, open_reserve, tried_reserve, reserve_case}
 use Rattle.demands.specs.ReserveCases.{CommitCase, unsound_commit, closed_commit, other_commit, tried_commit, commit_case, one_turn}
 use Rattle.demands.specs.ReserveCases.{WithdrawCase, unsound_withdraw, closed_withdraw, open_withdraw, withdraw_case}
-use Rattle.demands.specs.TryLaws.{same_sheet, same_number}
-use Rattle.demands.specs.CallLaws.{call_reserved, call_kept}
-use Rattle.demands.specs.CountLaws.{chain_kept}
-use Rattle.demands.specs.ConditionLaws.{moved, add_told}
+use Rattle.demands.proofs.TryLaws.{same_sheet, same_number}
+use Rattle.demands.proofs.CallLaws.{call_reserved, call_kept}
+use Rattle.demands.proofs.CountLaws.{chain_kept}
+use Rattle.demands.proofs.ConditionLaws.{moved, add_told}
 
 -- ---- turned away before any sheet
 

@@ -13,15 +13,15 @@ use Rattle.part.specs.Trusted.Sound.{Sound}
 use Rattle.part.specs.Trusted.SoundTest.{sound}
 use Rattle.part.specs.SoundLaws.{sound_reflects}
 use Rattle.part.specs.Trusted.Ways.{Way, reading, NumberBy}
-use Rattle.part.specs.WayLaws.{reading_right, number_unique, chosen_number}
+use Rattle.part.proofs.WayLaws.{reading_right, number_unique, chosen_number}
 use Rattle.part.specs.Trusted.Answers.{Answer, accepted, refused}
 use Rattle.part.specs.Trusted.Add.{opened, is_driven, net_read, Add}
-use Rattle.part.specs.OpenLaws.{opened_cases}
-use Rattle.part.specs.AddLaws.{driven_reflects, read_reflects, AddCase, unsound, misread, driven, read, full, taken, add_case, not_refused}
+use Rattle.part.proofs.OpenLaws.{opened_cases}
+use Rattle.part.proofs.AddLaws.{driven_reflects, read_reflects, AddCase, unsound, misread, driven, read, full, taken, add_case, not_refused}
 use Rattle.demands.specs.KeptLaws.{refused_stays}
 use Rattle.demands.specs.Determined as Determined
 use Rattle.demands.specs.Determined.{number_in, answer_of}
-use Rattle.demands.specs.DeterminedLaws.{number_is, add_answer}
+use Rattle.demands.proofs.DeterminedLaws.{number_is, add_answer}
 use Rattle.listing.specs.Trusted.Listing.{line_of, list_of}
 use Rattle.list_line.specs.Trusted.Writes.{pasted}
 use Rattle.listing.specs.Lines.{turned_down, fitted, line_written, list_written}

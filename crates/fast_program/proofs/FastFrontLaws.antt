@@ -14,7 +14,7 @@ use Rattle.fast_opening.specs.Trusted.FastOpening.{fast_numbers, fast_opened_by}
 use Rattle.sheets.specs.SheetsBounds.{sheets_enough, sheets_front}
 use Rattle.program_laws.specs.Front.{front_bytes}
 use Rattle.fast_program.specs.Trusted.FastProgram.{FastAfter, FastPrints}
-use Rattle.fast_program.specs.FastProgramLaws.{fast_opened_good}
+use Rattle.fast_program.proofs.FastProgramLaws.{fast_opened_good}
 
 -- ---- the opening line
 

@@ -18,7 +18,7 @@ use Rattle.part.specs.Trusted.Sound.{Sound}
 use Rattle.part.specs.Trusted.SoundTest.{sound}
 use Rattle.part.specs.SoundLaws.{sound_reflects}
 use Rattle.part.specs.Trusted.Ways.{Way, reading, NumberBy}
-use Rattle.part.specs.WayLaws.{reading_right, number_unique, chosen_added, chosen_number}
+use Rattle.part.proofs.WayLaws.{reading_right, number_unique, chosen_added, chosen_number}
 use Rattle.part.specs.Trusted.Answers.{Answer, accepted, refused}
 use Rattle.part.specs.Trusted.Add.{is_driven, net_read, Refused, Accepted, Take, Add}
 use Rattle.part.specs.Trusted.Nets.{Driven, Read}

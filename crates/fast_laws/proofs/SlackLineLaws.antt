@@ -22,14 +22,14 @@ use Rattle.part.specs.Trusted.Ways.{fastest, reading}
 use Rattle.part.specs.Trusted.Answers.{accepted}
 use Rattle.part.specs.Trusted.Tries.{CallResult}
 use Rattle.part.specs.Trusted.Add.{opened, Add}
-use Rattle.part.specs.OpenLaws.{opened_shaped, opened_empty}
+use Rattle.part.proofs.OpenLaws.{opened_shaped, opened_empty}
 use Rattle.part.specs.ExtendedLaws.{extended_in_use}
-use Rattle.part.specs.WayLaws.{reading_right, some_tables, chosen_number}
-use Rattle.part.specs.AddLaws.{AddCase, unsound, misread, driven, read, full, taken, add_case, not_refused}
+use Rattle.part.proofs.WayLaws.{reading_right, some_tables, chosen_number}
+use Rattle.part.proofs.AddLaws.{AddCase, unsound, misread, driven, read, full, taken, add_case, not_refused}
 use Rattle.part.specs.declared.Part.{Part}
 use Rattle.demands.specs.Trusted.Calls.{Call, add, Chain, done, call, final}
 use Rattle.demands.specs.Trusted.Demands.{last_part}
-use Rattle.demands.specs.CallLaws.{call_kept}
+use Rattle.demands.proofs.CallLaws.{call_kept}
 use Rattle.slacks.specs.Trusted.Slack.{slack_line, drivers, slack_lines}
 use Rattle.slacks.specs.SlackText.{slack_text}
 use Rattle.program_laws.specs.Trusted.Runs.{answers, first_refusal}

@@ -12,9 +12,9 @@ use Rattle.part_records.specs.Trusted.Reservations.{unreserved}
 use Rattle.part.specs.Trusted.Tries.{Purpose, adding, Try, CallResult}
 use Rattle.part.specs.Trusted.Sets.{member, InTurn, all, next, stop, turned_away}
 use Rattle.part.specs.Trusted.Reservations.{Reserved, Reserves, reserving_try, reserving_sheet, withdrawn}
-use Rattle.part.specs.AddLaws.{Kept, AddCase, unsound, misread, driven, read, full, taken, add_case, same_kept, kept_trans, not_refused}
-use Rattle.part.specs.ReserveLaws.{released_sound}
-use Rattle.part.specs.SetLaws.{SetCase, unsound_part, unfit, in_turn, set_case}
+use Rattle.part.proofs.AddLaws.{Kept, AddCase, unsound, misread, driven, read, full, taken, add_case, same_kept, kept_trans, not_refused}
+use Rattle.part.proofs.ReserveLaws.{released_sound}
+use Rattle.part.proofs.SetLaws.{SetCase, unsound_part, unfit, in_turn, set_case}
 use Rattle.part.specs.declared.Part.{Part}
 use Rattle.demands.specs.KeptLaws.{add_reserved, refused_stays, aside_kept}
 use Rattle.demands.specs.Trusted.Calls.{Call, add, add_set, reserve, commit, withdraw, stands_upon, one_sheet, Promise, Chain, done, call, sheet_entries, if_accepted, accepted_by}
@@ -22,7 +22,7 @@ use Rattle.demands.specs.Trusted.Demands.{tried_of, OnEachOther, no_try, next_tr
 use Rattle.demands.specs.ReserveCases.{nothing_reserved, ReserveCase, unsound_reserve, open_reserve, tried_reserve, reserve_case}
 use Rattle.demands.specs.ReserveCases.{CommitCase, unsound_commit, closed_commit, other_commit, tried_commit, commit_case}
 use Rattle.demands.specs.ReserveCases.{WithdrawCase, unsound_withdraw, closed_withdraw, open_withdraw, withdraw_case}
-use Rattle.demands.specs.TryLaws.{Adds, Trying, CountGrown, none_grown, line_kept, line_grown}
+use Rattle.demands.proofs.TryLaws.{Adds, Trying, CountGrown, none_grown, line_kept, line_grown}
 
 -- ---- adding a set
 

@@ -53,7 +53,7 @@ use Rattle.part.specs.SoundLaws.{sound_reflects, used_count}
 use Rattle.part.specs.Trusted.Reading.{read_of}
 use Rattle.part.specs.Trusted.Answers.{Answer, accepted, refused}
 use Rattle.part.specs.Trusted.Ways.{Way, least, fastest, reading, NumberBy}
-use Rattle.part.specs.WayLaws.{chosen_number}
+use Rattle.part.proofs.WayLaws.{chosen_number}
 use Rattle.part.specs.Trusted.Add.{extended, is_driven, net_read, Fill, Offer, Add}
 use Rattle.part.specs.Trusted.AddAnswers.{adding_answer}
 use Rattle.part.specs.ExtendedLaws.{extended_tables}

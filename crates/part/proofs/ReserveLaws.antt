@@ -16,14 +16,14 @@ use Rattle.part.specs.Trusted.Sound.{Sound}
 use Rattle.part.specs.Trusted.SoundTest.{sound}
 use Rattle.part.specs.Trusted.Reading.{read_of}
 use Rattle.part.specs.Trusted.Ways.{least, NumberBy}
-use Rattle.part.specs.WayLaws.{chosen_number}
+use Rattle.part.proofs.WayLaws.{chosen_number}
 use Rattle.part.specs.Trusted.Answers.{Answer, accepted, refused}
 use Rattle.part.specs.Trusted.Add.{Offer, Add}
 use Rattle.part.specs.Trusted.Tries.{CallResult}
 use Rattle.part.specs.Trusted.Sets.{member, all, next, stop, turned_away}
 use Rattle.part.specs.Trusted.Reservations.{reservation_open, Reserves, reserving_sheet, Reserve, is_other, Committed, Commit, withdrawn}
-use Rattle.part.specs.AddLaws.{AddCase, unsound, misread, driven, read, full, taken, add_case, not_refused}
-use Rattle.part.specs.StoringLaws.{add_misread, add_offered}
+use Rattle.part.proofs.AddLaws.{AddCase, unsound, misread, driven, read, full, taken, add_case, not_refused}
+use Rattle.part.proofs.StoringLaws.{add_misread, add_offered}
 use Rattle.part.specs.declared.Part.{Part}
 
 -- ---- whether a reservation is open

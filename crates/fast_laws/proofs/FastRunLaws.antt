@@ -11,12 +11,12 @@ use Rattle.part.specs.Trusted.Parts.{tables_of, Shaped}
 use Rattle.part.specs.Trusted.Ways.{fastest}
 use Rattle.part.specs.Trusted.Answers.{Answer, accepted, refused}
 use Rattle.part.specs.Trusted.Add.{opened, Add}
-use Rattle.part.specs.WayLaws.{reading_right}
+use Rattle.part.proofs.WayLaws.{reading_right}
 use Rattle.part.specs.declared.Part.{Part}
 use Rattle.demands.specs.Determined.{Alike}
-use Rattle.demands.specs.DeterminedLaws.{alike_refl, add_alike, fastest_alike}
+use Rattle.demands.proofs.DeterminedLaws.{alike_refl, add_alike, fastest_alike}
 use Rattle.demands.specs.KeptLaws.{refused_stays}
-use Rattle.demands.specs.TryLaws.{same_sheet}
+use Rattle.demands.proofs.TryLaws.{same_sheet}
 use Rattle.levels.specs.Trusted.Levels.{Fastest}
 use Rattle.levels.proofs.Fastest.{fastest_unique}
 use Rattle.opening.specs.Trusted.Opening.{count}
@@ -25,9 +25,9 @@ use Rattle.slacks.specs.Trusted.Slack.{slack_line, slack_lines}
 use Rattle.fast_opening.specs.Trusted.FastOpening.{fast_numbers, is_wanted, unopened, wanted_after, fast_opened_by}
 use Rattle.fast_program.specs.Trusted.FastProgram.{fast_list, FastAfter, FastPrints}
 use Rattle.fast_laws.specs.Trusted.RunsBy.{refusal}
-use Rattle.fast_laws.specs.RunsByLaws.{shown_run, runs_settled, no_refusal, refusal_alone}
+use Rattle.fast_laws.proofs.RunsByLaws.{shown_run, runs_settled, no_refusal, refusal_alone}
 use Rattle.fast_laws.specs.Trusted.FastRuns.{FastRun, FastDetermined}
-use Rattle.fast_laws.specs.SlackLineLaws.{LineAdded, line_added, slack_lines_lem}
+use Rattle.fast_laws.proofs.SlackLineLaws.{LineAdded, line_added, slack_lines_lem}
 
 -- ---- the adds
 

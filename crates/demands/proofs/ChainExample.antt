@@ -23,7 +23,7 @@ use Rattle.part.specs.Trusted.Parts.{blanks, tables_of, with_reservation, releas
 use Rattle.part.specs.Trusted.Sound.{Sound}
 use Rattle.part.specs.Trusted.Nets.{Driven}
 use Rattle.part.specs.SoundLaws.{sound_reflects}
-use Rattle.part.specs.OpenLaws.{opened_shaped, opened_sound}
+use Rattle.part.proofs.OpenLaws.{opened_shaped, opened_sound}
 use Rattle.part.specs.Trusted.SoundTest.{sound}
 use Rattle.part.specs.Trusted.Reading.{read_of}
 use Rattle.set_lengths.specs.Trusted.Lengths.{is_whole}
@@ -36,7 +36,7 @@ use Rattle.part.specs.Trusted.Add.{opened, extended, Add}
 use Rattle.demands.specs.Trusted.Calls.{add, add_set, withdraw, one_sheet, final, Chain, call}
 use Rattle.list_reading.specs.PartExamples.{part}
 use Rattle.part.specs.declared.Part.{Part}
-use Rattle.demands.specs.Theorems.{guaranteed}
+use Rattle.demands.proofs.Theorems.{guaranteed}
 use Rattle.demands.specs.Trusted.Calls as calls
 use Rattle.demands.specs.Trusted.Demands as Demands
 use Rattle.demands.specs.Trusted.Demands.{StillOpen, Total, more, out_driven, none_added, one_added, SetCondition, of_sheet, no_try, next_try, TriedSheets, up_to}

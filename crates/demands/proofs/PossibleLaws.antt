@@ -27,18 +27,18 @@ use Rattle.part.specs.Trusted.Sound.{Sound}
 use Rattle.part.specs.SoundLaws.{sound_reflects}
 use Rattle.part.specs.Readable.{Readable}
 use Rattle.part.specs.Trusted.Ways.{Way, least, fastest, reading, NumberBy, Chosen}
-use Rattle.part.specs.WayLaws.{reading_right}
+use Rattle.part.proofs.WayLaws.{reading_right}
 use Rattle.part.specs.Trusted.Answers.{Answer, accepted, refused}
 use Rattle.part.specs.Trusted.Add.{extended, net_read, Refused, Accepted, Fill, Offer, Take, Add}
 use Rattle.part.specs.Trusted.Tries.{CallResult}
 use Rattle.part.specs.Trusted.Sets.{InTurn, all, next, stop, turned_away, AddSet}
 use Rattle.part.specs.Trusted.Reservations.{reservation_open, Reserves, reserving_sheet, Reserve, is_other, Committed, Commit, withdrawn}
-use Rattle.part.specs.AddLaws.{driven_reflects, read_reflects}
-use Rattle.part.specs.ReserveLaws.{open_reflects}
+use Rattle.part.proofs.AddLaws.{driven_reflects, read_reflects}
+use Rattle.part.proofs.ReserveLaws.{open_reflects}
 use Rattle.demands.specs.Trusted.Calls.{Call, add, add_set, reserve, commit, withdraw, one_sheet, Promise, Chain, call}
 use Rattle.demands.specs.Determined.{number_in}
-use Rattle.demands.specs.DeterminedLaws.{number_is}
-use Rattle.demands.specs.ConditionLaws.{add_told}
+use Rattle.demands.proofs.DeterminedLaws.{number_is}
+use Rattle.demands.proofs.ConditionLaws.{add_told}
 use Rattle.part.specs.declared.Part.{Part}
 use Rattle.demands.specs.Trusted.Calls as calls
 

@@ -10,13 +10,13 @@ use Rattle.cover.specs.Trusted.CoverTables.{Circuit}
 use Rattle.part.specs.Trusted.Parts.{in_use, tables_of, available, Shaped}
 use Rattle.part.specs.Trusted.Sound.{Sound}
 use Rattle.part.specs.Trusted.Ways.{Way, reading, NumberBy}
-use Rattle.part.specs.WayLaws.{reading_below, number_unique, chosen_number}
+use Rattle.part.proofs.WayLaws.{reading_below, number_unique, chosen_number}
 use Rattle.part.specs.Trusted.Answers.{Answer, accepted, refused}
 use Rattle.part.specs.Trusted.Add.{Accepted, Add}
 use Rattle.part.specs.Trusted.Tries.{Purpose, adding, reserving, Try}
 use Rattle.part.specs.Trusted.Reservations.{SetAside, Reserved, Reserves}
 use Rattle.part.specs.ExtendedLaws.{extended_in_use, extended_tables}
-use Rattle.part.specs.AddLaws.{Kept, AddCase, unsound, misread, driven, read, full, taken, add_case, kept, same_kept, kept_trans, not_refused}
+use Rattle.part.proofs.AddLaws.{Kept, AddCase, unsound, misread, driven, read, full, taken, add_case, kept, same_kept, kept_trans, not_refused}
 use Rattle.part.specs.declared.Part.{Part}
 use Rattle.demands.specs.KeptLaws.{add_reserved}
 use Rattle.demands.specs.Trusted.Calls.{SheetEntry, entered, sheet_entries}

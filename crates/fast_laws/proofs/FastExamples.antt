@@ -7,7 +7,7 @@ use Rattle.part.specs.Trusted.Parts.{blanks}
 use Rattle.part.specs.Trusted.Ways.{fastest}
 use Rattle.part.specs.Trusted.Answers.{accepted}
 use Rattle.demands.specs.Trusted.Calls.{add, one_sheet}
-use Rattle.demands.specs.ChainExample.{first, second, first_text, second_text, first_read, second_read, start, middle, end_part, fastest_1, fastest_2, fast_add_1, fast_add}
+use Rattle.demands.proofs.ChainExample.{first, second, first_text, second_text, first_read, second_read, start, middle, end_part, fastest_1, fastest_2, fast_add_1, fast_add}
 use Rattle.sheets.specs.Trusted.Sheets.{ended, added}
 use Rattle.fast_program.specs.Trusted.FastProgram.{FastPrints}
 use Rattle.fast_laws.specs.Trusted.FastRuns.{SlacksOf, no_sheet_lem, sheet}

@@ -36,23 +36,23 @@ use Rattle.part.specs.Trusted.Add.{is_driven, net_read, Refused, Accepted, Fill,
 use Rattle.part.specs.Trusted.Tries.{Purpose, adding, CallResult}
 use Rattle.part.specs.Trusted.Sets.{InTurn, all, next, stop, turned_away}
 use Rattle.part.specs.Trusted.Reservations.{SetAside, Reserved}
-use Rattle.part.specs.ReserveLaws.{released_sound}
+use Rattle.part.proofs.ReserveLaws.{released_sound}
 use Rattle.part_records.specs.Trusted.Reservations.{unreserved}
 use Rattle.part_records.specs.declared.Reservation.{Reservation}
 use Rattle.part.specs.ExtendedLaws.{extended_tables}
 use Rattle.part.specs.ExtendLaws.{extended_sound}
 use Rattle.part.specs.Readable.{Readable}
-use Rattle.part.specs.WayLaws.{reading_right, number_unique, chosen_added, chosen_number}
-use Rattle.part.specs.AddLaws.{driven_reflects, read_reflects, AddCase, unsound, misread, driven, read, full, taken as took, add_case, kept, not_refused}
+use Rattle.part.proofs.WayLaws.{reading_right, number_unique, chosen_added, chosen_number}
+use Rattle.part.proofs.AddLaws.{driven_reflects, read_reflects, AddCase, unsound, misread, driven, read, full, taken as took, add_case, kept, not_refused}
 use Rattle.demands.specs.KeptLaws.{aside_kept}
 use Rattle.demands.specs.LeafLaws.{reads_after, reads_still, drives_after, drives_still}
 use Rattle.demands.specs.Trusted.Calls.{Call, add, add_set, reserve, commit, withdraw, Promise, Chain, done, call, final}
-use Rattle.demands.specs.TryLaws.{same_sheet}
-use Rattle.part.specs.SetLaws.{SetCase, unsound_part, unfit, in_turn, set_case}
+use Rattle.demands.proofs.TryLaws.{same_sheet}
+use Rattle.part.proofs.SetLaws.{SetCase, unsound_part, unfit, in_turn, set_case}
 use Rattle.demands.specs.ReserveCases.{ReserveCase, unsound_reserve, open_reserve, tried_reserve, reserve_case}
 use Rattle.demands.specs.ReserveCases.{CommitCase, unsound_commit, closed_commit, other_commit, tried_commit, commit_case}
 use Rattle.demands.specs.ReserveCases.{WithdrawCase, unsound_withdraw, closed_withdraw, open_withdraw, withdraw_case}
-use Rattle.demands.specs.CallLaws.{stands_kept, call_kept}
+use Rattle.demands.proofs.CallLaws.{stands_kept, call_kept}
 use Rattle.demands.specs.Determined.{least_number, fastest_of, fastest_number, number_in, LevelsAlike, Alike, AddsBy, offered, taken, answer_of}
 use Rattle.part.specs.declared.Part.{Part}
 

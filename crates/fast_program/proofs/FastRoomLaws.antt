@@ -7,7 +7,7 @@ use Rattle.part.specs.Trusted.Answers.{Answer, accepted, refused}
 use Rattle.part.specs.declared.Part.{Part}
 use Rattle.listing.specs.Trusted.Listing.{list_of}
 use Rattle.listing.specs.Lines.{longest}
-use Rattle.listing.specs.LineLaws.{list_short}
+use Rattle.listing.proofs.LineLaws.{list_short}
 use Rattle.slacks.specs.Trusted.Slack.{slack_lines}
 use Rattle.slacks.specs.SlackLaws.{slacks_short}
 use Rattle.fast_opening.specs.Trusted.FastOpening.{fast_numbers, fast_opened_by}
@@ -15,7 +15,7 @@ use Rattle.sheets.specs.SheetsBounds.{sheets_short}
 use Rattle.program.specs.AnsweredLaws.{answered_front, answered_whole}
 use Rattle.fast_program.specs.Trusted.FastProgram.{fast_list, FastAfter, FastPrints}
 use Rattle.fast_program.specs.Promises.{FastAnswered, FastAtFront}
-use Rattle.fast_program.specs.FastProgramLaws.{fast_opened_good}
+use Rattle.fast_program.proofs.FastProgramLaws.{fast_opened_good}
 use Rattle.fast_program.specs.FastLongest.{fast_longest}
 use Rattle.printing.specs.declared.Printed.{Printed}
 use Rattle.printing.specs.declared.Printed.TheVariants.{Wrote, NoRoom}

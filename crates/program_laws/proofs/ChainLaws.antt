@@ -8,9 +8,9 @@ use Rattle.part.specs.Trusted.Ways.{least}
 use Rattle.part.specs.Trusted.Answers.{accepted, refused}
 use Rattle.part.specs.Trusted.Tries.{CallResult}
 use Rattle.part.specs.Trusted.Add.{opened}
-use Rattle.part.specs.OpenLaws.{opened_shaped}
+use Rattle.part.proofs.OpenLaws.{opened_shaped}
 use Rattle.demands.specs.Trusted.Calls.{Call, add, one_sheet, Chain, done, call}
-use Rattle.demands.specs.Theorems.{demand_2, demand_3}
+use Rattle.demands.proofs.Theorems.{demand_2, demand_3}
 use Rattle.part.specs.declared.Part.{Part}
 use Rattle.listing.specs.Trusted.Listing.{list_of}
 use Rattle.opening.specs.Trusted.Opening.{opening_numbers, count, opened_by}

@@ -10,15 +10,15 @@ use Rattle.part.specs.Trusted.Answers.{Answer, accepted, refused}
 use Rattle.part.specs.Trusted.Add.{Add}
 use Rattle.part.specs.Trusted.Tries.{CallResult}
 use Rattle.part.specs.Trusted.Sets.{InTurn, all, next, stop, turned_away, AddSet}
-use Rattle.part.specs.AddLaws.{not_refused}
+use Rattle.part.proofs.AddLaws.{not_refused}
 use Rattle.part.specs.declared.Part.{Part}
 use Rattle.demands.specs.Trusted.Calls.{add_set}
 use Rattle.demands.specs.Trusted.Demands.{AddedAll, none_added, one_added, AddCondition, SetCondition, part_bad, not_whole, of_sheet, SetTold}
-use Rattle.part.specs.SetLaws.{SetCase, unsound_part, unfit, in_turn, set_case}
-use Rattle.demands.specs.CallLaws.{call_stays}
+use Rattle.part.proofs.SetLaws.{SetCase, unsound_part, unfit, in_turn, set_case}
+use Rattle.demands.proofs.CallLaws.{call_stays}
 use Rattle.demands.specs.Determined.{Alike}
-use Rattle.demands.specs.DeterminedLaws.{alike_refl, alike_answer, add_answer, add_alike, add_shaped}
-use Rattle.demands.specs.ConditionLaws.{condition_answer, add_told}
+use Rattle.demands.proofs.DeterminedLaws.{alike_refl, alike_answer, add_answer, add_alike, add_shaped}
+use Rattle.demands.proofs.ConditionLaws.{condition_answer, add_told}
 
 -- a set that is turned down at a sheet: the condition that holds of it
 record Found (i : ℕ) (sheets : List (List ℕ)) (p : Part) (position number place : ℕ) : Type 0 where

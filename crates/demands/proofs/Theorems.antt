@@ -26,22 +26,22 @@ use Rattle.part.specs.declared.Adding.TheVariants.{Accepted, Full}
 use Rattle.part.specs.declared.SetAdded.{SetAdded}
 use Rattle.demands.specs.Trusted.Calls.{Call, add, add_set, reserve, commit, withdraw, one_sheet, Chain, done, call, final, accepted_in}
 use Rattle.demands.specs.Trusted.Demands.{Demand1, last_part, Demand2, Total, Demand3, StillOpen, Guaranteed}
-use Rattle.part.specs.OpenLaws.{opened_empty, opened_shaped, opened_sound}
-use Rattle.demands.specs.ConditionLaws.{opening_told, add_told, line_told, list_told}
-use Rattle.demands.specs.SetLaws.{set_told}
-use Rattle.demands.specs.CallLaws.{set_tries, call_line, call_kept, unsound_call, own_call, line_chain}
-use Rattle.part.specs.SetLaws.{set_case}
-use Rattle.demands.specs.ReserveLaws.{reserve_told, commit_told, withdraw_told, reservation_fits}
-use Rattle.demands.specs.CountLaws.{chain_kept, counted}
-use Rattle.demands.specs.ValueLaws.{sound_narrow, opened_served}
+use Rattle.part.proofs.OpenLaws.{opened_empty, opened_shaped, opened_sound}
+use Rattle.demands.proofs.ConditionLaws.{opening_told, add_told, line_told, list_told}
+use Rattle.demands.proofs.SetLaws.{set_told}
+use Rattle.demands.proofs.CallLaws.{set_tries, call_line, call_kept, unsound_call, own_call, line_chain}
+use Rattle.part.proofs.SetLaws.{set_case}
+use Rattle.demands.proofs.ReserveLaws.{reserve_told, commit_told, withdraw_told, reservation_fits}
+use Rattle.demands.proofs.CountLaws.{chain_kept, counted}
+use Rattle.demands.proofs.ValueLaws.{sound_narrow, opened_served}
 use Rattle.demands.specs.FreeLaws.{values_by_free_nets}
 use Rattle.list_reading.specs.Trusted.ReadList.{read_result}
 use Rattle.list_reading.specs.ListingLaws.{list_says_all, same_lines}
 use Rattle.list_reading.specs.ReadLaws.{list_read}
 use Rattle.list_reading.specs.ToldLaws.{reading_told}
 use Rattle.demands.specs.Determined.{AddsBy}
-use Rattle.demands.specs.DeterminedLaws.{alike_refl, seen, answers_determined}
-use Rattle.demands.specs.PossibleLaws.{chain_possible}
+use Rattle.demands.proofs.DeterminedLaws.{alike_refl, seen, answers_determined}
+use Rattle.demands.proofs.PossibleLaws.{chain_possible}
 
 -- ---- the demands
 

@@ -15,7 +15,7 @@ use Rattle.drawing.specs.Trusted.Written.{fields_text, line_text}
 use Rattle.drawing.specs.LineLaws.{line_written_lem, fields_written}
 use Rattle.drawing.proofs.OneText.{fields_text_lem, line_text_lem}
 use Rattle.fast_opening.specs.Trusted.FastOpening.{all_three, fast_numbers}
-use Rattle.fast_opening.specs.FastOpeningLaws.{three_numbers}
+use Rattle.fast_opening.proofs.FastOpeningLaws.{three_numbers}
 
 with_some : (o : Option Number) (p : Option (List Number)) {x : Number} {xs : List Number} → with o p ≡ some (x ∷ xs) → (o ≡ some x) × (p ≡ some xs)
 with_some none p e = no_some e

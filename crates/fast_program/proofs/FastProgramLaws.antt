@@ -8,8 +8,8 @@ use Rattle.part.specs.Trusted.Sound.{Sound}
 use Rattle.part.specs.Trusted.Ways.{fastest}
 use Rattle.part.specs.Trusted.Answers.{Answer, accepted, refused}
 use Rattle.part.specs.Trusted.Add.{opened}
-use Rattle.part.specs.OpenLaws.{opened_shaped, opened_sound, opened_empty}
-use Rattle.part.specs.AddLaws.{not_refused}
+use Rattle.part.proofs.OpenLaws.{opened_shaped, opened_sound, opened_empty}
+use Rattle.part.proofs.AddLaws.{not_refused}
 use Rattle.part.specs.declared.Part.{Part}
 use Rattle.opening.specs.Trusted.Opening.{count}
 use Rattle.opening.specs.Promises.{told}

@@ -1,0 +1,11 @@
+pub mod CallLaws
+pub mod ChainExample
+pub mod ConditionLaws
+pub mod CountLaws
+pub mod DeterminedLaws
+pub mod PossibleLaws
+pub mod ReserveLaws
+pub mod SetLaws
+pub mod Theorems
+pub mod TryLaws
+pub mod ValueLaws

@@ -1,0 +1,4 @@
+pub mod RunsByLaws
+pub mod FastExamples
+pub mod FastRunLaws
+pub mod SlackLineLaws

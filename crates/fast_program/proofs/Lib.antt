@@ -1,0 +1,3 @@
+pub mod FastFrontLaws
+pub mod FastProgramLaws
+pub mod FastRoomLaws

@@ -1,0 +1,4 @@
+pub mod ChainLaws
+pub mod DeterminedLaws
+pub mod Examples
+pub mod FrontLaws
