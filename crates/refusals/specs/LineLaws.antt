@@ -1,6 +1,7 @@
 -- The sentences of all refusals as the lines of one text: a test that computes says that each line is the sentence of its number.
-use Rattle.std.specs.Prelude.{ℕ, zero, suc, ◌-◌, ◌≤◌, ◌<◌, ◌≡◌, refl, Bool, true, false, cond, ◌&&◌, List, [], ◌∷◌, T, ltb, eqb, length, take}
-use Rattle.std.proofs.Common.{arith, sym, ap, ap₂, subst, ◌∙◌, ne_eqb}
+use Rattle.std.specs.Prelude.{ℕ, zero, suc, ◌+◌, ◌-◌, ◌≤◌, ◌<◌, ◌≡◌, ◌==◌, refl, Bool, true, false, cond, ◌&&◌, List, [], ◌∷◌, T, ltb, eqb, length, get_or, take, drop}
+use Rattle.std.proofs.Common.{add-one, arith, sym, ap, ap₂, subst, ◌∙◌, drop-cons, eq-eqb, ne_eqb}
+use Rattle.std.proofs.Math.Seq.{take-length}
 use Rattle.std.specs.List.{position_or_len}
 use Rattle.lists.specs.Cases.{by_eqb, by_leb, and_split}
 use Rattle.lists.specs.TestLaws.{reflects_eq, reflects_lt}
@@ -12,6 +13,20 @@ use Rattle.refusals.specs.Lines.{after_lines, text_line}
 pub after_none : (bs : List ℕ) → after_lines 0 bs ≡ bs
 after_none [] = refl
 after_none (b ∷ bs) = refl
+
+pub after_feed : (bs : List ℕ) (n i : ℕ) → i < length bs → (n ≡ 0 → ⊥) → get_or bs i 0 ≡ 10 → after_lines n (drop i bs) ≡ after_lines (n - 1) (drop (i + 1) bs)
+after_feed bs n i h z e = ap (after_lines n) (drop-cons bs i 0 h) ∙ rw (add-one i, ne_eqb n 0 z, eq-eqb (get_or bs i 0) 10 e)
+
+pub after_other : (bs : List ℕ) (n i : ℕ) → i < length bs → (n ≡ 0 → ⊥) → (get_or bs i 0 ≡ 10 → ⊥) → after_lines n (drop i bs) ≡ after_lines n (drop (i + 1) bs)
+after_other bs n i h z e = ap (after_lines n) (drop-cons bs i 0 h) ∙ rw (add-one i, ne_eqb n 0 z, ne_eqb (get_or bs i 0) 10 e)
+
+-- from a line's start to the first line feed from there on
+pub line_part : (text : List ℕ) (n start end : ℕ) → drop start text ≡ after_lines n text → end ≡ start + position_or_len (λ b. b == 10) (drop start (take (length text) text)) →
+    take (end - start) (drop start text) ≡ text_line n text
+line_part text n start end e f =
+    let whole = ap (λ t. position_or_len (λ b. b == 10) (drop start t)) (take-length text) in
+    let count : end - start ≡ position_or_len (λ b. b == 10) (drop start text) = omega (arith, f, whole) in
+    ap (λ k. take k (drop start text)) count ∙ ap (λ bs. take (position_or_len (λ b. b == 10) bs) bs) e
 
 -- ---- the lines against the sentences
 

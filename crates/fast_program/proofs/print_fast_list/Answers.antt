@@ -34,7 +34,7 @@ written : (c : After-print_list) → let a = c.args in let n = c.in-Wrote.n in
     × WrittenAs (fast_list a.wanted a.part) (Wrote (19 + c.lines_width-width.result + n)) c.print_list.new.output a.output.now
 written c =
     let a = c.args in
-    written_behind a.output.now (list_of a.part) (slack_lines a.wanted a.part) (19 + c.lines_width-width.result) (width_is (PLACE After-lines_width-width))
+    written_behind a.output.now (list_of a.part) (slack_lines a.wanted a.part) (19 + c.lines_width-width.result) (list_width c.args.part c.lines_width-width.result c.lines_width-width.ensures.0)
     c.print_slacks-slacks.new.output c.print_list.new.output c.print_slacks-slacks.result c.print_list.result c.in-Wrote.is c.print_slacks-slacks.ensures c.print_list.ensures
 
 pub overflow_add-result : goal.overflow_add-result

@@ -32,4 +32,4 @@ returns c =
     let tables = c.put_records in
     let l : length (part_numbers p) ≤ length old = omega (arith, count (goal.at.returns c).Start, c.if-numbers-p.false) in
     handed_room p old l
-    (paste_next old top.new.0 tables.new.0 0 3 (p.k ∷ p.capacity ∷ p.used ∷ []) (gather record_numbers (in_use p)) top.ensures refl (omega (arith, l)) tables.ensures)
+    (paste_next old top.new.numbers tables.new.numbers 0 3 (p.k ∷ p.capacity ∷ p.used ∷ []) (gather record_numbers (in_use p)) top.ensures refl (omega (arith, l)) tables.ensures)

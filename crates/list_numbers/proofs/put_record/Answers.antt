@@ -28,15 +28,15 @@ returns c =
     let a = c.args in
     let r = a.r in
     let old = a.numbers.now in
-    let l = inputs_fill r s.good.1.1.0.1.1.1.1.0.1.0.1 in
+    let l = inputs_fill r (search rules) in
     let b = c.put_number in
     let d = c.put_number-2 in
     let e = c.put_inputs in
     let f = c.put_number-3 in
-    paste_next old e.new.0 f.new.0 a.at (a.at + 8) (r.net ∷ r.count ∷ r.inputs) (r.truth ∷ r.level ∷ [])
-    (paste_next old d.new.0 e.new.0 a.at (a.at + 2) (r.net ∷ r.count ∷ []) r.inputs
-    (paste_next old b.new.0 d.new.0 a.at (a.at + 1) (r.net ∷ []) (r.count ∷ []) b.ensures refl (omega (arith, c.requires)) d.ensures)
+    paste_next old e.new.numbers f.new.numbers a.at (a.at + 8) (r.net ∷ r.count ∷ r.inputs) (r.truth ∷ r.level ∷ [])
+    (paste_next old d.new.numbers e.new.numbers a.at (a.at + 2) (r.net ∷ r.count ∷ []) r.inputs
+    (paste_next old b.new.numbers d.new.numbers a.at (a.at + 1) (r.net ∷ []) (r.count ∷ []) b.ensures refl (omega (arith, c.requires)) d.ensures)
     refl (omega (arith, c.requires, l)) e.ensures)
     (omega (arith, l)) (omega (arith, c.requires, l))
-    (paste_next e.new.0 (set e.new.0 (a.at + 8) r.truth) f.new.0 (a.at + 8) (a.at + 9) (r.truth ∷ []) (r.level ∷ [])
-    (paste_one e.new.0 (a.at + 8) r.truth (omega (arith, room (goal.at.returns c).After-slice_known-4-1))) (omega arith) (omega (arith, room (goal.at.returns c).After-slice_known-4-1)) f.ensures)
+    (paste_next e.new.numbers (set e.new.numbers (a.at + 8) r.truth) f.new.numbers (a.at + 8) (a.at + 9) (r.truth ∷ []) (r.level ∷ [])
+    (paste_one e.new.numbers (a.at + 8) r.truth (omega (arith, room (goal.at.returns c).After-slice_known-4-1))) (omega arith) (omega (arith, room (goal.at.returns c).After-slice_known-4-1)) f.ensures)

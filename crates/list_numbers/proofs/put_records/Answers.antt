@@ -54,8 +54,8 @@ loop-t-preserved c =
     let m = tables_numbers p f (l.t + 1) (omega (arith, c.requires)) in (
       omega arith,
       f,
-      w.auto.0 ∙ l.invariant.2,
-      paste_next a.numbers.now l.numbers w.new.0 a.at (a.at + 10 * l.t) before (record_numbers r) l.invariant.3 (omega (arith, n))
+      w.auto.numbers ∙ l.invariant.2,
+      paste_next a.numbers.now l.numbers w.new.numbers a.at (a.at + 10 * l.t) before (record_numbers r) l.invariant.3 (omega (arith, n))
           (omega (arith, c.requires, n, m, ap length next, length-append before (record_numbers r)))
           (w.ensures ∙ ap (λ q. pasted l.numbers (a.at + 10 * l.t) (record_numbers q)) (get_d_any p.tables l.t past blank in_tables))
           ∙ ap (pasted a.numbers.now a.at) (sym next),

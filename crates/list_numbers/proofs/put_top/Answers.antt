@@ -12,6 +12,6 @@ returns c =
     let b = c.put_number in
     let d = c.put_number-2 in
     let e = c.put_number-3 in
-    paste_next old d.new.0 e.new.0 0 2 (a.k ∷ a.capacity ∷ []) (a.used ∷ [])
-    (paste_next old b.new.0 d.new.0 0 1 (a.k ∷ []) (a.capacity ∷ []) b.ensures refl (omega (arith, c.requires)) d.ensures)
+    paste_next old d.new.numbers e.new.numbers 0 2 (a.k ∷ a.capacity ∷ []) (a.used ∷ [])
+    (paste_next old b.new.numbers d.new.numbers 0 1 (a.k ∷ []) (a.capacity ∷ []) b.ensures refl (omega (arith, c.requires)) d.ensures)
     refl (omega (arith, c.requires)) e.ensures
