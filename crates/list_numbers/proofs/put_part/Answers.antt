@@ -16,7 +16,7 @@ use Rattle.list_numbers.proofs.put_part.Goals.{Start}
 -- how many numbers the part has
 count : (s : Start) → length (part_numbers s.args.p) ≡ 3 + 10 * s.args.p.used
 count s =
-    let t = c.well_formed.0.1.1.1.1.1.1.0 in
+    let t = s.well_formed.0.1.1.1.1.1.1.0 in
     part_numbers_lem s.args.p (shaped s.args.p t.0 t.1.0.1 t.1.1) s.requires
 
 pub returns-then-numbers-p : goal.returns-then-numbers-p

@@ -46,6 +46,6 @@ pub returns : goal.returns
 returns c =
     let a = c.args in
     let p = c.put_outcome in
-    let after = after_call (added (goal.at.returns c).After-add_set-added) c.tell_set-told.result c.tell_set-told.ensures a.output.now p.result p.new.1.1.0 p.ensures in
+    let after = after_call (added (goal.at.returns c).After-add_set-added) c.tell_set-told.result c.tell_set-told.ensures a.output.now p.result p.new.output p.ensures in
     list_passed (reservation (goal.at.returns c).After-read_reserved-read) c.read_reserved-read.result.part _ (Gives (goal.at.returns c).After-read_reserved-read) (read_list a.list.now) c.read_reserved-read.ensures a.output.now (code_zero (goal.at.returns c).Else-code-ne0)
-    (added (goal.at.returns c).After-add_set-added) c.add_set-added.ensures.1 p.result p.new.1.1.0 after
+    (added (goal.at.returns c).After-add_set-added) c.add_set-added.ensures.1 p.result p.new.output after

@@ -37,13 +37,13 @@ loop-t-preserved c =
       then-net-ne0 w ↦ (
         omega arith,
         l.invariant.1,
-        w.count-is ∙ ap (λ m. m + 1) l.invariant.2 ∙ sym (one_driver p.tables l.t past h w.if-net-ne0.true),
+        w.n-is ∙ ap (λ m. m + 1) l.invariant.2 ∙ sym (one_driver p.tables l.t past h w.if-net-ne0.true),
         omega arith,
       )
     | else-net-ne0 w ↦ (
         omega arith,
         l.invariant.1,
-        w.count-is ∙ l.invariant.2 ∙ sym (no_driver p.tables l.t past h w.if-net-ne0.false),
+        w.n-is ∙ l.invariant.2 ∙ sym (no_driver p.tables l.t past h w.if-net-ne0.false),
         omega arith,
       )
     ]
