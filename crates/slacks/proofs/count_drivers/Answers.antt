@@ -34,13 +34,13 @@ loop-t-preserved c =
     let l = c.loop-t in
     let h : l.t < length p.tables = omega (arith, c.requires, l.invariant.1) in
     elim c.if-net-ne0.branch [
-      then-net-ne0 w ↦ (
+      | then-net-ne0 w ↦ (
         omega arith,
         l.invariant.1,
         w.n-is ∙ ap (λ m. m + 1) l.invariant.2 ∙ sym (one_driver p.tables l.t past h w.if-net-ne0.true),
         omega arith,
       )
-    | else-net-ne0 w ↦ (
+      | else-net-ne0 w ↦ (
         omega arith,
         l.invariant.1,
         w.n-is ∙ l.invariant.2 ∙ sym (no_driver p.tables l.t past h w.if-net-ne0.false),
