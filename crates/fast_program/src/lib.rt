@@ -15,7 +15,7 @@ use part::Part;
 use printing::Printed;
 
 // The most bytes that are printed: the longest list, and a line of 13 bytes for each of 800 tables (`fast_longest` in specs/FastLongest,
-// `fast_prints_short` in specs/FastRoomLaws).
+// `fast_prints_short` in proofs/FastRoomLaws).
 pub const LONGEST_FAST: usize = 71219;
 
 // The bytes of a list's line 0.

@@ -9,7 +9,7 @@ ghost use Rattle.program_laws.specs.Front.{front_bytes};
 use program::LONGEST;
 use std::io::Read;
 
-// So many bytes of an input decide what is printed for it: `front_decides` in program_laws/specs/FrontLaws. No more are read.
+// So many bytes of an input decide what is printed for it: `front_decides` in program_laws/proofs/FrontLaws. No more are read.
 const ROOM: usize = 131072;
 
 // How many bytes were read, and whether a read failed.

@@ -9,7 +9,7 @@ ghost use Rattle.program_laws.specs.Front.{front_bytes};
 use fast_program::LONGEST_FAST;
 use std::io::Read;
 
-// So many bytes of an input decide what is printed for it: `fast_front_decides` in fast_program/specs/FastFrontLaws. No more are read.
+// So many bytes of an input decide what is printed for it: `fast_front_decides` in fast_program/proofs/FastFrontLaws. No more are read.
 const ROOM: usize = 131072;
 
 // How many bytes were read, and whether a read failed.

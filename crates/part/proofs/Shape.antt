@@ -1,8 +1,8 @@
 -- Every part that a function is handed has 800 records of six inputs each: its type says so.
 -- A function's proof has it, with p for its parameter: let t = c.well_formed.0.1.1.1.1.1.1.0 in shaped p t.0 t.1.0.1 t.1.1
-use mathlib.Core.Path.{◌≡◌, sym, ◌∙◌}
-use mathlib.Core.List.{List, [], ◌∷◌, map}
-use lib.ListN.{length, length-map}
+use mathlib.Core.Path.{◌≡◌}
+use mathlib.Core.List.{List, [], ◌∷◌}
+use lib.ListN.{length}
 use mir.Val.{Val}
 use denote.Array.{each}
 use denote.Shadow.{shadow}

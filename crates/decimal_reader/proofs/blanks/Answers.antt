@@ -1,8 +1,6 @@
-use Prim.Native.Nat.{◌-◌, ◌≤◌}
 use native.Mathlib.Omega.{arith}
-use mathlib.Core.Path.{◌≡◌, refl, ◌∙◌}
-use lib.ListN.{length, drop, drop_of_length-le}
-use Rattle.decimal.specs.Trusted.Number.{number}
+use mathlib.Core.Path.{refl, ◌∙◌}
+use lib.ListN.{drop_of_length-le}
 use Rattle.decimal_reader.proofs.NumberLaws.{number_blank, number_other}
 use Rattle.decimal_reader.proofs.blanks.Goals as goal
 

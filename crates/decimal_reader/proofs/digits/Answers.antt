@@ -1,8 +1,8 @@
-use Prim.Native.Nat.{suc, ◌+◌, ◌-◌, ◌^◌, ◌≤◌, ◌<◌}
+use Prim.Native.Nat.{suc, ◌+◌, ◌-◌, ◌^◌, ◌<◌}
 use native.Mathlib.Nat.{one-le-pow}
 use native.Mathlib.Omega.{arith}
 use mathlib.Core.Path.{◌≡◌, refl, sym, ap, ◌∙◌}
-use lib.ListN.{length, get_or, drop, drop_of_length-le}
+use lib.ListN.{get_or, drop_of_length-le}
 use Rattle.decimal.specs.Trusted.Number.{digits}
 use Rattle.decimal.specs.NumberLaws.{digit_fits}
 use Rattle.decimal.specs.Trusted.Reading.{parsed}

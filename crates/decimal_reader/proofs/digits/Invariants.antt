@@ -1,12 +1,7 @@
-use Prim.Native.Nat.{suc, ◌+◌, ◌-◌, ◌^◌, ◌≤◌, ◌<◌}
-use native.Mathlib.Nat.{one-le-pow}
-use native.Mathlib.Omega.{arith}
-use mathlib.Core.Path.{◌≡◌, refl, sym, ap, ◌∙◌}
-use lib.ListN.{length, get_or, drop, drop_of_length-le}
+use Prim.Native.Nat.{◌-◌, ◌^◌, ◌≤◌, ◌<◌}
+use mathlib.Core.Path.{◌≡◌}
+use lib.ListN.{length, drop}
 use Rattle.decimal.specs.Trusted.Number.{digits}
-use Rattle.decimal.specs.NumberLaws.{digit_fits}
-use Rattle.decimal.specs.Trusted.Reading.{parsed}
-use Rattle.decimal_reader.proofs.NumberLaws.{digits_more, digits_low, digits_high, below_short}
 use Rattle.decimal_reader.proofs.digits.Given as goal
 
 abbrev pub invariant-loop-i : goal.invariant-loop-i

@@ -1,6 +1,5 @@
 use native.Mathlib.Omega.{arith}
 use mathlib.Core.Path.{sym, ap, ◌∙◌}
-use borrow.Author.Rules.{rules}
 use Rattle.decimal.specs.Trusted.Number.{in_word}
 use Rattle.decimal.specs.Trusted.Reading.{parsed}
 use Rattle.decimal_reader.proofs.NumberLaws.{natural_zero, natural_first}

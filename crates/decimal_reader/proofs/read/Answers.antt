@@ -1,7 +1,6 @@
 use mathlib.Core.Path.{sym, ap, ◌∙◌}
 use Rattle.decimal.specs.Trusted.Reading.{field_answer}
 use Rattle.decimal_reader.proofs.NumberLaws.{field_signed, field_other}
-use borrow.Author.Rules.{rules}
 use Rattle.decimal_reader.proofs.read.Goals as goal
 
 pub returns-then-s-ne-COLUMNS : goal.returns-then-s-ne-COLUMNS

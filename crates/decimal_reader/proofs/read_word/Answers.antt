@@ -1,6 +1,5 @@
 use native.Mathlib.Omega.{arith}
 use mathlib.Core.Path.{◌≡◌, sym, ap, ◌∙◌}
-use borrow.Author.Rules.{rules}
 use lib.ListN.{drop}
 use Rattle.decimal.specs.Trusted.Number.{natural, in_word, upright, word_number}
 use Rattle.decimal.specs.Trusted.Reading.{parsed}

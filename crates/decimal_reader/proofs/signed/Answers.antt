@@ -14,7 +14,6 @@ use Rattle.decimal.specs.declared.Field.TheVariants.{Value}
 use Rattle.decimal.specs.ReadingLaws.{parsed_some, parsed_none}
 use Rattle.decimal_reader.proofs.NumberLaws.{signed_none, signed_minus, signed_plain, negated_zero, natural_fits}
 use Rattle.decimal.proofs.SignLaws.{minus_bits, negated_fits}
-use borrow.Author.Rules.{rules}
 use Rattle.decimal_reader.proofs.signed.Goals as goal
 use Rattle.decimal_reader.proofs.signed.Goals.{After-natural, After-natural-else-s-at-eq45, In-Natural, In-Natural-natural}
 

@@ -1,5 +1,4 @@
 use borrow.Author.Tests.{ne_eqb}
-use borrow.Author.Rules.{rules}
 use Rattle.decimal_writer.proofs.digit.Goals as goal
 
 pub returns-then-last : goal.returns-then-last

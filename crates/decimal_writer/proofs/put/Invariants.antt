@@ -1,12 +1,7 @@
-use Prim.Native.Nat.{suc, ◌-◌, ◌/◌, ◌^◌, ◌≤◌}
-use native.Mathlib.Nat.{div-one}
-use native.Mathlib.Omega.{arith}
-use mathlib.Core.Path.{◌≡◌, refl, sym, ap, ◌∙◌}
-use lib.ListN.{length, drop, length-set}
-use lib.Seq.{drop-length}
+use Prim.Native.Nat.{◌-◌, ◌/◌, ◌^◌, ◌≤◌}
+use mathlib.Core.Path.{◌≡◌}
+use lib.ListN.{length, drop}
 use Rattle.decimal.specs.Trusted.Columns.{field_of}
-use Rattle.decimal.specs.ColumnLaws.{div_more}
-use Rattle.decimal_writer.proofs.WriteLaws.{column_more}
 use Rattle.decimal_writer.proofs.put.Given as goal
 
 abbrev pub invariant-loop-i : goal.invariant-loop-i

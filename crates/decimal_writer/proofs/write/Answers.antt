@@ -4,7 +4,6 @@ use Rattle.decimal.specs.Trusted.Columns.{field_of}
 use Rattle.decimal.specs.Trusted.Writing.{write_if}
 use Rattle.decimal.specs.declared.Written.TheVariants.{Done}
 use Rattle.decimal_writer.proofs.WriteLaws.{has_room, no_room}
-use borrow.Author.Rules.{rules}
 use Rattle.decimal_writer.proofs.write.Goals as goal
 
 pub returns-then-dst-digit_count : goal.returns-then-dst-digit_count

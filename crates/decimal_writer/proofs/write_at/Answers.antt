@@ -1,7 +1,6 @@
 use native.Mathlib.Omega.{arith}
 use Rattle.decimal.specs.Trusted.Columns.{room, field_of}
 use Rattle.decimal_writer.proofs.PlaceLaws.{place_within, place_past}
-use borrow.Author.Rules.{rules}
 use Rattle.decimal_writer.proofs.write_at.Goals as goal
 
 pub returns-then-buf-at : goal.returns-then-buf-at

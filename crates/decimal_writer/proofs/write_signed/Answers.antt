@@ -2,14 +2,12 @@ use Prim.Native.Nat.{◌-◌}
 use mathlib.Core.Path.{◌≡◌, sym, ap, ap₂, ◌∙◌}
 use lib.ListN.{length, set}
 use mir.Facts.{to_z-of_z}
-use borrow.Author.Tests.{not-true, not-false}
 use Rattle.decimal.specs.Trusted.Columns.{field_of}
 use Rattle.decimal.specs.ColumnLaws.{field_length}
 use Rattle.decimal.specs.Trusted.Reading.{number_of_int}
 use Rattle.decimal.specs.Trusted.Writing.{signed_written}
 use Rattle.decimal.specs.declared.Written.TheVariants.{Done}
 use Rattle.decimal_writer.proofs.WriteLaws.{plain_written, minus_written, minus_wide}
-use borrow.Author.Rules.{rules}
 use Rattle.decimal_writer.proofs.write_signed.Goals as goal
 use Rattle.decimal_writer.proofs.write_signed.Goals.{After-negative}
 

@@ -7,7 +7,6 @@ use Rattle.decimal.specs.Trusted.Columns.{signed_room, signed_field_of}
 use Rattle.decimal.specs.Trusted.Reading.{number_of_int}
 use Rattle.decimal.specs.Trusted.Writing.{signed_written}
 use Rattle.decimal_writer.proofs.PlaceLaws.{place_within, place_past}
-use borrow.Author.Rules.{rules}
 use Rattle.decimal_writer.proofs.write_signed_at.Goals as goal
 
 pub returns-then-buf-at : goal.returns-then-buf-at

@@ -2,7 +2,7 @@
 -- is printed of the last part are parameters, as those of SheetsPrint in sheets.
 -- Definitions only: the laws are in RunsByLaws.
 use Rattle.std.specs.Prelude.{ℕ, ◌<◌, ◌≡◌, List, [], ◌∷◌, length, take}
-use Rattle.std.proofs.Math.Option.{Option, none, some}
+use Rattle.std.proofs.Math.Option.{none, some}
 use Rattle.sheet.specs.Trusted.Cut.{sheet_text}
 use Rattle.part.specs.Trusted.Ways.{Way}
 use Rattle.part.specs.Trusted.Answers.{accepted, refused}

@@ -2,7 +2,6 @@ use mathlib.Core.Path.{◌≡◌, sym, ap, ◌∙◌}
 use mathlib.Core.Bool.{cond}
 use mir.Facts.{to_z-of_z}
 use Rattle.decimal.specs.Trusted.Reading.{number_of_int}
-use borrow.Author.Rules.{rules}
 use Rattle.fast_opening.proofs.count.Goals as goal
 use Rattle.fast_opening.proofs.count.Goals.{After-magnitude, After-negative}
 

@@ -6,7 +6,6 @@ use Rattle.part.specs.Trusted.Answers.{accepted, Result}
 use Rattle.part.specs.Trusted.Add.{opened}
 use Rattle.part.specs.Trusted.OpenAnswers.{opening_answer}
 use Rattle.fast_opening.specs.Trusted.FastOpening.{wanted_after}
-use borrow.Author.Rules.{rules}
 use Rattle.fast_opening.proofs.open.Goals as goal
 use Rattle.fast_opening.proofs.open.Goals.{After-open-o}
 

@@ -5,7 +5,6 @@ use Rattle.decimal.specs.Trusted.Number.{columns}
 use Rattle.decimal.specs.ReadingLaws.{read_none, read_held}
 use Rattle.fast_opening.specs.Trusted.FastOpening.{fast_opened_by}
 use Rattle.fast_opening.proofs.FastOpeningLaws.{not_ended, no_k, no_capacity, no_wanted, three_numbers, opened_fast}
-use borrow.Author.Rules.{rules}
 use Rattle.fast_opening.proofs.read_fast_opening.Goals as goal
 
 pub returns-then-input-lt-FAST_OPENING : goal.returns-then-input-lt-FAST_OPENING

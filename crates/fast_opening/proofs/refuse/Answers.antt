@@ -3,7 +3,6 @@ use mathlib.Core.Path.{ap₂}
 use mathlib.Core.Bool.{cond}
 use borrow.Author.Tests.{ne_eqb}
 use Rattle.part.specs.Trusted.Answers.{accepted, refused}
-use borrow.Author.Rules.{rules}
 use Rattle.fast_opening.proofs.refuse.Goals as goal
 
 pub returns : goal.returns

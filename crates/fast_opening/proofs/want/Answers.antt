@@ -4,7 +4,6 @@ use mir.Facts.{to_z-of_z}
 use Rattle.decimal.specs.Trusted.Reading.{number_of_int}
 use Rattle.part.specs.Trusted.Answers.{accepted}
 use Rattle.fast_opening.proofs.FastOpeningLaws.{below_zero_34, too_high_34, in_range}
-use borrow.Author.Rules.{rules}
 use Rattle.fast_opening.proofs.want.Goals as goal
 use Rattle.fast_opening.proofs.want.Goals.{After-magnitude-wanted, After-negative}
 

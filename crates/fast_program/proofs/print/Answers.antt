@@ -4,7 +4,6 @@ use lib.ListN.{length}
 use Rattle.listing.specs.Lines.{longest}
 use Rattle.fast_program.specs.FastLongest.{fast_longest}
 use Rattle.fast_program.proofs.FastRoomLaws.{fast_wrote_front, fast_never_short}
-use borrow.Author.Rules.{rules}
 use Rattle.fast_program.proofs.print.Goals as goal
 use Rattle.fast_program.proofs.print.Goals.{After-run}
 

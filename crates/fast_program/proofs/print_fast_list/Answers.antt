@@ -11,7 +11,6 @@ use Rattle.printing.specs.Promises.{WrittenAs}
 use Rattle.printing.specs.declared.Printed.TheVariants.{Wrote}
 use Rattle.fast_program.specs.Trusted.FastProgram.{fast_list}
 use Rattle.fast_program.specs.FastListLaws.{list_width, written_behind, unwritten_behind}
-use borrow.Author.Rules.{rules}
 use Rattle.fast_program.proofs.print_fast_list.Goals as goal
 use Rattle.fast_program.proofs.print_fast_list.Goals.{After-lines_width-width, After-print_list}
 

@@ -7,7 +7,6 @@ use Rattle.sheets.specs.Trusted.Sheets.{SheetsPrint}
 use Rattle.sheets.specs.SheetsLaws.{refused_line, accepted_list}
 use Rattle.fast_program.specs.Trusted.FastProgram.{fast_list, FastPrints}
 use Rattle.fast_program.proofs.FastProgramLaws.{fast_refused, fast_accepted, fast_opened}
-use borrow.Author.Rules.{rules}
 use Rattle.fast_program.proofs.run.Goals as goal
 use Rattle.fast_program.proofs.run.Goals.{After-add_sheets_fast-end}
 

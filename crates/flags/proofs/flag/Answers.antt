@@ -1,6 +1,5 @@
 use Prim.Native.Nat.{◌/◌, ◌%◌}
 use mathlib.Core.Path.{sym, ap, ◌∙◌}
-use borrow.Author.Rules.{rules}
 use lib.ListN.{get_or, get_or-eq_default}
 use Rattle.cover.specs.Trusted.Bits.{bit}
 use Rattle.cover.specs.BitLaws.{bit_shift, bit_zero}

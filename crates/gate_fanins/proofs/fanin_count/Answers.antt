@@ -1,6 +1,5 @@
 use native.Mathlib.Omega.{arith}
 use lib.ListN.{drop, length-take, length-drop}
-use borrow.Author.Rules.{rules}
 use Rattle.gate_fanins.proofs.fanin_count.Goals as goal
 
 pub returns-then-first-gt-FANIN_ROOM : goal.returns-then-first-gt-FANIN_ROOM

@@ -6,7 +6,6 @@ use Rattle.sheet.specs.Trusted.Limits.{most_gates}
 use Rattle.sheet.specs.Trusted.Sheet.{gate_of}
 use Rattle.gate_fanins.specs.Fanins.{place_in}
 use Rattle.lists.specs.ListLaws.{every_head}
-use borrow.Author.Rules.{rules}
 use Rattle.gate_fanins.proofs.place_of.Goals as goal
 use Rattle.gate_fanins.proofs.place_of.Goals.{In-Gate}
 

@@ -4,7 +4,6 @@ use Rattle.sheet.specs.Trusted.Formed.{WellFormed}
 use Rattle.joined.proofs.SheetLaws.{joined_formed}
 use Rattle.joiner_laws.specs.NoneJoinedLaws.{none_joined_lem}
 use Rattle.joined_mapper.specs.CoverLaws.{covers_joined}
-use borrow.Author.Rules.{rules}
 use Rattle.joined_mapper.proofs.map_joined.Goals as goal
 
 pub returns-then-none_joined : goal.returns-then-none_joined

@@ -2,7 +2,6 @@ use Prim.Native.Nat.{◌+◌, ◌≤◌, ◌<◌, min}
 use native.Mathlib.Omega.{arith}
 use borrow.Author.Tests.{le-leb, lt-leb}
 use Rattle.plan.specs.Key.{cuts}
-use borrow.Author.Rules.{rules}
 use Rattle.keys.proofs.cuts_of.Goals as goal
 
 pub returns-then-a-b : goal.returns-then-a-b

@@ -1,6 +1,5 @@
 use native.Mathlib.Omega.{arith}
 use Rattle.plan.specs.KeyLaws.{is_pack}
-use borrow.Author.Rules.{rules}
 use Rattle.keys.proofs.join.Goals as goal
 
 pub returns-then-width-k : goal.returns-then-width-k

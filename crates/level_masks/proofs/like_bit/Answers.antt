@@ -1,7 +1,5 @@
-use Prim.Native.Nat.{◌-◌, ◌^◌, ◌≤◌}
+use Prim.Native.Nat.{◌-◌}
 use native.Mathlib.Omega.{arith}
-use mathlib.Core.Path.{◌≡◌}
-use borrow.Author.Rules.{rules}
 use Rattle.level_masks.proofs.Likes.{half_bit, nets_alike}
 use Rattle.level_masks.proofs.like_bit.Goals as goal
 

@@ -1,8 +1,5 @@
-use Prim.Native.Nat.{◌-◌, ◌^◌, ◌≤◌}
-use native.Mathlib.Omega.{arith}
+use Prim.Native.Nat.{◌^◌, ◌≤◌}
 use mathlib.Core.Path.{◌≡◌}
-use borrow.Author.Rules.{rules}
-use Rattle.level_masks.proofs.Likes.{half_bit, nets_alike}
 use Rattle.level_masks.proofs.like_bit.Given as goal
 
 abbrev pub invariant-loop-j : goal.invariant-loop-j

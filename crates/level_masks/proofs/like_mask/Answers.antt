@@ -1,7 +1,6 @@
 use native.Mathlib.Omega.{arith}
 use mathlib.Core.Path.{refl}
 use mathlib.Core.Logic.{inl, inr}
-use borrow.Author.Rules.{rules}
 use Rattle.level_masks.proofs.like_mask.Goals as goal
 
 pub returns-then-m-r : goal.returns-then-m-r

@@ -1,13 +1,8 @@
-use Prim.Native.Nat.{◌+◌, ◌-◌, ◌^◌, ◌≤◌, ◌<◌}
-use native.Mathlib.Omega.{arith}
-use native.Mathlib.Numerals.{add-one}
-use mathlib.Core.Path.{◌≡◌, refl, ◌∙◌}
-use borrow.Author.Rules.{rules}
+use Prim.Native.Nat.{◌-◌, ◌^◌, ◌≤◌}
+use mathlib.Core.Path.{◌≡◌}
 use lib.ListN.{length}
-use lib.Pow.{pow_mono}
 use Rattle.plan.specs.Limits.{masks}
 use Rattle.level_arrays.specs.Alike.{fan_labels, LikeMasks}
-use Rattle.level_masks.proofs.Likes.{likes_next}
 use Rattle.level_masks.proofs.like_masks.Given as goal
 
 abbrev pub invariant-loop-h : goal.invariant-loop-h

@@ -1,8 +1,5 @@
-use Prim.Native.Nat.{◌-◌, ◌≤◌}
 use native.Mathlib.Omega.{arith}
 use mathlib.Core.Path.{◌≡◌}
-use borrow.Author.Rules.{rules}
-use Rattle.level_masks.specs.Like.{LikesPut}
 use Rattle.level_masks.proofs.Likes.{likes_none, likes_more}
 use Rattle.level_masks.proofs.put_masks.Goals as goal
 

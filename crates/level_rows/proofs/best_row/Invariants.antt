@@ -1,14 +1,9 @@
 use Prim.Native.Nat.{ℕ, ◌≤◌}
-use native.Mathlib.Omega.{arith}
-use borrow.Author.Rules.{rules}
-use lib.Bits.{and_self}
 use lib.ListN.{get_or}
 use Rattle.cover.specs.Trusted.Cover.{pick}
 use Rattle.plan.specs.Masks.{MaskWithin}
-use Rattle.plan.specs.MaskLaws.{within_le, next_within, next_less}
 use Rattle.level_arrays.specs.Arrays.{big}
-use Rattle.level_rows.specs.Rows.{even_row}
-use Rattle.level_rows.proofs.Lowering.{CellTried, cell_first, cell_next, cell_last, own_most}
+use Rattle.level_rows.proofs.Lowering.{CellTried}
 use Rattle.level_rows.proofs.best_row.Given as goal
 
 abbrev pub invariant-loop-u : goal.invariant-loop-u

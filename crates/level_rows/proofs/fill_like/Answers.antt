@@ -1,11 +1,10 @@
-use Prim.Native.Nat.{◌+◌, ◌-◌, ◌*◌, ◌^◌, ◌<◌}
+use Prim.Native.Nat.{◌+◌, ◌-◌, ◌^◌, ◌<◌}
 use native.Mathlib.Omega.{arith}
 use mathlib.Core.Path.{◌≡◌, ap, ◌∙◌}
-use lib.ListN.{get_or}
 use Rattle.lists.specs.ListLaws.{get_d_any}
 use Rattle.plan.specs.Limits.{masks}
 use Rattle.level_arrays.specs.Arrays.{big}
-use Rattle.level_rows.proofs.ArrayFilling.{ArrayFilling, array_first, array_place_one, array_one, array_place_more, array_more, array_like}
+use Rattle.level_rows.proofs.ArrayFilling.{array_first, array_place_one, array_one, array_place_more, array_more, array_like}
 use Rattle.level_rows.proofs.fill_like.Goals as goal
 use Rattle.level_rows.proofs.fill_like.Goals.{Else-h-n, Else-s-next}
 

@@ -1,12 +1,5 @@
-use Prim.Native.Nat.{◌+◌, ◌-◌, ◌≤◌}
-use native.Mathlib.Omega.{arith}
-use mathlib.Core.Path.{◌≡◌}
-use mathlib.Core.Logic.{inl, inr, ⊎_elim}
-use borrow.Author.Rules.{rules}
-use Rattle.lists.specs.ListLaws.{get_d_any}
-use Rattle.level_arrays.specs.Arrays.{big}
+use Prim.Native.Nat.{◌-◌, ◌≤◌}
 use Rattle.level_rows.specs.Sums.{LeastSum}
-use Rattle.level_rows.proofs.Lowering.{least_none, least_more}
 use Rattle.level_rows.proofs.least_sum.Given as goal
 
 abbrev pub invariant-loop-i : goal.invariant-loop-i

@@ -1,12 +1,10 @@
-use Prim.Native.Nat.{◌+◌, ◌-◌, ◌*◌, ◌≤◌}
+use Prim.Native.Nat.{◌+◌, ◌*◌}
 use native.Mathlib.Omega.{arith}
 use mathlib.Core.Path.{◌≡◌}
 use native.Mathlib.Nat.{zero-add}
-use mathlib.Core.Logic.{⊎_elim}
-use borrow.Author.Rules.{rules}
 use Rattle.lists.specs.ListLaws.{get_d_any}
 use Rattle.level_arrays.specs.Arrays.{big, own_above}
-use Rattle.level_rows.specs.Runs.{RunWritten, run_none, run_more}
+use Rattle.level_rows.specs.Runs.{run_none, run_more}
 use Rattle.level_rows.proofs.lift.Goals as goal
 use Rattle.level_rows.proofs.lift.Goals.{then-below-lt-NONE, else-below-lt-NONE, Joined-below-lt-NONE}
 

@@ -1,9 +1,8 @@
-use Prim.Native.Nat.{◌+◌, ◌-◌}
 use native.Mathlib.Omega.{arith}
 use borrow.Author.Rules.{rules}
 use Rattle.lists.specs.ListLaws.{get_d_any}
 use Rattle.level_arrays.specs.Arrays.{big}
-use Rattle.level_rows.proofs.Lowering.{Lowered, lowered_none, lowered_more}
+use Rattle.level_rows.proofs.Lowering.{lowered_none, lowered_more}
 use Rattle.level_rows.proofs.lowered.Goals as goal
 
 pub loop-w-init : goal.loop-w-init

@@ -1,9 +1,5 @@
 use Prim.Native.Nat.{◌+◌, ◌-◌}
-use native.Mathlib.Omega.{arith}
-use borrow.Author.Rules.{rules}
-use Rattle.lists.specs.ListLaws.{get_d_any}
-use Rattle.level_arrays.specs.Arrays.{big}
-use Rattle.level_rows.proofs.Lowering.{Lowered, lowered_none, lowered_more}
+use Rattle.level_rows.proofs.Lowering.{Lowered}
 use Rattle.level_rows.proofs.lowered.Given as goal
 
 abbrev pub invariant-loop-w : goal.invariant-loop-w

@@ -1,6 +1,5 @@
 use native.Mathlib.Omega.{arith}
 use mathlib.Core.Logic.{inl, inr}
-use borrow.Author.Rules.{rules}
 use Rattle.level_rows.proofs.mask_row.Goals as goal
 
 pub returns-then-t-top : goal.returns-then-t-top

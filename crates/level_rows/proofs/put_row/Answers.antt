@@ -1,11 +1,10 @@
-use Prim.Native.Nat.{◌-◌, ◌≤◌}
 use native.Mathlib.Omega.{arith}
 use mathlib.Core.Path.{◌≡◌}
 use borrow.Author.Rules.{rules}
 use Rattle.lists.specs.ListLaws.{get_d_any}
-use lib.ListN.{length, get_or}
+use lib.ListN.{length}
 use Rattle.level_arrays.specs.Arrays.{big}
-use Rattle.level_rows.specs.Runs.{RunWritten, run_none, run_more}
+use Rattle.level_rows.specs.Runs.{run_none, run_more}
 use Rattle.level_rows.proofs.put_row.Goals as goal
 
 pub loop-w-init : goal.loop-w-init

@@ -1,11 +1,8 @@
-use Prim.Native.Nat.{◌+◌, ◌-◌, ◌≤◌}
 use native.Mathlib.Omega.{arith}
 use native.Mathlib.Nat.{zero-add}
-use borrow.Author.Rules.{rules}
 use Rattle.lists.specs.ListLaws.{get_d_any}
-use lib.ListN.{get_or}
 use Rattle.level_arrays.specs.Arrays.{big}
-use Rattle.level_rows.specs.Runs.{RunWritten, run_none, run_more}
+use Rattle.level_rows.specs.Runs.{run_none, run_more}
 use Rattle.level_rows.proofs.row_at.Goals as goal
 
 pub loop-w-init : goal.loop-w-init

@@ -1,5 +1,4 @@
 use native.Mathlib.Omega.{arith}
-use borrow.Author.Rules.{rules}
 use Rattle.list_line.proofs.Written.{number_written}
 use Rattle.list_line.proofs.put_field.Goals as goal
 

@@ -1,12 +1,8 @@
-use Prim.Native.Nat.{◌+◌, ◌*◌, ◌-◌, ◌≤◌}
-use native.Mathlib.Omega.{arith}
-use mathlib.Core.Path.{◌≡◌, refl, sym, ap, ◌∙◌}
-use lib.ListN.{length, get_or, take}
-use lib.Seq.{length-take-le}
-use Rattle.decimal.specs.Trusted.Columns.{field_of, fields_of}
+use Prim.Native.Nat.{◌-◌, ◌≤◌}
+use mathlib.Core.Path.{◌≡◌}
+use lib.ListN.{length, take}
+use Rattle.decimal.specs.Trusted.Columns.{fields_of}
 use Rattle.list_line.specs.Trusted.Writes.{pasted}
-use Rattle.list_line.specs.PasteLaws.{paste_none, paste_next}
-use Rattle.list_line.specs.FieldLaws.{fields_length, fields_next}
 use Rattle.list_line.proofs.put_inputs.Given as goal
 
 abbrev pub invariant-loop-i : goal.invariant-loop-i

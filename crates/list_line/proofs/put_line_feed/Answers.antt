@@ -1,5 +1,4 @@
 use native.Mathlib.Omega.{arith}
-use borrow.Author.Rules.{rules}
 use Rattle.list_line.specs.PasteLaws.{paste_one}
 use Rattle.list_line.proofs.put_line_feed.Goals as goal
 

@@ -4,7 +4,6 @@ use mathlib.Core.Path.{refl}
 use mathlib.Core.List.{◌++◌}
 use Rattle.decimal.specs.Trusted.Columns.{field_of}
 use Rattle.list_line.specs.PasteLaws.{paste_next}
-use borrow.Author.Rules.{rules}
 use Rattle.list_line.proofs.put_three.Goals as goal
 
 pub returns : goal.returns

@@ -4,7 +4,6 @@ use mathlib.Core.Path.{refl}
 use mathlib.Core.List.{[], ◌∷◌}
 use Rattle.decimal.specs.Trusted.Columns.{fields_of}
 use Rattle.list_line.specs.PasteLaws.{paste_next}
-use borrow.Author.Rules.{rules}
 use Rattle.list_line.proofs.put_top.Goals as goal
 
 pub returns : goal.returns

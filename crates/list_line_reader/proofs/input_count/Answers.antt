@@ -1,10 +1,9 @@
 use native.Mathlib.Omega.{arith}
 use mathlib.Core.Path.{sym, ◌∙◌}
 use lib.ListN.{get_or}
-use borrow.Author.Tests.{not-true, not-false, eq-eqb, ne_eqb}
+use borrow.Author.Tests.{eq-eqb, ne_eqb}
 use Rattle.lists.specs.TestLaws.{reflects_within}
 use Rattle.table.specs.ResultLaws.{says_true}
-use borrow.Author.Rules.{rules}
 use Rattle.list_line_reader.proofs.input_count.Goals as goal
 
 pub returns-then-not-laid : goal.returns-then-not-laid

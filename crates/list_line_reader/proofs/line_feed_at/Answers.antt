@@ -1,6 +1,5 @@
 use native.Mathlib.Omega.{arith}
 use Rattle.list_layout.specs.LineTakenLaws.{line_feed_there, line_feed_short}
-use borrow.Author.Rules.{rules}
 use Rattle.list_line_reader.proofs.line_feed_at.Goals as goal
 
 pub returns-then-at-text : goal.returns-then-at-text

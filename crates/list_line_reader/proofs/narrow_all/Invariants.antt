@@ -1,13 +1,8 @@
 use Prim.Native.Nat.{◌-◌, ◌≤◌}
-use native.Mathlib.Numerals.{add-one}
-use native.Mathlib.Omega.{arith}
-use mathlib.Core.Path.{◌≡◌, refl, sym, ap, ap₂, ◌∙◌}
-use mathlib.Core.List.{[], ◌∷◌, ◌++◌, map}
-use lib.ListN.{length, get_or, take, set, length-set}
-use lib.Seq.{take_all, take-suc, take-suc-set}
-use Rattle.table.specs.RuleLaws.{map_append}
+use mathlib.Core.Path.{◌≡◌}
+use mathlib.Core.List.{[], map}
+use lib.ListN.{length, take}
 use Rattle.list_layout.specs.Taken.{narrow}
-use borrow.Author.Rules.{rules}
 use Rattle.list_line_reader.proofs.narrow_all.Given as goal
 
 abbrev pub invariant-loop-i : goal.invariant-loop-i

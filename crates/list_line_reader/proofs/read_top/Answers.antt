@@ -1,11 +1,9 @@
 use mathlib.Core.Path.{sym, subst}
-use mathlib.Core.Logic.{⊎_elim}
 use mathlib.Core.Bool.{Bool}
 use lib.ListN.{get_or}
 use Rattle.list_layout.specs.declared.TopRead.{TopRead}
 use Rattle.list_layout.specs.Taken.{TopTaken}
 use Rattle.list_layout.specs.LineTakenLaws.{top_is, top_not}
-use borrow.Author.Rules.{rules}
 use Rattle.list_line_reader.proofs.read_top.Goals as goal
 use Rattle.list_line_reader.proofs.read_top.Goals.{then-f, else-f}
 

@@ -1,7 +1,6 @@
 use mathlib.Core.Path.{sym, ap}
 use Rattle.list_reading.specs.Trusted.ListAnswers.{list_answer}
 use Rattle.list_numbers.specs.Answered.{answer_code}
-use borrow.Author.Rules.{rules}
 use Rattle.list_numbers.proofs.answer_code.Goals as goal
 
 pub returns-in-NotLaidOut : goal.returns-in-NotLaidOut

@@ -3,7 +3,6 @@ use Rattle.list_reading.specs.Trusted.ListAnswers.{list_answer}
 use Rattle.list_numbers.specs.Trusted.Numbers.{numbers_read}
 use Rattle.list_numbers.specs.Answered.{came_of}
 use Rattle.list_numbers.specs.NumbersLaws.{code_refused, code_accepted}
-use borrow.Author.Rules.{rules}
 use Rattle.list_numbers.proofs.hand_over.Goals as goal
 
 pub returns-then-code-ne0 : goal.returns-then-code-ne0

@@ -1,6 +1,5 @@
 use native.Mathlib.Omega.{arith}
 use Rattle.list_line.specs.PasteLaws.{paste_one}
-use borrow.Author.Rules.{rules}
 use Rattle.list_numbers.proofs.put_number.Goals as goal
 
 pub returns : goal.returns

@@ -9,7 +9,6 @@ use Rattle.part.proofs.Shape.{shaped}
 use Rattle.list_line.specs.PasteLaws.{paste_next}
 use Rattle.list_numbers.specs.Trusted.Numbers.{record_numbers, part_numbers}
 use Rattle.list_numbers.specs.NumbersLaws.{part_numbers_lem, handed_room, handed_short}
-use borrow.Author.Rules.{rules}
 use Rattle.list_numbers.proofs.put_part.Goals as goal
 use Rattle.list_numbers.proofs.put_part.Goals.{Start}
 

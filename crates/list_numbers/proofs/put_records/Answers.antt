@@ -1,13 +1,11 @@
-use Prim.Native.Nat.{◌+◌, ◌*◌, ◌-◌, ◌≤◌, ◌<◌}
+use Prim.Native.Nat.{◌+◌, ◌*◌, ◌<◌}
 use native.Mathlib.Omega.{arith}
 use mathlib.Core.Path.{◌≡◌, refl, sym, ap, ◌∙◌}
-use borrow.Author.Rules.{rules}
 use lib.ListN.{length, get_or, take, length-append}
 use Rattle.lists.specs.Trusted.Lists.{gather}
 use Rattle.lists.specs.ListLaws.{get_d_any}
 use Rattle.table.specs.Trusted.Records.{blank}
 use Rattle.table.proofs.Shape.{past}
-use Rattle.part.specs.Trusted.Parts.{Shaped}
 use Rattle.part.proofs.Shape.{shaped}
 use Rattle.list_line.specs.Trusted.Writes.{pasted}
 use Rattle.list_line.specs.PasteLaws.{paste_none, paste_next}

@@ -1,18 +1,10 @@
-use Prim.Native.Nat.{◌+◌, ◌*◌, ◌-◌, ◌≤◌, ◌<◌}
-use native.Mathlib.Omega.{arith}
-use mathlib.Core.Path.{◌≡◌, refl, sym, ap, ◌∙◌}
-use borrow.Author.Rules.{rules}
-use lib.ListN.{length, get_or, take, length-append}
+use Prim.Native.Nat.{◌-◌, ◌≤◌}
+use mathlib.Core.Path.{◌≡◌}
+use lib.ListN.{length, take}
 use Rattle.lists.specs.Trusted.Lists.{gather}
-use Rattle.lists.specs.ListLaws.{get_d_any}
-use Rattle.table.specs.Trusted.Records.{blank}
-use Rattle.table.proofs.Shape.{past}
 use Rattle.part.specs.Trusted.Parts.{Shaped}
-use Rattle.part.proofs.Shape.{shaped}
 use Rattle.list_line.specs.Trusted.Writes.{pasted}
-use Rattle.list_line.specs.PasteLaws.{paste_none, paste_next}
 use Rattle.list_numbers.specs.Trusted.Numbers.{record_numbers}
-use Rattle.list_numbers.specs.NumbersLaws.{tables_numbers, numbers_next}
 use Rattle.list_numbers.proofs.put_records.Given as goal
 
 abbrev pub invariant-loop-t : goal.invariant-loop-t

@@ -2,7 +2,6 @@ use native.Mathlib.Omega.{arith}
 use mathlib.Core.Path.{refl}
 use mathlib.Core.List.{[], ◌∷◌}
 use Rattle.list_line.specs.PasteLaws.{paste_next}
-use borrow.Author.Rules.{rules}
 use Rattle.list_numbers.proofs.put_top.Goals as goal
 
 pub returns : goal.returns

@@ -2,13 +2,12 @@ use Prim.Native.Nat.{◌≤◌}
 use native.Mathlib.Omega.{arith}
 use mathlib.Core.Path.{◌≡◌, refl, sym, ap, ◌∙◌}
 use mathlib.Core.Bool.{true}
-use borrow.Author.Tests.{not-true, not-false, le-leb, lt-leb}
+use borrow.Author.Tests.{le-leb, lt-leb}
 use Rattle.lists.specs.Trusted.Tests.{within}
 use Rattle.lists.specs.TestLaws.{reflects_within}
 use Rattle.table.specs.ResultLaws.{says_true}
 use Rattle.list_reading.specs.Trusted.ReadList.{read_result}
 use Rattle.list_reading.specs.LoopLaws.{handed_refused, top_bad, k_bad, capacity_bad, used_bad, top_passed}
-use borrow.Author.Rules.{rules}
 use Rattle.list_reader.proofs.read_list.Goals as goal
 use Rattle.list_reader.proofs.read_list.Goals.{Else-not-laid, Else-not-within, Else-not-within-2}
 

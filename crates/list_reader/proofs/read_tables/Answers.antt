@@ -1,4 +1,4 @@
-use Prim.Native.Nat.{◌+◌, ◌-◌}
+use Prim.Native.Nat.{◌+◌}
 use native.Mathlib.Omega.{arith}
 use mathlib.Core.Path.{◌≡◌, refl, sym, ap, ◌∙◌, subst}
 use mathlib.Core.Bool.{true}
@@ -12,7 +12,6 @@ use Rattle.part.specs.Trusted.Answers.{accepted}
 use Rattle.part_records.specs.Trusted.Reservations.{unreserved}
 use Rattle.list_reading.specs.Trusted.ReadList.{read_result}
 use Rattle.list_reading.specs.LoopLaws.{LinesSoFar, handed_refused, lines_none, line_bad, rule_bad, line_good, rest_refused, rest_over, rest_all}
-use borrow.Author.Rules.{rules}
 use Rattle.list_reader.proofs.read_tables.Goals as goal
 use Rattle.list_reader.proofs.read_tables.Goals.{After-keeps_points, After-loop-t}
 

@@ -10,7 +10,6 @@ use Rattle.list_numbers.specs.Answered.{answer_code}
 use Rattle.list_sets.specs.Trusted.ListSets.{AfterList}
 use Rattle.list_sets.specs.ListSetLaws.{list_unread, list_passed, beside_shaped, told_of_accepted, after_call}
 use Rattle.list_reservations.specs.ListReservationLaws.{commit_list_sound}
-use borrow.Author.Rules.{rules}
 use Rattle.list_reservations.proofs.commit_to_list.Goals as goal
 use Rattle.list_reservations.proofs.commit_to_list.Goals.{After-commit-committed, After-read_reserved-read, Else-code-ne0}
 

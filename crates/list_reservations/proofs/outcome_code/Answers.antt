@@ -1,7 +1,6 @@
 use borrow.Author.Tests.{not-true, not-false}
 use Rattle.part.specs.Trusted.AddAnswers.{adding_answer}
 use Rattle.list_reservations.specs.ListReservationLaws.{outcome_refused, outcome_accepted}
-use borrow.Author.Rules.{rules}
 use Rattle.list_reservations.proofs.outcome_code.Goals as goal
 
 pub returns-then-not-told : goal.returns-then-not-told

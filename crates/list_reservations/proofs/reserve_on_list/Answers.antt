@@ -9,7 +9,6 @@ use Rattle.list_reading.specs.Trusted.ListAnswers.{list_answer}
 use Rattle.list_numbers.specs.Answered.{answer_code}
 use Rattle.list_reservations.specs.ListReservationLaws.{code_unread, code_passed}
 use Rattle.list_reservations.specs.Trusted.ListReservations.{CodeAfterList}
-use borrow.Author.Rules.{rules}
 use Rattle.list_reservations.proofs.reserve_on_list.Goals as goal
 use Rattle.list_reservations.proofs.reserve_on_list.Goals.{After-read_reserved-read, Else-code-ne0}
 

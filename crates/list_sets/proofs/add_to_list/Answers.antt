@@ -9,7 +9,6 @@ use Rattle.list_reading.specs.Trusted.ListAnswers.{list_answer}
 use Rattle.list_numbers.specs.Answered.{answer_code}
 use Rattle.list_sets.specs.Trusted.ListSets.{AfterList}
 use Rattle.list_sets.specs.ListSetLaws.{list_unread, list_passed, beside_shaped, told_of_accepted, after_call, added_sound}
-use borrow.Author.Rules.{rules}
 use Rattle.list_sets.proofs.add_to_list.Goals as goal
 use Rattle.list_sets.proofs.add_to_list.Goals.{After-add_set-added, After-read_reserved-read, Else-code-ne0}
 

@@ -4,7 +4,6 @@ use Rattle.printing.specs.Promises.{WrittenAs}
 use Rattle.printing.specs.declared.Printed.{Printed}
 use Rattle.list_sets.specs.Trusted.ListSets.{PutInFront}
 use Rattle.list_sets.specs.ListSetLaws.{printed_code, put_in_front}
-use borrow.Author.Rules.{rules}
 use Rattle.list_sets.proofs.put_list.Goals as goal
 use Rattle.list_sets.proofs.put_list.Goals.{After-print_list}
 

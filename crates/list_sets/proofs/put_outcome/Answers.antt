@@ -1,7 +1,6 @@
 use mathlib.Core.Path.{◌≡◌, refl}
 use mathlib.Core.Bool.{true, false}
 use borrow.Author.Tests.{not-true, not-false}
-use borrow.Author.Rules.{rules}
 use Rattle.list_sets.proofs.put_outcome.Goals as goal
 
 pub returns-then-not-told : goal.returns-then-not-told

@@ -1,6 +1,5 @@
 use Rattle.list_reading.specs.Trusted.ReadList.{read_list}
 use Rattle.list_sets.specs.ListSetLaws.{read_beside}
-use borrow.Author.Rules.{rules}
 use Rattle.list_sets.proofs.read_reserved.Goals as goal
 
 pub returns : goal.returns

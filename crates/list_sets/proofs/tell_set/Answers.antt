@@ -2,7 +2,6 @@ use mathlib.Core.Path.{◌≡◌, sym, ap, ◌∙◌}
 use Rattle.part.specs.Trusted.SetAnswers.{set_answer, set_position}
 use Rattle.part.specs.declared.SetAdding.{SetAdding}
 use Rattle.list_sets.specs.Told.{told_of}
-use borrow.Author.Rules.{rules}
 use Rattle.list_sets.proofs.tell_set.Goals as goal
 use Rattle.list_sets.proofs.tell_set.Goals.{Start}
 

@@ -3,7 +3,6 @@ use Rattle.part.specs.Trusted.Answers.{refused}
 use Rattle.part.specs.Trusted.AddAnswers.{adding_answer}
 use Rattle.part.specs.declared.Adding.{Adding}
 use Rattle.list_sets.specs.Told.{told_of}
-use borrow.Author.Rules.{rules}
 use Rattle.list_sets.proofs.tell_sheet.Goals as goal
 use Rattle.list_sets.proofs.tell_sheet.Goals.{Start}
 

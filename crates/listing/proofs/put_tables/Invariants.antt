@@ -1,19 +1,8 @@
 use Prim.Native.Nat.{◌+◌, ◌-◌, ◌≤◌}
-use native.Mathlib.Omega.{arith}
-use mathlib.Core.Path.{◌≡◌, refl, sym, ap, ◌∙◌}
-use borrow.Author.Rules.{rules}
-use lib.ListN.{length, get_or}
-use Rattle.lists.specs.ListLaws.{get_d_any}
-use Rattle.table.specs.Trusted.Records.{blank}
-use Rattle.table.proofs.Shape.{past}
-use Rattle.part.proofs.Shape.{shaped}
-use Rattle.list_line.specs.Trusted.TableLine.{table_line}
+use mathlib.Core.Path.{◌≡◌}
+use lib.ListN.{length}
 use Rattle.list_line.specs.Trusted.Writes.{pasted}
-use Rattle.list_line.specs.Line.{table_width}
 use Rattle.listing.specs.Lines.{table_lines}
-use Rattle.list_line.specs.PasteLaws.{paste_none, paste_next}
-use Rattle.list_line.specs.FieldLaws.{table_length}
-use Rattle.listing.proofs.LineLaws.{lines_next, lines_next_length, lines_more}
 use Rattle.listing.proofs.put_tables.Given as goal
 
 abbrev pub invariant-loop-t : goal.invariant-loop-t

@@ -1,7 +1,7 @@
 use native.Mathlib.Omega.{arith}
 use Prim.Native.Nat.{◌+◌, ◌-◌, ◌≤◌}
 use mathlib.Core.Path.{◌≡◌, sym, ap, ap₂, ◌∙◌}
-use borrow.Author.Tests.{not-true, not-false, le-leb, lt-leb, leb-true}
+use borrow.Author.Tests.{le-leb, lt-leb, leb-true}
 use lib.Dec.{leb}
 use lib.ListN.{length, get_or}
 use Rattle.lists.specs.Trusted.Checked.{passed}
@@ -17,7 +17,6 @@ use Rattle.list_line.specs.Trusted.Writes.{pasted}
 use Rattle.list_line.specs.Line.{table_width}
 use Rattle.list_line.specs.FieldLaws.{table_length}
 use Rattle.listing.proofs.LineLaws.{fitted_out, fitted_in, line_unsound, line_absent, line_there, line_table, used_room}
-use borrow.Author.Rules.{rules}
 use Rattle.listing.proofs.write_line.Goals as goal
 use Rattle.listing.proofs.write_line.Goals.{Start}
 

@@ -1,7 +1,5 @@
 use mathlib.Core.Path.{sym, ◌∙◌}
-use borrow.Author.Tests.{not-true, not-false}
 use Rattle.listing.proofs.LineLaws.{list_unsound}
-use borrow.Author.Rules.{rules}
 use Rattle.listing.proofs.write_list.Goals as goal
 
 pub returns-then-not-sound : goal.returns-then-not-sound

@@ -2,7 +2,7 @@ use native.Mathlib.Omega.{arith}
 use Prim.Native.Nat.{◌+◌, ◌≤◌}
 use mathlib.Core.Path.{◌≡◌, refl, sym, ap, ap₂, ◌∙◌}
 use mathlib.Core.List.{◌++◌}
-use borrow.Author.Tests.{not-true, not-false, leb-true}
+use borrow.Author.Tests.{leb-true}
 use lib.Dec.{leb}
 use lib.ListN.{length, length-append}
 use Rattle.lists.specs.Trusted.Checked.{passed}
@@ -10,7 +10,6 @@ use Rattle.list_line.specs.Line.{top_line}
 use Rattle.listing.specs.Lines.{table_lines}
 use Rattle.list_line.specs.PasteLaws.{paste_next}
 use Rattle.listing.proofs.LineLaws.{fitted_out, fitted_in, list_is, list_there, used_room}
-use borrow.Author.Rules.{rules}
 use Rattle.listing.proofs.write_sound_list.Goals as goal
 
 pub tables_width-width-requires : goal.tables_width-width-requires

@@ -1,4 +1,3 @@
-use borrow.Author.Rules.{rules}
 use Rattle.mapper.proofs.flip_if.Goals as goal
 
 pub returns-then-flip : goal.returns-then-flip

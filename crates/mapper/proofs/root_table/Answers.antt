@@ -1,6 +1,5 @@
 use mathlib.Core.Path.{ap}
 use Rattle.mapper_laws.specs.CodeMap.{driving}
-use borrow.Author.Rules.{rules}
 use Rattle.mapper.proofs.root_table.Goals as goal
 
 pub returns : goal.returns

@@ -1,10 +1,8 @@
 use native.Mathlib.Omega.{arith}
-use mathlib.Core.Path.{◌≡◌, sym, ◌∙◌}
-use lib.ListN.{length, length-map}
-use Rattle.pending.specs.contracts.Lut.{the_field}
-use Prim.Native.Nat.{◌-◌}
+use mathlib.Core.Path.{◌≡◌}
+use lib.ListN.{length}
 use borrow.Author.Rules.{rules}
-use Rattle.mapper_laws.specs.CodeMap.{most_tables, Staging}
+use Rattle.mapper_laws.specs.CodeMap.{most_tables}
 use Rattle.mapper_laws.specs.CodeMapLaws.{staging_start, staging_next, staging_end}
 use Rattle.mapper.proofs.stage.Goals as goal
 use Rattle.mapper.proofs.stage.Goals.{Start}

@@ -1,7 +1,5 @@
-use Prim.Native.Nat.{◌-◌}
 use native.Mathlib.Omega.{arith}
-use mathlib.Core.Logic.{⊎_elim}
-use Rattle.pending.specs.MergeLaws.{Inserting, inserting_start, inserting_stay, inserting_up, inserting_end}
+use Rattle.pending.specs.MergeLaws.{inserting_start, inserting_stay, inserting_up, inserting_end}
 use Rattle.merge.proofs.insert.Goals as goal
 use Rattle.merge.proofs.insert.Goals.{then-next-x, else-next-x}
 

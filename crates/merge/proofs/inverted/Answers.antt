@@ -1,7 +1,6 @@
 use Prim.Native.Nat.{◌-◌, ◌^◌}
 use mathlib.Core.Path.{sym, ap, ◌∙◌}
 use Rattle.pending.specs.MergeLaws.{complement}
-use borrow.Author.Rules.{rules}
 use Rattle.merge.proofs.inverted.Goals as goal
 
 pub returns : goal.returns

@@ -1,8 +1,7 @@
 use native.Mathlib.Omega.{arith}
 use Prim.Native.Nat.{◌<◌}
-use lib.ListN.{take}
 use Rattle.pending.specs.Merging.{Ordered}
-use Rattle.pending.specs.MergeLaws.{InsertedFrom, inserted_none, inserted_ordered, inserted_next, inserted_all}
+use Rattle.pending.specs.MergeLaws.{inserted_none, inserted_ordered, inserted_next, inserted_all}
 use Rattle.merge.proofs.union.Goals as goal
 use Rattle.merge.proofs.union.Goals.{In-loop-i}
 

@@ -1,8 +1,5 @@
-use native.Mathlib.Omega.{arith}
-use Prim.Native.Nat.{◌<◌}
 use lib.ListN.{take}
-use Rattle.pending.specs.Merging.{Ordered}
-use Rattle.pending.specs.MergeLaws.{InsertedFrom, inserted_none, inserted_ordered, inserted_next, inserted_all}
+use Rattle.pending.specs.MergeLaws.{InsertedFrom}
 use Rattle.merge.proofs.union.Given as goal
 
 abbrev pub invariant-loop-i : goal.invariant-loop-i

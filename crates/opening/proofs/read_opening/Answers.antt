@@ -6,7 +6,6 @@ use Rattle.decimal.specs.ReadingLaws.{read_none, read_number}
 use Rattle.part.specs.Trusted.Add.{opened}
 use Rattle.opening.specs.Trusted.Opening.{opened_by}
 use Rattle.opening.specs.OpeningLaws.{no_line_feed, no_first, no_second, two_numbers}
-use borrow.Author.Rules.{rules}
 use Rattle.opening.proofs.read_opening.Goals as goal
 
 pub returns-then-input-lt-OPENING : goal.returns-then-input-lt-OPENING

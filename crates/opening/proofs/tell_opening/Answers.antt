@@ -1,6 +1,5 @@
 use mathlib.Core.Path.{sym, ap}
 use Rattle.part.specs.Trusted.OpenAnswers.{opening_answer}
-use borrow.Author.Rules.{rules}
 use Rattle.opening.proofs.tell_opening.Goals as goal
 
 pub returns-in-KOutOfRange : goal.returns-in-KOutOfRange

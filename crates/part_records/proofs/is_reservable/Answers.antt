@@ -1,5 +1,4 @@
 use mathlib.Core.Path.{◌∙◌}
-use borrow.Author.Rules.{rules}
 use borrow.Author.Tests.{lt-leb}
 use Rattle.part_records.specs.ReservationLaws.{none_reserved, some_reserved}
 use Rattle.part_records.proofs.is_reservable.Goals as goal

@@ -1,11 +1,6 @@
-use Prim.Native.Nat.{◌-◌}
 use native.Mathlib.Omega.{arith}
-use mathlib.Core.Path.{◌≡◌, refl, sym, ◌∙◌}
+use mathlib.Core.Path.{refl, sym, ◌∙◌}
 use borrow.Author.Rules.{rules}
-use borrow.Author.Tests.{not-true, not-false}
-use lib.ListN.{length, drop}
-use Rattle.lists.specs.Trusted.Tests.{all}
-use Rattle.table.specs.Trusted.Limits.{table_room}
 use Rattle.table.specs.LoopLaws.{all_stops, all_goes, all_ends}
 use Rattle.table.specs.Trusted.RecordTest.{is_blank}
 use Rattle.table.proofs.Shape.{past}

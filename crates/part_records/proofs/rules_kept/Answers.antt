@@ -1,14 +1,12 @@
-use Prim.Native.Nat.{◌-◌, ◌≤◌}
 use native.Mathlib.Omega.{arith}
 use mathlib.Core.Path.{◌≡◌, refl, sym, ap, ◌∙◌, subst}
 use mathlib.Core.Bool.{true, false}
 use mathlib.Core.List.{[], ◌∷◌, ◌++◌, map}
 use borrow.Author.Rules.{rules}
-use borrow.Author.Tests.{not-true, not-false, lt-ltb}
-use lib.ListN.{length, get_or, take, drop}
+use borrow.Author.Tests.{lt-ltb}
+use lib.ListN.{length, get_or, take}
 use lib.Seq.{length-take-le}
-use Rattle.table.specs.Trusted.Limits.{table_room}
-use Rattle.table.specs.Trusted.RecordTest.{keeps, walk, is_none}
+use Rattle.table.specs.Trusted.RecordTest.{keeps, is_none}
 use Rattle.table.specs.LevelTest.{level_in, noted_next, LevelsStand, PrefixKept}
 use Rattle.table.specs.ResultLaws.{never_true}
 use Rattle.table.specs.PrefixTest.{empty_prefix, prefix_after}

@@ -5,7 +5,6 @@ use Rattle.listing.specs.Trusted.Listing.{list_of}
 use Rattle.listing.specs.declared.WriteAnswer.{WriteAnswer}
 use Rattle.printing.specs.Promises.{WrittenAs}
 use Rattle.printing.proofs.Printing.{printed_of, list_printed}
-use borrow.Author.Rules.{rules}
 use Rattle.printing.proofs.print_list.Goals as goal
 use Rattle.printing.proofs.print_list.Goals.{After-write_sound_list-a}
 

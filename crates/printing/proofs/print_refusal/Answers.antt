@@ -3,7 +3,6 @@ use mathlib.Core.Path.{ap, ◌∙◌}
 use Rattle.decimal.specs.Trusted.Writing.{signed_written_at}
 use lib.ListN.{length-set}
 use Rattle.printing.proofs.Printing.{minus_held, minus_number, refusal_out, refusal_in}
-use borrow.Author.Rules.{rules}
 use Rattle.printing.proofs.print_refusal.Goals as goal
 
 pub returns-then-output-lt-REFUSAL : goal.returns-then-output-lt-REFUSAL

@@ -3,7 +3,6 @@ use native.Mathlib.Omega.{arith}
 use lib.ListN.{length}
 use Rattle.listing.specs.Lines.{longest}
 use Rattle.program.specs.RoomLaws.{wrote_front, never_short}
-use borrow.Author.Rules.{rules}
 use Rattle.program.proofs.print.Goals as goal
 use Rattle.program.proofs.print.Goals.{After-run}
 

@@ -8,7 +8,6 @@ use Rattle.sheets.specs.Trusted.Sheets.{SheetsPrint}
 use Rattle.sheets.specs.SheetsLaws.{refused_line, accepted_list}
 use Rattle.program.specs.Trusted.Program.{Prints}
 use Rattle.program.specs.ProgramLaws.{opening_refused, opening_accepted, opening_sound, opening_none}
-use borrow.Author.Rules.{rules}
 use Rattle.program.proofs.run.Goals as goal
 use Rattle.program.proofs.run.Goals.{After-add_sheets-end}
 

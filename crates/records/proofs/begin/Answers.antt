@@ -5,7 +5,6 @@ use lib.Dec.{ltb}
 use Rattle.lists.specs.TestLaws.{reflects_within}
 use Rattle.table.specs.ResultLaws.{says_true}
 use Rattle.table.specs.LevelTest.{no_levels}
-use borrow.Author.Rules.{rules}
 use Rattle.records.proofs.begin.Goals as goal
 
 pub overflow_cast-result : goal.overflow_cast-result

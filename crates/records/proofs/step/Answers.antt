@@ -2,7 +2,6 @@ use mathlib.Core.Path.{sym, ap₂, ◌∙◌}
 use borrow.Author.Tests.{lt-ltb, le-ltb}
 use Rattle.table.specs.LevelTest.{no_levels}
 use Rattle.records.specs.RunTest.{on_of}
-use borrow.Author.Rules.{rules}
 use Rattle.records.proofs.step.Goals as goal
 
 pub returns-then-is_levelled : goal.returns-then-is_levelled

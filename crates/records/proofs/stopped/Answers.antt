@@ -1,6 +1,5 @@
 use mathlib.Core.Path.{ap}
 use mathlib.Core.Bool.{false}
-use borrow.Author.Rules.{rules}
 use Rattle.table.specs.LevelTest.{no_levels}
 use Rattle.records.proofs.stopped.Goals as goal
 

@@ -1,10 +1,7 @@
 use Prim.Native.Nat.{◌-◌, ◌≤◌}
-use native.Mathlib.Omega.{arith}
-use mathlib.Core.Path.{◌≡◌, ap, ◌∙◌}
+use mathlib.Core.Path.{◌≡◌}
 use lib.ListN.{take}
-use Rattle.table.specs.Trusted.Limits.{input_room}
-use Rattle.pending.specs.Merging.{padded, column_of, columns_of}
-use Rattle.pending.specs.MergeLaws.{place_low, column_is, columns_none, columns_next}
+use Rattle.pending.specs.Merging.{padded, columns_of}
 use Rattle.rows.proofs.columns.Given as goal
 
 abbrev pub invariant-loop-i : goal.invariant-loop-i

@@ -1,7 +1,6 @@
-use Prim.Native.Nat.{◌-◌, ◌≤◌}
 use native.Mathlib.Omega.{arith}
 use mathlib.Core.Path.{◌≡◌}
-use Rattle.pending.specs.MergeLaws.{Folded, folded_none, folded_next}
+use Rattle.pending.specs.MergeLaws.{folded_none, folded_next}
 use Rattle.rows.proofs.fold.Goals as goal
 
 pub loop-j-init : goal.loop-j-init

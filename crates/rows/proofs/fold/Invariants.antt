@@ -1,7 +1,5 @@
 use Prim.Native.Nat.{◌-◌, ◌≤◌}
-use native.Mathlib.Omega.{arith}
-use mathlib.Core.Path.{◌≡◌}
-use Rattle.pending.specs.MergeLaws.{Folded, folded_none, folded_next}
+use Rattle.pending.specs.MergeLaws.{Folded}
 use Rattle.rows.proofs.fold.Given as goal
 
 abbrev pub invariant-loop-j : goal.invariant-loop-j

@@ -2,7 +2,6 @@ use Rattle.tree.specs.Trusted.Tree.{meet}
 use Rattle.cover.specs.Trusted.Bits.{bit}
 use mathlib.Core.Path.{sym, ap, ◌∙◌}
 use Rattle.cover.specs.BitLaws.{bit_and_lem, bit_or_lem}
-use borrow.Author.Rules.{rules}
 use Rattle.rows.proofs.meet.Goals as goal
 
 pub returns-in-And : goal.returns-in-And

@@ -1,6 +1,5 @@
 use native.Mathlib.Omega.{arith}
 use Rattle.pending.specs.MergeLaws.{rows_low, rows_some, ones_are}
-use borrow.Author.Rules.{rules}
 use Rattle.rows.proofs.ones.Goals as goal
 
 pub overflow_sub-result : goal.overflow_sub-result

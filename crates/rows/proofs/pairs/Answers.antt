@@ -1,8 +1,5 @@
-use Prim.Native.Nat.{◌-◌, ◌≤◌}
 use native.Mathlib.Omega.{arith}
 use mathlib.Core.Path.{◌≡◌}
-use Rattle.cover.specs.Trusted.Bits.{bit, digit}
-use Rattle.pending.specs.Merging.{Words}
 use Rattle.pending.specs.MergeLaws.{words_none, words_next, pair_bit}
 use Rattle.rows.proofs.pairs.Goals as goal
 

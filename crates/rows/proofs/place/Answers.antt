@@ -1,9 +1,6 @@
-use Prim.Native.Nat.{◌+◌, ◌-◌, ◌≤◌}
 use native.Mathlib.Omega.{arith}
-use mathlib.Core.Path.{◌≡◌, ap}
+use mathlib.Core.Path.{ap}
 use native.Mathlib.Numerals.{add-one}
-use lib.ListN.{take}
-use lib.Seq.{slice}
 use Rattle.cover.specs.Trusted.Bits.{place}
 use Rattle.pending.specs.MergeLaws.{slice_none, place_here, place_later}
 use Rattle.rows.proofs.place.Goals as goal

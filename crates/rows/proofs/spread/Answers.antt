@@ -1,8 +1,7 @@
 use lib.Pow.{pow_mono}
-use Prim.Native.Nat.{◌-◌, ◌≤◌, ◌<◌}
+use Prim.Native.Nat.{◌-◌}
 use native.Mathlib.Omega.{arith}
-use borrow.Author.Rules.{rules}
-use Rattle.pending.specs.MergeLaws.{Level, level_first, level_next, level_last, rows_low, rows_are}
+use Rattle.pending.specs.MergeLaws.{level_first, level_next, level_last, rows_low, rows_are}
 use Rattle.rows.proofs.spread.Goals as goal
 
 pub overflow_add-n : goal.overflow_add-n

@@ -1,8 +1,5 @@
-use lib.Pow.{pow_mono}
 use Prim.Native.Nat.{◌-◌, ◌≤◌, ◌<◌}
-use native.Mathlib.Omega.{arith}
-use borrow.Author.Rules.{rules}
-use Rattle.pending.specs.MergeLaws.{Level, level_first, level_next, level_last, rows_low, rows_are}
+use Rattle.pending.specs.MergeLaws.{Level}
 use Rattle.rows.proofs.spread.Given as goal
 
 abbrev pub invariant-loop-i : goal.invariant-loop-i

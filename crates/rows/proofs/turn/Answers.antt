@@ -3,7 +3,6 @@ use Rattle.cover.specs.Trusted.Bits.{bit}
 use native.Mathlib.Omega.{arith}
 use mathlib.Core.Path.{sym, ap, ◌∙◌}
 use Rattle.pending.specs.MergeLaws.{bit_turned}
-use borrow.Author.Rules.{rules}
 use Rattle.rows.proofs.turn.Goals as goal
 
 pub returns-then-inverted : goal.returns-then-inverted

@@ -2,7 +2,6 @@ use mathlib.Core.Path.{◌≡◌}
 use lib.ListN.{take}
 use Rattle.pending.specs.Merging.{columns_of, Filled}
 use Rattle.pending.specs.MergeLaws.{padded_filled, columns_length}
-use borrow.Author.Rules.{rules}
 use Rattle.rows.proofs.values.Goals as goal
 use Rattle.rows.proofs.values.Goals.{After-columns-cs}
 

@@ -1,12 +1,8 @@
 use Prim.Native.Nat.{◌+◌, ◌-◌, ◌*◌, ◌≤◌}
-use native.Mathlib.Omega.{arith}
-use mathlib.Core.Path.{◌≡◌, ap, ◌∙◌}
+use mathlib.Core.Path.{◌≡◌}
 use mathlib.Core.List.{[]}
-use borrow.Author.Rules.{rules}
 use lib.ListN.{length, drop}
-use lib.Seq.{drop-length}
 use Rattle.lists.specs.Trusted.Lists.{sum}
-use Rattle.set_lengths.specs.LengthLaws.{sum_next}
 use Rattle.set_lengths.proofs.total.Given as goal
 
 -- what is added and what is left are the whole sum

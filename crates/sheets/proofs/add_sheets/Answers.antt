@@ -1,9 +1,7 @@
-use Prim.Native.Nat.{◌-◌}
 use native.Mathlib.Omega.{arith}
 use mathlib.Core.Path.{◌≡◌, sym, ap, subst}
 use mathlib.Core.List.{[], map}
-use borrow.Author.Rules.{rules}
-use lib.ListN.{length, take}
+use lib.ListN.{take}
 use Rattle.sheet.specs.Trusted.Answers.{drawn_sheet}
 use Rattle.sheet.specs.Trusted.Formed.{WellFormed}
 use Rattle.table.specs.Trusted.Records.{table_of}
@@ -14,7 +12,7 @@ use Rattle.part.specs.Trusted.AddAnswers.{adding_answer}
 use Rattle.part.specs.Trusted.Ways.{least}
 use Rattle.part.proofs.StoringLaws.{sheet_mappable, mapped_storable, mapped_offered}
 use Rattle.part.proofs.Shape.{shaped}
-use Rattle.sheets.specs.SheetsLaws.{number_some, SheetsSoFar, sheets_start, sheets_more, few_sheets, on_the_way, ended_stop, ended_all, Stepped, next_formed, stepped_refused, stepped_offered}
+use Rattle.sheets.specs.SheetsLaws.{number_some, sheets_start, sheets_more, few_sheets, on_the_way, ended_stop, ended_all, Stepped, next_formed, stepped_refused, stepped_offered}
 use Rattle.sheets.proofs.add_sheets.Goals as goal
 use Rattle.sheets.proofs.add_sheets.Goals.{After-tell_adding-told, In_default}
 

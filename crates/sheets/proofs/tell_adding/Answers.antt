@@ -1,7 +1,6 @@
 use mathlib.Core.Path.{sym, ap, ◌∙◌}
 use Rattle.part.specs.Trusted.AddAnswers.{adding_answer}
 use Rattle.sheets.specs.SheetsLaws.{told_misread}
-use borrow.Author.Rules.{rules}
 use Rattle.sheets.proofs.tell_adding.Goals as goal
 
 pub returns-in-Unsound : goal.returns-in-Unsound

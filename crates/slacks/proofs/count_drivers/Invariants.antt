@@ -1,13 +1,7 @@
-use Prim.Native.Nat.{◌+◌, ◌-◌, ◌≤◌, ◌<◌}
-use native.Mathlib.Omega.{arith}
-use mathlib.Core.Path.{◌≡◌, refl, sym, ap, ◌∙◌}
-use mathlib.Core.Logic.{⊎_elim}
-use borrow.Author.Rules.{rules}
+use Prim.Native.Nat.{◌-◌, ◌≤◌}
+use mathlib.Core.Path.{◌≡◌}
 use lib.ListN.{length, take}
-use Rattle.table.proofs.Shape.{past}
-use Rattle.part.proofs.Shape.{shaped}
 use Rattle.slacks.specs.Trusted.Slack.{drivers}
-use Rattle.slacks.specs.SlackLaws.{one_driver, no_driver}
 use Rattle.slacks.proofs.count_drivers.Given as goal
 
 abbrev pub invariant-loop-t : goal.invariant-loop-t

@@ -1,7 +1,7 @@
 use Prim.Native.Nat.{◌+◌, ◌*◌}
 use native.Mathlib.Omega.{arith}
 use mathlib.Core.Path.{◌≡◌, refl, sym, ap, ap₂, ◌∙◌}
-use borrow.Author.Tests.{not-true, not-false, leb-true}
+use borrow.Author.Tests.{leb-true}
 use lib.Dec.{leb}
 use lib.ListN.{length}
 use Rattle.lists.specs.Trusted.Checked.{passed}
@@ -9,7 +9,6 @@ use Rattle.part.specs.Trusted.Parts.{in_use}
 use Rattle.listing.proofs.LineLaws.{fitted_out, fitted_in}
 use Rattle.slacks.specs.Trusted.Slack.{slack_lines}
 use Rattle.slacks.specs.SlackLaws.{text_length}
-use borrow.Author.Rules.{rules}
 use Rattle.slacks.proofs.print_slacks.Goals as goal
 use Rattle.slacks.proofs.print_slacks.Goals.{After-count_drivers-width}
 

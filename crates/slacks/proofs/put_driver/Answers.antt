@@ -5,7 +5,6 @@ use lib.ListN.{length}
 use Rattle.list_line.specs.Trusted.Writes.{pasted}
 use Rattle.list_line.specs.PasteLaws.{paste_none}
 use Rattle.slacks.specs.SlackLaws.{driver_width, driver_pasted, no_line}
-use borrow.Author.Rules.{rules}
 use Rattle.slacks.proofs.put_driver.Goals as goal
 
 pub put_slack-requires : goal.put_slack-requires

@@ -4,7 +4,6 @@ use mathlib.Core.Path.{ap, ◌∙◌}
 use lib.ListN.{length-set}
 use Rattle.decimal.specs.Trusted.Writing.{signed_written_at}
 use Rattle.slacks.proofs.Slacks.{slack_held, slack_number, slack_line_lem}
-use borrow.Author.Rules.{rules}
 use Rattle.slacks.proofs.put_slack.Goals as goal
 
 pub overflow_sub-slack : goal.overflow_sub-slack

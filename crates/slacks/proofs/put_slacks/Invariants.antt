@@ -1,14 +1,8 @@
-use Prim.Native.Nat.{◌+◌, ◌-◌, ◌≤◌, ◌<◌}
-use native.Mathlib.Omega.{arith}
-use mathlib.Core.Path.{◌≡◌, refl, sym, ap, ◌∙◌}
-use borrow.Author.Rules.{rules}
-use lib.ListN.{length, get_or, take}
-use Rattle.table.proofs.Shape.{past}
-use Rattle.part.proofs.Shape.{shaped}
+use Prim.Native.Nat.{◌+◌, ◌-◌, ◌≤◌}
+use mathlib.Core.Path.{◌≡◌}
+use lib.ListN.{length, take}
 use Rattle.list_line.specs.Trusted.Writes.{pasted}
-use Rattle.list_line.specs.PasteLaws.{paste_none, paste_next}
-use Rattle.slacks.specs.SlackText.{slack_text, driver_line}
-use Rattle.slacks.specs.SlackLaws.{text_next, text_next_length, text_room}
+use Rattle.slacks.specs.SlackText.{slack_text}
 use Rattle.slacks.proofs.put_slacks.Given as goal
 
 abbrev pub invariant-loop-t : goal.invariant-loop-t

@@ -1,10 +1,6 @@
-use Prim.Native.Nat.{◌-◌}
 use native.Mathlib.Omega.{arith}
-use mathlib.Core.Path.{◌≡◌, refl, sym, ◌∙◌}
+use mathlib.Core.Path.{refl, sym, ◌∙◌}
 use borrow.Author.Rules.{rules}
-use borrow.Author.Tests.{not-true, not-false}
-use lib.ListN.{length, take, drop}
-use Rattle.lists.specs.Trusted.Tests.{all}
 use Rattle.table.specs.Trusted.RecordTest.{is_code}
 use Rattle.table.specs.LoopLaws.{all_take_stops, all_take_goes, all_take_ends}
 use Rattle.table_inputs.proofs.all_codes.Goals as goal

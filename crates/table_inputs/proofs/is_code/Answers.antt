@@ -1,5 +1,4 @@
 use mathlib.Core.Path.{sym, ◌∙◌}
-use borrow.Author.Rules.{rules}
 use Rattle.table_inputs.proofs.is_code.Goals as goal
 
 pub returns-then-within : goal.returns-then-within

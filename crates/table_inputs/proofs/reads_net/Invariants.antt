@@ -1,12 +1,7 @@
 use Prim.Native.Nat.{◌-◌}
-use native.Mathlib.Omega.{arith}
-use mathlib.Core.Path.{◌≡◌, refl, sym, ◌∙◌}
-use borrow.Author.Rules.{rules}
-use borrow.Author.Tests.{eq-eqb, ne_eqb}
-use lib.Dec.{eqb}
+use mathlib.Core.Path.{◌≡◌}
 use lib.ListN.{length, take, drop}
 use Rattle.lists.specs.Trusted.Tests.{elem}
-use Rattle.table.specs.LoopLaws.{any_take_stops, any_take_goes, any_take_ends}
 use Rattle.table_inputs.proofs.reads_net.Given as goal
 
 abbrev pub invariant-loop-i : goal.invariant-loop-i

@@ -1,11 +1,7 @@
-use Prim.Native.Nat.{◌-◌, ◌≤◌}
 use native.Mathlib.Omega.{arith}
-use mathlib.Core.Path.{◌≡◌, refl, sym, ◌∙◌}
+use mathlib.Core.Path.{refl, sym, ◌∙◌}
 use borrow.Author.Rules.{rules}
 use borrow.Author.Tests.{lt-ltb, le-ltb}
-use lib.Dec.{ltb}
-use lib.ListN.{length, take, drop}
-use Rattle.lists.specs.Trusted.Tests.{pairwise}
 use Rattle.table.specs.LoopLaws.{rising_stops, rising_goes, rising_ends}
 use Rattle.table_inputs.proofs.rising.Goals as goal
 

@@ -1,12 +1,8 @@
 use Prim.Native.Nat.{◌-◌, ◌≤◌}
-use native.Mathlib.Omega.{arith}
-use mathlib.Core.Path.{◌≡◌, refl, sym, ◌∙◌}
-use borrow.Author.Rules.{rules}
-use borrow.Author.Tests.{lt-ltb, le-ltb}
+use mathlib.Core.Path.{◌≡◌}
 use lib.Dec.{ltb}
 use lib.ListN.{length, take, drop}
 use Rattle.lists.specs.Trusted.Tests.{pairwise}
-use Rattle.table.specs.LoopLaws.{rising_stops, rising_goes, rising_ends}
 use Rattle.table_inputs.proofs.rising.Given as goal
 
 abbrev pub invariant-loop-i : goal.invariant-loop-i

@@ -1,6 +1,5 @@
 use mathlib.Core.Path.{sym}
 use lib.ListN.{get_or-eq_default}
-use borrow.Author.Rules.{rules}
 use Rattle.table_levels.proofs.level_at.Goals as goal
 
 pub returns-else-at-levels : goal.returns-else-at-levels

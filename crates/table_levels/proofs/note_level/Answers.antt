@@ -1,7 +1,6 @@
 use mathlib.Core.Path.{ap, ◌∙◌}
 use borrow.Author.Tests.{eq-eqb, ne_eqb}
 use lib.ListN.{set}
-use borrow.Author.Rules.{rules}
 use Rattle.table_levels.proofs.note_level.Goals as goal
 
 pub returns-then-net-ne0 : goal.returns-then-net-ne0

@@ -1,6 +1,5 @@
 use mathlib.Core.Path.{sym}
 use lib.Seq.{set_out}
-use borrow.Author.Rules.{rules}
 use Rattle.table_levels.proofs.set_level.Goals as goal
 
 pub returns-else-code-levels : goal.returns-else-code-levels

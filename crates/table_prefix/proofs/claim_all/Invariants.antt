@@ -1,11 +1,7 @@
-use Prim.Native.Nat.{◌+◌, ◌-◌}
-use native.Mathlib.Omega.{arith}
-use mathlib.Core.Path.{◌≡◌, refl, sym, ap, ◌∙◌}
-use borrow.Author.Rules.{rules}
-use lib.ListN.{length, get_or, take, drop}
-use Rattle.flags.specs.FlagLaws.{raised_length}
+use Prim.Native.Nat.{◌-◌}
+use mathlib.Core.Path.{◌≡◌}
+use lib.ListN.{length, take, drop}
 use Rattle.table.specs.PrefixTest.{claim_all}
-use Rattle.table.specs.LoopLaws.{take_next, take_none}
 use Rattle.table_prefix.proofs.claim_all.Given as goal
 
 abbrev pub invariant-loop-i : goal.invariant-loop-i

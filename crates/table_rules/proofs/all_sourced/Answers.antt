@@ -1,10 +1,6 @@
-use Prim.Native.Nat.{◌-◌}
 use native.Mathlib.Omega.{arith}
-use mathlib.Core.Path.{◌≡◌, refl, sym, ◌∙◌}
+use mathlib.Core.Path.{refl, sym, ◌∙◌}
 use borrow.Author.Rules.{rules}
-use borrow.Author.Tests.{not-true, not-false}
-use lib.ListN.{length, take, drop}
-use Rattle.lists.specs.Trusted.Tests.{all}
 use Rattle.table.specs.PrefixTest.{sourced_in}
 use Rattle.table.specs.LoopLaws.{all_take_stops, all_take_goes, all_take_ends}
 use Rattle.table_rules.proofs.all_sourced.Goals as goal

@@ -1,6 +1,5 @@
 use mathlib.Core.Path.{sym, ap, ◌∙◌}
 use borrow.Author.Rules.{rules}
-use borrow.Author.Tests.{not-true, not-false}
 use lib.ListN.{take}
 use Rattle.lists.specs.Trusted.Tests.{all}
 use Rattle.table.specs.PrefixTest.{sourced_in}

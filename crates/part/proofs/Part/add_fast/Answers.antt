@@ -1,6 +1,4 @@
 use mathlib.Core.Path.{refl, sym, ◌∙◌}
-use borrow.Author.Rules.{rules}
-use borrow.Author.Tests.{not-true, not-false}
 use Rattle.table.specs.ResultLaws.{says_true}
 use Rattle.table.specs.LevelTest.{no_levels}
 use Rattle.part.specs.Trusted.SoundTest.{sound}

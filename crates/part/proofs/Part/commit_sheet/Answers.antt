@@ -1,7 +1,5 @@
 use mathlib.Core.Path.{◌≡◌, sym, subst}
-use mathlib.Core.List.{List, [], ◌∷◌}
-use types.Run.{miss}
-use borrow.Author.Rules.{rules}
+use mathlib.Core.List.{List, []}
 use Rattle.lists.specs.Trusted.Checked.{passed}
 use Rattle.sheet.specs.Trusted.Read.{read_sheet}
 use Rattle.sheet.specs.Trusted.Answers.{number_of, drawn_sheet}
@@ -21,7 +19,7 @@ use Rattle.part.proofs.StoringLaws.{sheet_mappable, mapped_storable, mapped_offe
 use Rattle.part.proofs.SetLaws.{refusal}
 use Rattle.part.proofs.ReserveLaws.{released_sound, commit_sheet, commit_misread, commit_other, commit_refused, commit_accepted}
 use Rattle.part.proofs.Part.commit_sheet.Goals as goal
-use Rattle.part.proofs.Part.commit_sheet.Goals.{After-offer-added, After-read-reading, In_default}
+use Rattle.part.proofs.Part.commit_sheet.Goals.{After-offer-added, In_default}
 
 pub returns-in-Refused : goal.returns-in-Refused
 returns-in-Refused c =

@@ -1,12 +1,11 @@
-use Prim.Native.Nat.{ℕ, suc, ◌+◌, ◌-◌, ◌≤◌}
+use Prim.Native.Nat.{ℕ, suc, ◌+◌, ◌≤◌}
 use native.Mathlib.Omega.{arith}
 use native.Mathlib.Numerals.{add-one}
 use mathlib.Core.Path.{◌≡◌, refl, sym, ap, ◌∙◌, subst}
 use mathlib.Core.Bool.{false}
-use mathlib.Core.List.{List, ◌++◌, append-nil}
-use borrow.Author.Rules.{rules}
+use mathlib.Core.List.{◌++◌, append-nil}
 use lib.ListN.{length, get_or, set, take}
-use lib.Seq.{paste, paste-zero, paste-suc}
+use lib.Seq.{paste-zero, paste-suc}
 use Rattle.table.specs.declared.Table.{Table}
 use Rattle.table.specs.Trusted.Limits.{table_room}
 use Rattle.table.specs.Trusted.Records.{blank}
@@ -14,7 +13,6 @@ use Rattle.table.specs.LevelTest.{level_in, LevelsStand}
 use Rattle.table.specs.LevelTestLaws.{noted_length, levels_small}
 use Rattle.pending.specs.declared.Lut.{Lut}
 use Rattle.pending.specs.Luts.{lut_reads}
-use Rattle.mapper_laws.specs.declared.Mapping.{Mapping}
 use Rattle.mapper_laws.specs.CodeRun.{no_table}
 use Rattle.part.specs.Trusted.Parts.{tables_of, Shaped}
 use Rattle.part.specs.Trusted.Answers.{accepted}
@@ -25,7 +23,7 @@ use Rattle.part.specs.declared.Part.{Part}
 use Rattle.part.specs.declared.Adding.TheVariants.{OutputDriven, OutputRead, Full}
 use Rattle.table.proofs.Shape.{past}
 use Rattle.part.proofs.Shape.{shaped}
-use Rattle.part.proofs.Part.offer.Invariants.{holding, pasted}
+use Rattle.part.proofs.Part.offer.Invariants.{holding, records_pasted}
 use Rattle.part.proofs.Part.offer.Goals as goal
 use Rattle.part.proofs.Part.offer.Goals.{After-loop-i, Else-uses, Else-uses-2, Start}
 
@@ -116,8 +114,8 @@ loop-n-preserved c =
     let l = c.loop-n in
     let n = c.next_level-level in
     let r = get_or m.tables l.n no_table in
-    let q : Table → Part = λ t. holding p (set (pasted p m l.n) (p.used + l.n) t) in
-    let e : pasted p m (suc l.n) ≡ pasted p m (l.n + 1) = rw add-one in
+    let q : Table → Part = λ t. holding p (set (records_pasted p m l.n) (p.used + l.n) t) in
+    let e : records_pasted p m (suc l.n) ≡ records_pasted p m (l.n + 1) = rw add-one in
     let left = c.if-needed-self.false in
     let h = self_shaped (goal.at.loop-n-preserved c).Start in (
       omega arith,
@@ -140,7 +138,7 @@ returns c =
     let h = self_shaped (goal.at.returns c).Start in
     let r = c.args.mapping in
     let e : l.n ≡ r.count = omega arith in
-    let i = ap (counting (p.used + r.count)) (l.invariant.1 ∙ ap (λ n. holding p (pasted p r n)) e) in
+    let i = ap (counting (p.used + r.count)) (l.invariant.1 ∙ ap (λ n. holding p (records_pasted p r n)) e) in
     subst (λ q. Offered p c.args.out r q accepted × LevelsStand l.levels (tables_of q)) (sym i) (
       offer_stored p h c.requires.0 c.args.out r c.requires.1 (not_driven (goal.at.returns c).Else-uses) (not_read (goal.at.returns c).Else-uses-2) c.if-needed-self.false,
       levels_stored p h c.requires.0 c.args.out r c.requires.1 l.levels (subst (λ n. LevelsStand l.levels (tables_of p ++ take n (new_tables r))) e l.invariant.2),

@@ -1,6 +1,5 @@
 use native.Mathlib.Omega.{arith}
 use mathlib.Core.Path.{sym, ap, ◌∙◌}
-use borrow.Author.Rules.{rules}
 use Rattle.lists.specs.TestLaws.{reflects_within}
 use Rattle.table.specs.ResultLaws.{says_true}
 use Rattle.part.specs.Trusted.Answers.{accepted, refused}

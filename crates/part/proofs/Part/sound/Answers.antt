@@ -1,5 +1,4 @@
 use mathlib.Core.Path.{refl}
-use borrow.Author.Rules.{rules}
 use Rattle.table.specs.LevelTest.{no_levels}
 use Rattle.part.specs.Trusted.SoundTest.{sound}
 use Rattle.part.proofs.Part.sound.Goals as goal

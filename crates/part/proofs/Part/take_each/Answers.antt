@@ -1,17 +1,12 @@
-use Prim.Native.Nat.{◌-◌}
 use native.Mathlib.Nat.{add-sub_cancel_left}
 use native.Mathlib.Omega.{arith}
-use mathlib.Core.Path.{◌≡◌, refl, sym, subst}
-use mathlib.Core.List.{[], ◌∷◌}
-use types.Run.{miss}
-use borrow.Author.Rules.{rules}
-use lib.ListN.{length, get_or, take, drop}
-use Rattle.table.specs.LevelTest.{LevelsStand}
-use Rattle.part.specs.Trusted.Parts.{tables_of}
+use mathlib.Core.Path.{refl, sym, subst}
+use mathlib.Core.List.{[]}
+use lib.ListN.{get_or, take, drop}
 use Rattle.part.specs.Trusted.Ways.{least}
 use Rattle.part.specs.Trusted.Add.{Add}
 use Rattle.part.specs.Trusted.AddAnswers.{adding_answer}
-use Rattle.part.proofs.SetLaws.{SetEnded, SetSoFar, set_start, set_room, set_stop, set_more, set_all}
+use Rattle.part.proofs.SetLaws.{SetEnded, set_start, set_room, set_stop, set_more, set_all}
 use Rattle.part.proofs.Shape.{shaped}
 use Rattle.part.proofs.Part.take_each.Goals as goal
 use Rattle.part.proofs.Part.take_each.Goals.{After-take-added}

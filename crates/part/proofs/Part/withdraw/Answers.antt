@@ -1,12 +1,9 @@
 use mathlib.Core.Path.{sym, ap, ◌∙◌}
 use mathlib.Core.List.{[]}
-use borrow.Author.Rules.{rules}
-use borrow.Author.Tests.{not-true, not-false}
 use Rattle.part.specs.Trusted.AddAnswers.{adding_result}
 use Rattle.part.proofs.ReserveLaws.{withdraw_unsound, withdraw_closed, withdraw_open}
 use Rattle.part.specs.declared.Adding.TheVariants.{Accepted}
 use Rattle.part.proofs.Part.withdraw.Goals as goal
-use Rattle.part.proofs.Part.withdraw.Goals.{After-released}
 
 pub returns-then-not-sound : goal.returns-then-not-sound
 returns-then-not-sound c =
