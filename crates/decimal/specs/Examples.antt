@@ -12,7 +12,7 @@ minus : ℕ → Option Number
 minus n = some (record { negative = true; magnitude = n })
 
 -- "     0", "   -10", "999999", "-99999", and the widest codes of fanins and table inputs (request 102), "-10255" and " 10800"
-numbers-read :
+numbers_read :
     map field_number (
     (32 ∷ 32 ∷ 32 ∷ 32 ∷ 32 ∷ 48 ∷ []) ∷
     (32 ∷ 32 ∷ 32 ∷ 45 ∷ 49 ∷ 48 ∷ []) ∷
@@ -23,10 +23,10 @@ numbers-read :
     [])
     ≡ plus 0 ∷ minus 10 ∷ plus 999999 ∷ minus 99999 ∷ minus 10255 ∷ plus 10800 ∷ []
 unfolding plus minus
-numbers-read = refl
+numbers_read = refl
 
 -- blanks alone, "     -", "    -0", "    00", "   007", "    +5", a tab for a blank, "    5 ", five columns, seven columns
-no-numbers :
+no_numbers :
     map field_number (
     replicate 6 32 ∷
     (32 ∷ 32 ∷ 32 ∷ 32 ∷ 32 ∷ 45 ∷ []) ∷
@@ -40,17 +40,17 @@ no-numbers :
     (32 ∷ 32 ∷ 32 ∷ 32 ∷ 32 ∷ 32 ∷ 53 ∷ []) ∷
     [])
     ≡ replicate 10 none
-no-numbers = refl
+no_numbers = refl
 
 -- the greatest of 64 bits in 21 columns, "0", "  120"
-words-read :
+words_read :
     map word_number (
     (32 ∷ 49 ∷ 56 ∷ 52 ∷ 52 ∷ 54 ∷ 55 ∷ 52 ∷ 52 ∷ 48 ∷ 55 ∷ 51 ∷ 55 ∷ 48 ∷ 57 ∷ 53 ∷ 53 ∷ 49 ∷ 54 ∷ 49 ∷ 53 ∷ []) ∷
     (48 ∷ []) ∷
     (32 ∷ 32 ∷ 49 ∷ 50 ∷ 48 ∷ []) ∷
     [])
     ≡ some (2 ^ 64 - 1) ∷ some 0 ∷ some 120 ∷ []
-words-read = refl
+words_read = refl
 
 -- one more than the greatest, the least of 21 digits, "-1", " 07", blanks alone, no column
 no_words :
@@ -75,16 +75,16 @@ fields_written :
 fields_written = refl
 
 -- -1, -120 and 5 in four columns; a minus sign takes one column
-signs-written :
+signs_written :
     map (λ v. signed_field_of 4 (number_of_int v)) (negsuc 0 ∷ negsuc 119 ∷ pos 5 ∷ [])
     ≡ (32 ∷ 32 ∷ 45 ∷ 49 ∷ []) ∷ (45 ∷ 49 ∷ 50 ∷ 48 ∷ []) ∷ (32 ∷ 32 ∷ 32 ∷ 53 ∷ []) ∷ []
-signs-written = refl
+signs_written = refl
 
 -- -10255 and 10800 in six columns
-codes-written :
+codes_written :
     map (λ v. signed_field_of 6 (number_of_int v)) (negsuc 10254 ∷ pos 10800 ∷ [])
     ≡ (45 ∷ 49 ∷ 48 ∷ 50 ∷ 53 ∷ 53 ∷ []) ∷ (32 ∷ 49 ∷ 48 ∷ 56 ∷ 48 ∷ 48 ∷ []) ∷ []
-codes-written = refl
+codes_written = refl
 
 sign_room : map (λ v. signed_room 4 (number_of_int v)) (negsuc 998 ∷ negsuc 999 ∷ pos 9999 ∷ pos 10000 ∷ []) ≡ true ∷ false ∷ true ∷ false ∷ []
 sign_room = refl

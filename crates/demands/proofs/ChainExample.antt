@@ -253,10 +253,10 @@ unfolding AddSet sound blanks
 set_torn = (_, InTurn.stop misread_first)
 
 -- lengths that do not add up, no sheet, and seventeen; and 20 before 33
-sets-unfit :
+sets_unfit :
     map (λ (lengths : List ℕ). is_whole lengths 126) ((88 ∷ 38 ∷ []) ∷ (88 ∷ 37 ∷ []) ∷ (88 ∷ 39 ∷ []) ∷ (126 ∷ replicate 15 0) ∷ (126 ∷ replicate 16 0) ∷ (126 ∷ 4294967295 ∷ 1 ∷ []) ∷ [])
     ≡ true ∷ false ∷ false ∷ true ∷ false ∷ false ∷ []
-sets-unfit = refl
+sets_unfit = refl
 
 set_empty : AddSet start [] [] (turned_away start 33)
 unfolding AddSet sound blanks

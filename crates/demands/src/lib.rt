@@ -1,2 +1,2 @@
-// The user's three demands and their laws, over the contracts of `part` and `listing`. They are all in specs/: there is no code.
+// The user's three demands and their laws, over the contracts of `part` and `listing`. There is no code.
 #![tactic(auto)]

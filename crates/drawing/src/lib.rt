@@ -1,2 +1,2 @@
-// A drawn sheet written as text, and what comes of reading it. It is all in specs/: there is no code.
+// A drawn sheet written as text, and what comes of reading it. There is no code.
 #![tactic(auto)]

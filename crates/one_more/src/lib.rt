@@ -1,2 +1,2 @@
-// Laws of one leaf more at one gate of a sheet (02, #111). They are all in specs/: there is no code.
+// Laws of one leaf more at one gate of a sheet (02, #111). There is no code.
 #![tactic(auto)]

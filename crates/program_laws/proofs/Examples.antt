@@ -28,24 +28,24 @@ unfolding ◌>>=◌ require given
 sheets_cut = refl
 
 -- one field, three fields, an unended line, nothing, a short field, a line feed inside; K 1 and 7, capacity 0 and 801, both, with a minus sign
-openings-refused :
+openings_refused :
     map (λ (input : List ℕ). (opened_by (opening_numbers input)).answer) (
     bytes "     4\n" ∷ bytes "     4     8     1\n" ∷ bytes "     4     8" ∷ [] ∷ bytes "     4    8\n" ∷ bytes "     4\n    8\n" ∷
     bytes "     1     8\n" ∷ bytes "     7     8\n" ∷ bytes "     4     0\n" ∷ bytes "     4   801\n" ∷ bytes "     1     0\n" ∷
     bytes "    -4     8\n" ∷ bytes "     4    -8\n" ∷ bytes "     4     8\n" ∷ [])
     ≡ refused 1 0 ∷ refused 1 0 ∷ refused 1 0 ∷ refused 1 0 ∷ refused 1 0 ∷ refused 1 0 ∷
     refused 2 0 ∷ refused 2 0 ∷ refused 3 0 ∷ refused 3 0 ∷ refused 2 0 ∷ refused 2 0 ∷ refused 3 0 ∷ accepted ∷ []
-openings-refused = refl
+openings_refused = refl
 
-refusals-printed :
+refusals_printed :
     map (λ (r : ℕ × ℕ × ℕ). refusal_line r.0 r.1 r.2) ((1, 0, 0) ∷ (23, 801, 0) ∷ (6, 2, 256) ∷ [])
     ≡ bytes "    -1     0     0\n" ∷ bytes "   -23   801     0\n" ∷ bytes "    -6     2   256\n" ∷ []
-refusals-printed = refl
+refusals_printed = refl
 
-refusals-first :
+refusals_first :
     map (first_refusal 0) ([] ∷ (accepted ∷ accepted ∷ []) ∷ (accepted ∷ refused 23 0 ∷ refused 6 2 ∷ []) ∷ (refused 6 2 ∷ accepted ∷ []) ∷ [])
     ≡ none ∷ none ∷ some (23, 2, 0) ∷ some (6, 1, 2) ∷ []
-refusals-first = refl
+refusals_first = refl
 
 -- the calls of a text of two sheets: both, or the first alone where that is refused
 two_calls : (o p q : Part) → Texts (first_text ++ second_text) (add least first_text ∷ add least second_text ∷ [])
