@@ -29,7 +29,7 @@
 //                                              the fewest levels
 #![tactic(auto)]
 
-ghost use Rattle.std.specs.Prelude.{◌≤◌};
+ghost use Rattle.std.specs.Prelude.{◌≡◌, ◌≤◌, length};
 ghost use Rattle.std.specs.Io.{ReadsAtMost};
 
 use decimal::Field;
@@ -305,13 +305,15 @@ fn open(rt: &impl Print, s: &[u8]) -> io::Result<Part> {
     Ok(o.part)
 }
 
-// Reads the file that an argument names into the buffer, and gives its length.
+// Reads the file that an argument names into the buffer, and gives its length. No argument names no file. An error is that of the arguments'
+// memory or of the file, and leaves any bytes in the buffer.
 fn read_sheet(rt: &(impl Env + Files + Alloc), argument: usize, buf: &mut [u8]) -> io::Result<usize>
-    ensures { ReadsAtMost result buf.new }
+    ensures bound { ReadsAtMost result buf.new }
+    ensures length { length buf.new ≡ length buf.old }
 {
     match env::args(rt)?.nth(argument) {
         Some(name) => read_file(rt, name.as_str(), buf),
-        None => Err(io::Error::from(io::ErrorKind::NotFound)),
+        None => read_file(rt, "", buf),
     }
 }
 
