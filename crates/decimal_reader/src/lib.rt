@@ -60,7 +60,8 @@ fn signed(s: &[u8], at: usize) -> Field
     if s[at] == b'-' {
         match natural(s, at + 1) {
             Parsed::Natural(n) => {
-                if n == 0 {
+                let zero = n == 0;
+                if zero {
                     Field::NoNumber
                 } else {
                     Field::Value(-(n as i32))

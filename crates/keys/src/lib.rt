@@ -50,12 +50,13 @@ pub fn cuts_of(k: u8, a: Key, b: Key) -> Cuts
             right: false,
         };
     }
+    let narrow = a.width <= b.width;
     if lesser(a.width, b.width) >= k {
         Cuts {
             left: true,
             right: true,
         }
-    } else if a.width <= b.width {
+    } else if narrow {
         Cuts {
             left: false,
             right: true,

@@ -178,7 +178,8 @@ pub fn gate_lines(k: u8, f: Fans, a: u16, g: usize, store: &mut [u8; STORE_ROOM]
                 return count + 1;
             }
             count += 1;
-            if count == 256 {
+            let full = count == 256;
+            if full {
                 return count;
             }
         }

@@ -75,7 +75,6 @@ fn print(rt: &(impl Print + Eprint), input: &[u8]) {
     }
 }
 
-#[tactic(auto, unfolding(program_laws::specs::Front::front_bytes))]
 fn main(rt: HostRuntime) {
     let mut input = [0u8; ROOM];
     let got = read_all(&mut rt.stdin(), &mut input);

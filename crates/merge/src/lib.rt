@@ -65,7 +65,8 @@ fn insert(inputs: &mut [u16; 6], count: usize, code: u16)
     let mut i = 0;
     while i < count {
         let x = inputs[i];
-        if next <= x {
+        let lower = next <= x;
+        if lower {
             inputs[i] = next;
             next = x;
         }

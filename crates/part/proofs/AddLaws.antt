@@ -15,7 +15,6 @@ use Rattle.cover.proofs.CoverTableLaws.{added_sized}
 use Rattle.table.specs.Trusted.Limits.{input_room}
 use Rattle.part.specs.Trusted.Parts.{tables_of, available, Shaped}
 use Rattle.part.specs.Trusted.Sound.{Sound}
-use Rattle.part.specs.Trusted.SoundTest.{sound}
 use Rattle.part.specs.SoundLaws.{sound_reflects}
 use Rattle.part.specs.Trusted.Ways.{Way, reading, NumberBy}
 use Rattle.part.proofs.WayLaws.{reading_right, number_unique, chosen_added, chosen_number}

@@ -33,7 +33,8 @@ fn rules_kept(k: u8, capacity: u16, used: u16, tables: [Table; 800], levels: &mu
         if !keeps_points(prefix, k, r) {
             return false;
         }
-        if !is_levelled(levels, i, r) {
+        let levelled = is_levelled(levels, i, r);
+        if !levelled {
             return false;
         }
         prefix = after(prefix, r);

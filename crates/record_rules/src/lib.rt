@@ -39,7 +39,8 @@ pub fn coded(r: Table) -> bool
     ensures { result ≡ is_coded r }
 {
     let inputs = r.inputs;
-    if r.net <= GREATEST_NET {
+    let of_net = r.net <= GREATEST_NET;
+    if of_net {
         all_codes(inputs, in_use(r.count))
     } else {
         false

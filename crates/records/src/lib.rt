@@ -90,7 +90,8 @@ pub fn step(w: Walk, t: Table, n: usize) -> Walk
     let next = at + 1;
     if at < w.capacity as usize {
         if keeps_points(prefix, w.k, t) {
-            if is_levelled(&mut levels, at, t) {
+            let levelled = is_levelled(&mut levels, at, t);
+            if levelled {
                 let more = after(prefix, t);
                 return Walk {
                     prefix: more,

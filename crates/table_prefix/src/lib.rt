@@ -35,7 +35,8 @@ fn claim_all(claimed: &mut [u64], inputs: [u16; 6], n: usize)
 fn mark_driver(drives: &mut [u64], net: u16, at: usize)
     ensures { drives.new ≡ with_driver drives.old net at }
 {
-    if net != 0 {
+    let driven = net != 0;
+    if driven {
         raise(drives, at);
     }
 }

@@ -15,7 +15,7 @@ returns-then-s-i-ne32 c =
 pub loop-i-preserved : goal.loop-i-preserved
 loop-i-preserved c =
     let s = c.args.s.now in
-    (omega arith, c.loop-i.invariant.1 ∙ number_blank s c.loop-i.i (omega arith) c.if-s-i-ne32.false)
+    (omega arith, c.loop-i.invariant.1 ∙ number_blank s c.loop-i.i (omega arith) (omega arith))
 
 pub returns : goal.returns
 returns c =

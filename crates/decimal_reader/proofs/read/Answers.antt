@@ -1,3 +1,4 @@
+use native.Mathlib.Omega.{arith}
 use mathlib.Core.Path.{sym, ap, ◌∙◌}
 use Rattle.decimal.specs.Trusted.Reading.{field_answer}
 use Rattle.decimal_reader.proofs.NumberLaws.{field_signed, field_other}
@@ -8,4 +9,4 @@ returns-then-s-ne-COLUMNS c = sym (ap field_answer (field_other c.args.s.now c.i
 
 pub returns : goal.returns
 returns c =
-    c.signed.ensures ∙ sym (ap field_answer (field_signed c.args.s.now c.blanks.result c.if-s-ne-COLUMNS.false c.blanks.ensures))
+    c.signed.ensures ∙ sym (ap field_answer (field_signed c.args.s.now c.blanks.result (omega arith) c.blanks.ensures))

@@ -16,18 +16,18 @@ returns-then-lesser-k c =
     let i : a.k < 1 + min a.a.width a.b.width = omega arith in
     simp (lt-leb _ _ h, lt-leb _ _ i)
 
-pub returns-then-a-b-2 : goal.returns-then-a-b-2
+pub returns-then-narrow : goal.returns-then-narrow
 unfolding cuts
-returns-then-a-b-2 c =
+returns-then-narrow c =
     let a = c.args in
     let h : a.k < a.a.width + a.b.width = omega arith in
     let i : 1 + min a.a.width a.b.width ≤ a.k = omega arith in
-    simp (lt-leb _ _ h, le-leb _ _ i, le-leb _ _ c.if-a-b-2.true)
+    simp (lt-leb _ _ h, le-leb _ _ i, le-leb _ _ c.if-narrow.true)
 
-pub returns-else-a-b-2 : goal.returns-else-a-b-2
+pub returns-else-narrow : goal.returns-else-narrow
 unfolding cuts
-returns-else-a-b-2 c =
+returns-else-narrow c =
     let a = c.args in
     let h : a.k < a.a.width + a.b.width = omega arith in
     let i : 1 + min a.a.width a.b.width ≤ a.k = omega arith in
-    simp (lt-leb _ _ h, le-leb _ _ i, lt-leb _ _ c.if-a-b-2.false)
+    simp (lt-leb _ _ h, le-leb _ _ i, lt-leb _ _ c.if-narrow.false)

@@ -11,7 +11,7 @@ use Rattle.level_arrays.specs.Arrays.{big, line_at, start_at, SearchStill, Lines
 use Rattle.level_rows.specs.Runs.{RunWritten}
 use Rattle.level_lines.proofs.Lining.{all_big, LinesSo, bounds_start, bounds_likened, bounds_turn, bounds_keep, bounds_done, Lining, change_above}
 use Rattle.level_lines.proofs.gate_lines.Goals as goal
-use Rattle.level_lines.proofs.gate_lines.Goals.{After-fill_like-end, After-keep_line, After-lift, then-a-steps, else-a-steps, then-bound-a+else-one-count+else-stands_still+else-count-eq256, else-bound-a}
+use Rattle.level_lines.proofs.gate_lines.Goals.{After-fill_like-end, After-keep_line, After-lift, then-a-steps, else-a-steps, then-bound-a+else-one-count+else-stands_still+else-full, else-bound-a}
 
 -- the masks end within their room
 ended : (c : After-fill_like-end) → (1 ≤ c.fill_like-end.result) × (c.fill_like-end.result ≤ masks)
@@ -145,17 +145,17 @@ returns-then-stands_still c =
           ∙ c.loop-bound.invariant.same (0 + m * 8 + w) (omega (arith, c.requires.0.some.table.1));
     }))
 
-pub returns-then-count-eq256 : goal.returns-then-count-eq256
-returns-then-count-eq256 c = done (goal.at.returns-then-count-eq256 c).After-keep_line (kept_line (goal.at.returns-then-count-eq256 c).After-lift c.if-bound-a.true c.keep_line.ensures) (inr (inl c.if-count-eq256.true))
+pub returns-then-full : goal.returns-then-full
+returns-then-full c = done (goal.at.returns-then-full c).After-keep_line (kept_line (goal.at.returns-then-full c).After-lift c.if-bound-a.true c.keep_line.ensures) (inr (inl c.if-full.true))
 
 pub loop-bound-preserved : goal.loop-bound-preserved
 loop-bound-preserved c =
     let i = c.loop-bound.invariant in
     let here = (goal.at.loop-bound-preserved c).After-lift in
     elim c.if-bound-a.branch [
-      | then-bound-a+else-one-count+else-stands_still+else-count-eq256 w ↦
+      | then-bound-a+else-one-count+else-stands_still+else-full w ↦
           rw (w.store-is, w.count-is)
-          (again here _ _ _ (kept_line here w.if-bound-a.true w.keep_line.ensures) (omega arith) (omega (arith, i.few, w.if-count-eq256.false)) c.copy_rows.ensures)
+          (again here _ _ _ (kept_line here w.if-bound-a.true w.keep_line.ensures) (omega arith) (omega (arith, i.few, w.if-full.false)) c.copy_rows.ensures)
       | else-bound-a w ↦
           rw (w.store-is, w.count-is) (again here _ _ _ (turned here) (omega arith) i.few c.copy_rows.ensures)
     ]

@@ -1,3 +1,4 @@
+use native.Mathlib.Omega.{arith}
 use mathlib.Core.Path.{sym, ap, ◌∙◌}
 use Rattle.list_reading.specs.Trusted.ListAnswers.{list_answer}
 use Rattle.list_numbers.specs.Trusted.Numbers.{numbers_read}
@@ -15,5 +16,5 @@ returns-then-code-ne0 c =
 pub returns : goal.returns
 returns c =
     let a = c.args in
-    let e = code_accepted a.read.answer (sym c.answer_code-code.ensures ∙ c.if-code-ne0.false) in
+    let e = code_accepted a.read.answer (sym c.answer_code-code.ensures ∙ omega arith) in
     c.put_part.ensures ∙ ap (λ b. numbers_read (came_of a.read.part b) a.numbers.now) (sym e)

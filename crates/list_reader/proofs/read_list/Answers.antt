@@ -2,12 +2,14 @@ use Prim.Native.Nat.{◌≤◌}
 use native.Mathlib.Omega.{arith}
 use mathlib.Core.Path.{◌≡◌, refl, sym, ap, ◌∙◌}
 use mathlib.Core.Bool.{true}
+use borrow.Author.Rules.{rules}
 use borrow.Author.Tests.{le-leb, lt-leb}
 use Rattle.lists.specs.Trusted.Tests.{within}
 use Rattle.lists.specs.TestLaws.{reflects_within}
 use Rattle.table.specs.ResultLaws.{says_true}
 use Rattle.list_reading.specs.Trusted.ReadList.{read_result}
 use Rattle.list_reading.specs.LoopLaws.{handed_refused, top_bad, k_bad, capacity_bad, used_bad, top_passed}
+use Rattle.list_reading.specs.declared.ListAnswer.TheVariants.{RuleBroken}
 use Rattle.list_reader.proofs.read_list.Goals as goal
 use Rattle.list_reader.proofs.read_list.Goals.{Else-not-laid, Else-not-within, Else-not-within-2}
 
@@ -38,8 +40,12 @@ returns-then-not-within-2 c =
 
 pub returns-then-used-capacity : goal.returns-then-used-capacity
 returns-then-used-capacity c =
-    handed_refused c.refused-then-used-capacity.ensures refl
-    (used_bad c.args.text.now c.read_top-top.result c.read_top-top.ensures (laid (goal.at.returns-then-used-capacity c).Else-not-laid) (good_k (goal.at.returns-then-used-capacity c).Else-not-within) (good_capacity (goal.at.returns-then-used-capacity c).Else-not-within-2)
+    let t = c.read_top-top in
+    let l : t.result.laid ≡ true = search rules in
+    let k : within 2 6 t.result.k ≡ true = search rules in
+    let n : within 1 800 t.result.capacity ≡ true = search rules in
+    handed_refused {a = RuleBroken 0} (search rules) refl
+    (used_bad c.args.text.now t.result t.ensures l k n
     (lt-leb c.read_top-top.result.used c.read_top-top.result.capacity c.if-used-capacity.true))
 
 capacity_range : (c : Else-not-within-2) → let n = c.read_top-top.result.capacity in (1 ≤ n) × (n ≤ 800)

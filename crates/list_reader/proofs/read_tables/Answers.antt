@@ -2,6 +2,7 @@ use Prim.Native.Nat.{◌+◌}
 use native.Mathlib.Omega.{arith}
 use mathlib.Core.Path.{◌≡◌, refl, sym, ap, ◌∙◌, subst}
 use mathlib.Core.Bool.{true}
+use borrow.Author.Rules.{rules}
 use borrow.Author.Tests.{not-true, not-false}
 use lib.ListN.{set}
 use Rattle.table.specs.LevelTest.{no_levels}
@@ -12,6 +13,7 @@ use Rattle.part.specs.Trusted.Answers.{accepted}
 use Rattle.part_records.specs.Trusted.Reservations.{unreserved}
 use Rattle.list_reading.specs.Trusted.ReadList.{read_result}
 use Rattle.list_reading.specs.LoopLaws.{LinesSoFar, handed_refused, lines_none, line_bad, rule_bad, line_good, rest_refused, rest_over, rest_all}
+use Rattle.list_reading.specs.declared.ListAnswer.TheVariants.{RuleBroken}
 use Rattle.list_reader.proofs.read_tables.Goals as goal
 use Rattle.list_reader.proofs.read_tables.Goals.{After-keeps_points, After-loop-t}
 
@@ -37,7 +39,7 @@ laid q = not-false _ q.if-not-read.false
 pub returns-then-not-keeps_points : goal.returns-then-not-keeps_points
 returns-then-not-keeps_points c =
     let a = c.args in
-    handed_refused c.refused-then-not-keeps_points.ensures refl
+    handed_refused {a = RuleBroken (c.loop-t.t + 1)} (search rules) refl
     (rest_refused a.text.now a.k a.capacity a.used
     (rule_bad a.text.now a.k a.used c.loop-t.invariant.3 (omega arith) c.read_table-read.result c.read_table-read.ensures (laid (goal.at.returns-then-not-keeps_points c).After-keeps_points)
     (sym c.keeps_points.ensures ∙ c.if-not-keeps_points.true)))

@@ -32,24 +32,24 @@ returns-then-not-keeps_points c =
     let e : keeps a.k (take l.i a.tables) r ≡ false = kept_breaks l.invariant.2 a.k r (sym c.keeps_points.ensures ∙ c.if-not-keeps_points.true) in
     (sym (ap is_none (l.invariant.3 ∙ walk_stops a.k a.capacity a.tables a.used l.i (omega arith) past (omega arith) (lt-ltb l.i a.capacity (omega arith)) e)), never_true)
 
-pub is_levelled-requires : goal.is_levelled-requires
-is_levelled-requires c =
+pub is_levelled-levelled-requires : goal.is_levelled-levelled-requires
+is_levelled-levelled-requires c =
     let l = c.loop-i in
     (omega arith, levels_small l.levels _ l.invariant.2.by_code)
 
-pub shape_of-levels-then-not-is_levelled : goal.shape_of-levels-then-not-is_levelled
-shape_of-levels-then-not-is_levelled c =
+pub shape_of-levels-then-not-levelled : goal.shape_of-levels-then-not-levelled
+shape_of-levels-then-not-levelled c =
     let l = c.loop-i in
     let r = get_or c.args.tables l.i past in
-    ap length c.is_levelled.ensures.1 ∙ noted_length l.levels l.i r.net (level_in l.levels (reads r)) ∙ l.invariant.4
+    ap length c.is_levelled-levelled.ensures.1 ∙ noted_length l.levels l.i r.net (level_in l.levels (reads r)) ∙ l.invariant.4
 
-pub returns-then-not-is_levelled : goal.returns-then-not-is_levelled
-returns-then-not-is_levelled c =
+pub returns-then-not-levelled : goal.returns-then-not-levelled
+returns-then-not-levelled c =
     let a = c.args in
     let l = c.loop-i in
     let r = get_or a.tables l.i past in
     let points = sym c.keeps_points.ensures ∙ c.if-not-keeps_points.false in
-    let e : keeps a.k (take l.i a.tables) r ≡ false = kept_wrong l.invariant.2 a.k r points (sym c.is_levelled.ensures.0 ∙ c.if-not-is_levelled.true) in
+    let e : keeps a.k (take l.i a.tables) r ≡ false = kept_wrong l.invariant.2 a.k r points (sym c.is_levelled-levelled.ensures.0 ∙ c.if-not-levelled.true) in
     (sym (ap is_none (l.invariant.3 ∙ walk_stops a.k a.capacity a.tables a.used l.i (omega arith) past (omega arith) (lt-ltb l.i a.capacity (omega arith)) e)), never_true)
 
 pub loop-i-preserved : goal.loop-i-preserved
@@ -58,9 +58,9 @@ loop-i-preserved c =
     let l = c.loop-i in
     let r = get_or a.tables l.i past in
     let b = take l.i a.tables in
-    let n = c.is_levelled in
+    let n = c.is_levelled-levelled in
     let points = sym c.keeps_points.ensures ∙ c.if-not-keeps_points.false in
-    let e : keeps a.k b r ≡ true = kept_right l.invariant.2 a.k r points (sym n.ensures.0 ∙ c.if-not-is_levelled.false) in
+    let e : keeps a.k b r ≡ true = kept_right l.invariant.2 a.k r points (sym n.ensures.0 ∙ c.if-not-levelled.false) in
     let m : length b ≡ l.i = length-take-le l.i a.tables (omega arith) in
     let h = kept_after l.invariant.2 a.k r points r.level (omega (arith, m)) in (
       omega arith,

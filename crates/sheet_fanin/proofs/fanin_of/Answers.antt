@@ -3,6 +3,7 @@ use native.Mathlib.Omega.{arith}
 use mathlib.Core.Path.{◌≡◌, sym, ap, ◌∙◌}
 use mathlib.Core.Option.{some}
 use lib.ListN.{length}
+use borrow.Author.Rules.{rules}
 use borrow.Author.Tests.{eq-eqb, ne_eqb, lt-ltb, le-ltb}
 use Rattle.lists.specs.Trusted.Checked.{passed}
 use Rattle.sheet.specs.declared.Source.{Source}
@@ -81,7 +82,7 @@ returns-then-leaves-ge-MOST_LEAVES c =
       few = λ s q l. absurd (none_reads _ s q);
       first = λ s q. absurd (none_reads _ s q);
       step = λ seen h.
-          net_many a.out a.gate seen a.code _ e (sym (net_flag a.gate a.code c.requires h _ e) ∙ sym c.flag-twice.ensures ∙ c.if-twice-2.false) (ne_eqb _ _ c.if-n-out.false)
+          net_many a.out a.gate seen a.code _ e (sym (net_flag a.gate a.code c.requires h _ e) ∙ sym c.flag-twice.ensures ∙ c.if-twice-2.false) (ne_eqb c.in-Net.n a.out (search rules))
           (le-ltb (length seen.nets) most_leaves (omega (arith, h.count)));
     }
 

@@ -10,7 +10,7 @@ use Rattle.slacks.proofs.put_driver.Goals as goal
 pub put_slack-requires : goal.put_slack-requires
 put_slack-requires c =
     let a = c.args in
-    omega (arith, c.requires, driver_width a.wanted a.net a.level (omega (arith, c.if-net-gt0.true)))
+    omega (arith, c.requires, driver_width a.wanted a.net a.level (omega arith))
 
 pub returns-then-net-gt0 : goal.returns-then-net-gt0
 returns-then-net-gt0 c =
@@ -23,7 +23,7 @@ returns-then-net-gt0 c =
 pub returns : goal.returns
 returns c =
     let a = c.args in
-    let e = no_line a.wanted a.net a.level c.if-net-gt0.false in (
+    let e = no_line a.wanted a.net a.level (omega arith) in (
       omega (arith, ap length e),
       sym (ap (pasted a.buf.now a.at) e ∙ paste_none a.buf.now a.at),
     )

@@ -1,3 +1,4 @@
+use borrow.Author.Rules.{rules}
 use Prim.Native.Nat.{ℕ}
 use mathlib.Core.Path.{◌≡◌, refl, sym, ◌∙◌, subst}
 use mathlib.Core.List.{List, []}
@@ -15,6 +16,8 @@ use Rattle.part.specs.Trusted.SetAnswers.{set_result, Positioned}
 use Rattle.part.proofs.SetLaws.{set_unsound, set_unfit, set_fit}
 use Rattle.part.specs.declared.Part.{Part}
 use Rattle.part.specs.declared.SetAdded.{SetAdded}
+use Rattle.part.specs.declared.SetAdding.{SetAdding}
+use Rattle.part.specs.declared.SetAdding.TheVariants.{Unsound, LengthsUnfit}
 use Rattle.part.proofs.Part.add_set.Goals as goal
 use Rattle.part.proofs.Part.add_set.Goals.{Else-not-sound, Else-not-whole}
 
@@ -29,6 +32,10 @@ set_whole c = sym c.whole-whole.ensures ∙ c.if-not-whole.false
 abbrev Added : Part → (lengths text : List ℕ) → SetAdded → Type 0
 Added p lengths text r = (ts : List Try) × AddSet p lengths text (set_result r ts) × Positioned r.answer
 
+-- and so does the part as it was, where that answer is right
+turned_down : (p : Part) (lengths text : List ℕ) (e : SetAdding) {r : SetAdded} → r ≡ record { part = p; answer = e } → Added p lengths text (record { part = p; answer = e }) → Added p lengths text r
+turned_down p lengths text e same = subst (Added p lengths text) (sym same)
+
 pub sound-sound-requires : goal.sound-sound-requires
 unfolding no_levels
 sound-sound-requires c = refl
@@ -37,14 +44,14 @@ pub returns-then-not-sound : goal.returns-then-not-sound
 unfolding sound
 returns-then-not-sound c =
     let a = c.args in
-    subst (Added a.self a.lengths.now a.text.now) (sym c.with_answer.ensures)
-    ([], set_unsound a.self a.lengths.now a.text.now (sym c.sound-sound.ensures.0 ∙ c.if-not-sound.true), tt)
+    turned_down a.self a.lengths.now a.text.now Unsound (search rules) ([], set_unsound a.self a.lengths.now a.text.now (sym c.sound-sound.ensures.0 ∙ c.if-not-sound.true), tt)
 
 pub returns-then-not-whole : goal.returns-then-not-whole
+unfolding sound
 returns-then-not-whole c =
     let a = c.args in
-    subst (Added a.self a.lengths.now a.text.now) (sym c.with_answer-then-not-whole.ensures)
-    ([], set_unfit a.self a.lengths.now a.text.now (self_sound (goal.at.returns-then-not-whole c).Else-not-sound) (sym c.whole-whole.ensures ∙ c.if-not-whole.true), tt)
+    let s : c.sound-sound.result ≡ true = search rules in
+    turned_down a.self a.lengths.now a.text.now LengthsUnfit (search rules) ([], set_unfit a.self a.lengths.now a.text.now (sym c.sound-sound.ensures.0 ∙ s) (sym c.whole-whole.ensures ∙ c.if-not-whole.true), tt)
 
 pub take_each-requires : goal.take_each-requires
 take_each-requires c =

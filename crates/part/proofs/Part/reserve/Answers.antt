@@ -1,4 +1,5 @@
 use Prim.Native.Nat.{ℕ}
+use native.Mathlib.Omega.{arith}
 use mathlib.Core.Path.{◌≡◌, refl, sym, ◌∙◌, subst}
 use mathlib.Core.List.{List, []}
 use mathlib.Core.Bool.{true}
@@ -47,4 +48,4 @@ pub returns : goal.returns
 returns c =
     let t = c.set_aside in
     let a = c.args in
-    (_, reserve_tried a.self a.text.now (self_sound (goal.at.returns c).Else-not-sound) c.if-reservation-ne0.false t.result.part _ t.ensures)
+    (_, reserve_tried a.self a.text.now (self_sound (goal.at.returns c).Else-not-sound) (omega arith) t.result.part _ t.ensures)

@@ -1,5 +1,4 @@
 use mathlib.Core.Path.{◌≡◌, sym, subst}
-use mathlib.Core.List.{[]}
 use Rattle.lists.specs.Trusted.Checked.{passed}
 use Rattle.sheet.specs.Trusted.Read.{read_sheet}
 use Rattle.sheet.specs.Trusted.Answers.{number_of, drawn_sheet}

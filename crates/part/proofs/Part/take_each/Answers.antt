@@ -1,7 +1,6 @@
 use native.Mathlib.Nat.{add-sub_cancel_left}
 use native.Mathlib.Omega.{arith}
 use mathlib.Core.Path.{refl, sym, subst}
-use mathlib.Core.List.{[]}
 use lib.ListN.{get_or, take, drop}
 use Rattle.part.specs.Trusted.Ways.{least}
 use Rattle.part.specs.Trusted.Add.{Add}

@@ -1,6 +1,5 @@
 use Prim.Native.Nat.{◌-◌}
 use mathlib.Core.Path.{◌≡◌}
-use mathlib.Core.List.{[]}
 use lib.ListN.{length}
 use Rattle.table.specs.LevelTest.{LevelsStand}
 use Rattle.part.specs.Trusted.Parts.{tables_of}

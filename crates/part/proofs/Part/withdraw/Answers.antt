@@ -1,3 +1,4 @@
+use native.Mathlib.Omega.{arith}
 use mathlib.Core.Path.{sym, ap, ◌∙◌}
 use mathlib.Core.List.{[]}
 use Rattle.part.specs.Trusted.AddAnswers.{adding_result}
@@ -17,4 +18,4 @@ returns-then-open-eq0 c =
 pub returns : goal.returns
 returns c =
     ap (λ r. adding_result r []) c.refused-2.ensures ∙ ap (λ p. adding_result (record { part = p; answer = Accepted }) []) c.released.ensures
-    ∙ withdraw_open c.args.self (sym c.sound.ensures ∙ c.if-not-sound.false) c.if-open-eq0.false
+    ∙ withdraw_open c.args.self (sym c.sound.ensures ∙ c.if-not-sound.false) (omega arith)
