@@ -5,7 +5,7 @@ CASES.md has the answers worked out by hand.
 
 A sheet is read by tests/sheet/model.py, its gates are joined by tests/cover/join.py, and its least number of tables comes from
 tests/cover/exhaustive.py; the groups of the tables that are taken, where 01 settles them, come from tests/cover/settled.py. By the fewest
-levels both come from tests/fast/model.py, which has the inputs and the truth table of a group, too.
+levels the number and the groups come from tests/fast/model.py, which has the inputs and the truth table of a group, too.
 
 Run: python3 tests/part/model.py < crates/part_test/stdin > crates/part_test/stdout
      python3 tests/part/model.py --answers < crates/part_test/stdin    (line and answer of each step that CASES.md has)
@@ -197,46 +197,80 @@ def least(k, gates):
     return min(COVER.decode(keys[-1]))[0] + 1
 
 
-class Least:
-    """A sheet's joined tree, with its least number of tables for a part."""
+class Mapped:
+    """A sheet's joined tree with its cover, where 01 leaves no freedom but the order of branches, which is here the sheet's. Its tables
+    stand in the part after the used ones."""
 
-    def __init__(self, part, lines):
-        self.k, self.gates = part.k, JOIN.joined(lines[1:])
-        self.number = least(self.k, self.gates)
+    def __init__(self, k, used, gates):
+        self.gates = gates
+        self.cover = SETTLED.settled(k, gates, least(k, gates))
+        self.codes = {group: CODES + used + t for t, group in enumerate(self.cover, 1)}
 
-    def cover(self):
-        """The only cover of so many tables."""
-        return SETTLED.settled(self.k, self.gates, self.number)
+    def operands(self, group):
+        """What stands in a group: groups of its gate that are tables, and its other fanins, each with its inversion."""
+        gate, places = group
+        tables = SETTLED.outermost([other for of, other in self.cover if of == gate and other < places])
+        yield from (((gate, table), False) for table in tables)
+        for place in places.difference(*tables):
+            fanin = self.gates[gate][2 + place]
+            lower = abs(fanin) - SHEET.FIRST_GATE
+            yield abs(fanin) if is_net(abs(fanin)) else (lower, frozenset(range(self.gates[lower][1]))), fanin < 0
+
+    def code(self, operand):
+        """What a table reads for an operand: a net, or a table; None for a group that it holds."""
+        return self.codes.get(operand, None if isinstance(operand, tuple) else operand)
+
+    def inputs(self, group):
+        for operand, _ in self.operands(group):
+            yield from [self.code(operand)] if self.code(operand) else self.inputs(operand)
+
+    def value(self, group, given):
+        values = []
+        for operand, inverted in self.operands(group):
+            code = self.code(operand)
+            values.append((given[code] if code else self.value(operand, given)) != inverted)
+        return all(values) if self.gates[group[0]][0] == AND else any(values)
+
+
+def tables(k, used, lines):
+    """The records of a sheet that was read, without levels, for a part with some tables already. The list of a record's inputs is padded
+    with zeros."""
+    (out, _), *gates = lines
+    mapped = Mapped(k, used, JOIN.joined(gates))
+    records = []
+    for group in mapped.cover:
+        codes = sorted(mapped.inputs(group))
+        root = group == mapped.cover[-1]
+        truth = 0
+        for i in range(2 ** len(codes)):
+            given = {code: bool(i >> j & 1) for j, code in enumerate(codes)}
+            truth += (mapped.value(group, given) != (root and out < 0)) << i
+        records.append(Record(abs(out) if root else 0, len(codes), (codes + [0] * 6)[:6], truth))
+    assert values_as_drawn(lines, records, used)
+    return records
 
 
 class Fastest:
-    """Request 107: a sheet's joined tree, with the fewest tables of the covers of the least root level, "given the levels of the nets that
-    its leaves read"."""
+    """Request 107: a sheet's joined tree with the only cover of those of the least root level, "given the levels of the nets that its leaves
+    read", that has the fewest tables. The papers leave the order of its branches open, which is here the sheet's."""
 
     def __init__(self, part, lines):
         levels = {record.net: record.level for record in part.records[: part.used] if record.net}
-        self.k, self.sheet = part.k, FAST.Sheet(part.k, lines, levels)
-        self.gates, self.number = self.sheet.gates, self.sheet.number
+        self.k, self.lines, self.sheet = part.k, lines, FAST.Sheet(part.k, lines, levels)
+        self.number = self.sheet.number
 
-    def cover(self):
-        """The only such cover."""
+    def tables(self, used):
+        """As `tables` gives them."""
+        out, _ = self.lines[0]
         (cover,) = FAST.fastest_covers(self.k, self.sheet)
-        return cover.groups
-
-
-def tables(used, lines, sheet):
-    """The records of a sheet that was read and counted, without levels, for a part with some tables already. The papers leave the order of
-    its branches open, which is here the sheet's. The list of a record's inputs is padded with zeros."""
-    out, _ = lines[0]
-    cover = FAST.Cover(sheet, sheet.cover())
-    codes = {group: CODES + used + t for t, group in enumerate(cover.groups, 1)}
-    records = []
-    for group in cover.groups:
-        root = group == cover.groups[-1]
-        inputs, truth = cover.table(group, codes, root and out < 0)
-        records.append(Record(abs(out) if root else 0, len(inputs), (inputs + [0] * 6)[:6], truth))
-    assert values_as_drawn(lines, records, used)
-    return records
+        codes = {group: CODES + used + t for t, group in enumerate(cover.groups, 1)}
+        records = []
+        for group in cover.groups:
+            root = group == cover.groups[-1]
+            inputs, truth = cover.table(group, codes, root and out < 0)
+            records.append(Record(abs(out) if root else 0, len(inputs), (inputs + [0] * 6)[:6], truth))
+        assert values_as_drawn(self.lines, records, used)
+        return records
 
 
 def drawn_value(lines, given):
@@ -293,20 +327,30 @@ def read_sheet(text):
     return lines, abs(lines[0][0])
 
 
-def counted(part, lines, left, way=Least):
-    """A sheet that was read, with the number of tables that it needs, where 21 to 23 do not turn it down: "in order"."""
-    out, _ = lines[0]
+def unclaimed(part, net):
+    """21 and 22, of the net that a sheet drives."""
     in_use = part.records[: part.used]
-    refuse(21, any(table.net == abs(out) for table in in_use))
-    refuse(22, any(abs(out) in table.inputs[: table.u] for table in in_use))
-    sheet = way(part, lines)
-    refuse(23, sheet.number > left)
-    return sheet
+    refuse(21, any(table.net == net for table in in_use))
+    refuse(22, any(net in table.inputs[: table.u] for table in in_use))
 
 
-def take(part, lines, sheet):
+def number_needed(part, lines, left):
+    """The least number of a sheet that was read, where 21 to 23 do not turn it down: "in order"."""
+    (out, _), *gates = lines
+    unclaimed(part, abs(out))
+    number = least(part.k, JOIN.joined(gates))
+    refuse(23, number > left)
+    return number
+
+
+def take(part, lines):
     """A sheet's tables, put after the old ones, and the levels."""
-    for record in tables(part.used, lines, sheet):
+    put(part, tables(part.k, part.used, lines))
+
+
+def put(part, records):
+    """Records put after the old ones, and the levels."""
+    for record in records:
         part.records[part.used] = record
         part.used += 1
     in_use = part.records[: part.used]
@@ -315,16 +359,23 @@ def take(part, lines, sheet):
 
 
 @answered
-def add(part, text, way=Least):
+def add(part, text):
     """01, "Turned down because of the part": 20, then the sheet's, then 21 to 23."""
     refuse(20, not sound(part))
     lines, _ = read_sheet(text)
-    take(part, lines, counted(part, lines, part.left(), way))
+    number_needed(part, lines, part.left())
+    take(part, lines)
 
 
+@answered
 def add_fast(part, text):
     """Request 107: an add of "a cover whose root level is least"; "23 compares that number"."""
-    return add(part, text, Fastest)
+    refuse(20, not sound(part))
+    lines, net = read_sheet(text)
+    unclaimed(part, net)
+    sheet = Fastest(part, lines)
+    refuse(23, sheet.number > part.left())
+    put(part, sheet.tables(part.used))
 
 
 @answered
@@ -333,7 +384,7 @@ def reserve(part, text):
     refuse(20, not sound(part))
     refuse(35, part.reserved > 0)
     lines, net = read_sheet(text)
-    part.reserved, part.reserved_net = counted(part, lines, part.left()).number, net
+    part.reserved, part.reserved_net = number_needed(part, lines, part.left()), net
 
 
 def close(part):
@@ -348,7 +399,8 @@ def commit(part, text):
     refuse(36, part.reserved == 0)
     lines, net = read_sheet(text)
     refuse(36, net != part.reserved_net)
-    take(part, lines, counted(part, lines, part.left() + part.reserved))
+    number_needed(part, lines, part.left() + part.reserved)
+    take(part, lines)
     close(part)
 
 
