@@ -124,7 +124,7 @@ returns-then-count-fanin_count-le-MOST_FANINS c =
     let l = i_inside at in
     let n = c.fanin_count.ensures sheet.fanins (search rules) in
     fanin_joins c.loop-i.invariant l (edge_is sheet g (turn at) c.loop-i.i l)
-    (joins_is sheet g (turn at) c.loop-i.i l c.in-Gate.j c.in-Gate.is (sym c.chained.ensures ∙ c.if-chained.true) (le-leb _ _ (omega (arith, c.if-count-fanin_count-le-MOST_FANINS.true, count_is at, n))))
+    (joins_is sheet g (turn at) c.loop-i.i l c.in-Gate.j c.in-Gate.is (sym c.chained.ensures ∙ c.if-chained.true) (le-leb _ _ (omega (arith, count_is at, n))))
 
 pub loop-i-preserved-then-chained : goal.loop-i-preserved-then-chained
 loop-i-preserved-then-chained c =
@@ -134,7 +134,7 @@ loop-i-preserved-then-chained c =
     let l = i_inside at in
     let n = c.fanin_count.ensures sheet.fanins (search rules) in
     fanin_stays c.loop-i.invariant l (edge_is sheet g (turn at) c.loop-i.i l)
-    (joins_is sheet g (turn at) c.loop-i.i l c.in-Gate.j c.in-Gate.is (sym c.chained.ensures ∙ c.if-chained.true) (lt-leb _ _ (omega (arith, c.if-count-fanin_count-le-MOST_FANINS.false, count_is at, n))))
+    (joins_is sheet g (turn at) c.loop-i.i l c.in-Gate.j c.in-Gate.is (sym c.chained.ensures ∙ c.if-chained.true) (lt-leb _ _ (omega (arith, count_is at, n))))
 
 pub loop-i-preserved : goal.loop-i-preserved
 loop-i-preserved c =

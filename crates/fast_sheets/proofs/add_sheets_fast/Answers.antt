@@ -60,11 +60,11 @@ returns-then-told-ne0 c =
 
 pub loop-at-smaller : goal.loop-at-smaller
 loop-at-smaller c =
-    omega (arith, on_the_way c.loop-at.invariant.0 c.offer-added.result.part c.tell_adding-told.result c.read_next-next.result.end (omega arith) (sheet_stepped (goal.at.loop-at-smaller c).After-tell_adding-told) c.if-told-ne0.false)
+    omega (arith, on_the_way c.loop-at.invariant.0 c.offer-added.result.part c.tell_adding-told.result c.read_next-next.result.end (omega arith) (sheet_stepped (goal.at.loop-at-smaller c).After-tell_adding-told) (omega arith))
 
 pub loop-at-preserved : goal.loop-at-preserved
 loop-at-preserved c =
-    (sheets_more c.loop-at.invariant.0 c.offer-added.result.part c.tell_adding-told.result c.read_next-next.result.end (omega arith) (sheet_stepped (goal.at.loop-at-preserved c).After-tell_adding-told) c.if-told-ne0.false, c.offer-added.ensures.1)
+    (sheets_more c.loop-at.invariant.0 c.offer-added.result.part c.tell_adding-told.result c.read_next-next.result.end (omega arith) (sheet_stepped (goal.at.loop-at-preserved c).After-tell_adding-told) (omega arith), c.offer-added.ensures.1)
 
 pub returns : goal.returns
 returns c = ended_all c.loop-at.invariant.0 (omega arith)
