@@ -60,8 +60,8 @@ fn signed(s: &[u8], at: usize) -> Field
     if s[at] == b'-' {
         match natural(s, at + 1) {
             Parsed::Natural(n) => {
-                let zero = n == 0;
-                if zero {
+                let is_zero = n == 0;
+                if is_zero {
                     Field::NoNumber
                 } else {
                     Field::Value(-(n as i32))

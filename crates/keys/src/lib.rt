@@ -50,13 +50,13 @@ pub fn cuts_of(k: u8, a: Key, b: Key) -> Cuts
             right: false,
         };
     }
-    let narrow = a.width <= b.width;
+    let right_wider = a.width <= b.width;
     if lesser(a.width, b.width) >= k {
         Cuts {
             left: true,
             right: true,
         }
-    } else if narrow {
+    } else if right_wider {
         Cuts {
             left: false,
             right: true,

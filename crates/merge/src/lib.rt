@@ -65,8 +65,8 @@ fn insert(inputs: &mut [u16; 6], count: usize, code: u16)
     let mut i = 0;
     while i < count {
         let x = inputs[i];
-        let lower = next <= x;
-        if lower {
+        let in_front = next <= x;
+        if in_front {
             inputs[i] = next;
             next = x;
         }

@@ -46,17 +46,17 @@ overflow_sub-result c =
     let n = c.in-Natural.n in
     rw (minus_bits n (minus_fits (goal.at.overflow_sub-result c).In-Natural)) (negated_fits n (minus_fits (goal.at.overflow_sub-result c).In-Natural))
 
-pub returns-then-zero : goal.returns-then-zero
-returns-then-zero c =
+pub returns-then-is_zero : goal.returns-then-is_zero
+returns-then-is_zero c =
     let n = c.in-Natural.n in
-    sym (ap field_answer (after_minus (goal.at.returns-then-zero c).After-natural ∙ ap negated (minus_number (goal.at.returns-then-zero c).In-Natural) ∙ negated_zero n c.if-zero.true))
+    sym (ap field_answer (after_minus (goal.at.returns-then-is_zero c).After-natural ∙ ap negated (minus_number (goal.at.returns-then-is_zero c).In-Natural) ∙ negated_zero n c.if-is_zero.true))
 
-pub returns-else-zero : goal.returns-else-zero
-returns-else-zero c =
+pub returns-else-is_zero : goal.returns-else-is_zero
+returns-else-is_zero c =
     let n = c.in-Natural.n in
-    let fits = minus_fits (goal.at.returns-else-zero c).In-Natural in
+    let fits = minus_fits (goal.at.returns-else-is_zero c).In-Natural in
     ap Value (ap (λ z. to_z w32 (of_z w32 z)) (minus_bits n fits) ∙ to_z-of_z (negated_fits n fits))
-    ∙ sym (ap field_answer (after_minus (goal.at.returns-else-zero c).After-natural ∙ ap negated (minus_number (goal.at.returns-else-zero c).In-Natural) ∙ negated_more n c.if-zero.false))
+    ∙ sym (ap field_answer (after_minus (goal.at.returns-else-is_zero c).After-natural ∙ ap negated (minus_number (goal.at.returns-else-is_zero c).In-Natural) ∙ negated_more n c.if-is_zero.false))
 
 pub returns-in-Nothing : goal.returns-in-Nothing
 returns-in-Nothing c =

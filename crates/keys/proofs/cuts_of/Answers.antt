@@ -16,18 +16,18 @@ returns-then-lesser-k c =
     let i : a.k < 1 + min a.a.width a.b.width = omega arith in
     simp (lt-leb _ _ h, lt-leb _ _ i)
 
-pub returns-then-narrow : goal.returns-then-narrow
+pub returns-then-right_wider : goal.returns-then-right_wider
 unfolding cuts
-returns-then-narrow c =
+returns-then-right_wider c =
     let a = c.args in
     let h : a.k < a.a.width + a.b.width = omega arith in
     let i : 1 + min a.a.width a.b.width ≤ a.k = omega arith in
-    simp (lt-leb _ _ h, le-leb _ _ i, le-leb _ _ c.if-narrow.true)
+    simp (lt-leb _ _ h, le-leb _ _ i, le-leb _ _ c.if-right_wider.true)
 
-pub returns-else-narrow : goal.returns-else-narrow
+pub returns-else-right_wider : goal.returns-else-right_wider
 unfolding cuts
-returns-else-narrow c =
+returns-else-right_wider c =
     let a = c.args in
     let h : a.k < a.a.width + a.b.width = omega arith in
     let i : 1 + min a.a.width a.b.width ≤ a.k = omega arith in
-    simp (lt-leb _ _ h, le-leb _ _ i, lt-leb _ _ c.if-narrow.false)
+    simp (lt-leb _ _ h, le-leb _ _ i, lt-leb _ _ c.if-right_wider.false)

@@ -41,6 +41,7 @@ returns-then-not-within-2 c =
 pub returns-then-used-capacity : goal.returns-then-used-capacity
 returns-then-used-capacity c =
     let t = c.read_top-top in
+    -- what the tests before this one passed, from the facts at hand
     let l : t.result.laid ≡ true = search rules in
     let k : within 2 6 t.result.k ≡ true = search rules in
     let n : within 1 800 t.result.capacity ≡ true = search rules in

@@ -33,8 +33,8 @@ abbrev Added : Part → (lengths text : List ℕ) → SetAdded → Type 0
 Added p lengths text r = (ts : List Try) × AddSet p lengths text (set_result r ts) × Positioned r.answer
 
 -- and so does the part as it was, where that answer is right
-turned_down : (p : Part) (lengths text : List ℕ) (e : SetAdding) {r : SetAdded} → r ≡ record { part = p; answer = e } → Added p lengths text (record { part = p; answer = e }) → Added p lengths text r
-turned_down p lengths text e same = subst (Added p lengths text) (sym same)
+answered_as : (p : Part) (lengths text : List ℕ) (e : SetAdding) {r : SetAdded} → r ≡ record { part = p; answer = e } → Added p lengths text (record { part = p; answer = e }) → Added p lengths text r
+answered_as p lengths text e same = subst (Added p lengths text) (sym same)
 
 pub sound-sound-requires : goal.sound-sound-requires
 unfolding no_levels
@@ -44,14 +44,14 @@ pub returns-then-not-sound : goal.returns-then-not-sound
 unfolding sound
 returns-then-not-sound c =
     let a = c.args in
-    turned_down a.self a.lengths.now a.text.now Unsound (search rules) ([], set_unsound a.self a.lengths.now a.text.now (sym c.sound-sound.ensures.0 ∙ c.if-not-sound.true), tt)
+    answered_as a.self a.lengths.now a.text.now Unsound (search rules) ([], set_unsound a.self a.lengths.now a.text.now (sym c.sound-sound.ensures.0 ∙ c.if-not-sound.true), tt)
 
 pub returns-then-not-whole : goal.returns-then-not-whole
 unfolding sound
 returns-then-not-whole c =
     let a = c.args in
     let s : c.sound-sound.result ≡ true = search rules in
-    turned_down a.self a.lengths.now a.text.now LengthsUnfit (search rules) ([], set_unfit a.self a.lengths.now a.text.now (sym c.sound-sound.ensures.0 ∙ s) (sym c.whole-whole.ensures ∙ c.if-not-whole.true), tt)
+    answered_as a.self a.lengths.now a.text.now LengthsUnfit (search rules) ([], set_unfit a.self a.lengths.now a.text.now (sym c.sound-sound.ensures.0 ∙ s) (sym c.whole-whole.ensures ∙ c.if-not-whole.true), tt)
 
 pub take_each-requires : goal.take_each-requires
 take_each-requires c =
