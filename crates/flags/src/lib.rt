@@ -8,12 +8,9 @@ ghost use Rattle.flags.specs.Flags.{flag_at, raised};
 pub fn flag(words: &[u64], n: usize) -> bool
     ensures { result ≡ flag_at words.now n }
 {
-    let at = n / 64;
-    if at < words.len() {
-        (words[at] >> (n % 64)) % 2 == 1
-    } else {
-        false
-    }
+    words
+        .get(n / 64)
+        .is_some_and(|word| (word >> (n % 64)) % 2 == 1)
 }
 
 // Raises flag n, where a word has it.
@@ -22,7 +19,6 @@ pub fn raise(words: &mut [u64], n: usize)
 {
     let at = n / 64;
     if at < words.len() {
-        let word = words[at];
-        words[at] = word | (1u64 << (n % 64));
+        words[at] |= 1u64 << (n % 64);
     }
 }

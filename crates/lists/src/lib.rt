@@ -8,5 +8,5 @@ ghost use Rattle.lists.specs.Trusted.Tests.{within as in_range};
 pub fn within(least: u32, greatest: u32, n: u32) -> bool
     ensures { result ≡ in_range least greatest n }
 {
-    if least <= n { n <= greatest } else { false }
+    (least..=greatest).contains(&n)
 }

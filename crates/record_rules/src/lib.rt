@@ -12,39 +12,21 @@ use tree::GREATEST_NET;
 pub fn is_blank(r: Table) -> bool
     ensures { result ≡ is_blank r }
 {
-    let inputs = r.inputs;
-    if r.net != 0 {
-        return false;
-    }
-    if r.count != 0 {
-        return false;
-    }
-    if zero_from(inputs, 0) {
-        (r.truth == 0) & (r.level == 0)
-    } else {
-        false
-    }
+    r.net == 0 && r.count == 0 && zero_from(r.inputs, 0) && r.truth == 0 && r.level == 0
 }
 
 // Unused inputs are zero.
 pub fn padded(r: Table) -> bool
     ensures { result ≡ is_padded r }
 {
-    let inputs = r.inputs;
-    zero_from(inputs, in_use(r.count))
+    zero_from(r.inputs, in_use(r.count))
 }
 
 // The net driven is a net or 0, and each input is a net or names a table.
 pub fn coded(r: Table) -> bool
     ensures { result ≡ is_coded r }
 {
-    let inputs = r.inputs;
-    let of_net = r.net <= GREATEST_NET;
-    if of_net {
-        all_codes(inputs, in_use(r.count))
-    } else {
-        false
-    }
+    r.net <= GREATEST_NET && all_codes(r.inputs, in_use(r.count))
 }
 
 // The truth table has no bit from 2^count up. Six inputs or more use all 64 bits.
@@ -66,16 +48,8 @@ fn truth_fits(count: u8, truth: u64) -> bool
 pub fn sized(k: u8, r: Table) -> bool
     ensures { result ≡ is_sized k r }
 {
-    let inputs = r.inputs;
-    if r.count < 2 {
-        return false;
-    }
-    if r.count > k {
-        return false;
-    }
-    if rising(inputs, in_use(r.count)) {
-        truth_fits(r.count, r.truth)
-    } else {
-        false
-    }
+    2 <= r.count
+        && r.count <= k
+        && rising(r.inputs, in_use(r.count))
+        && truth_fits(r.count, r.truth)
 }

@@ -57,7 +57,7 @@ module _ {A : Type 0} (f : A → Bool) (xs : List A) (n i : ℕ) (z : A) (room :
 
 -- ---- numbers that rise strictly: each is above the one just before it
 
-rising_two : (x y : ℕ) (ys : List ℕ) → pairwise ltb (x ∷ y ∷ ys) ≡ ltb x y && pairwise ltb (y ∷ ys)
+pub rising_two : (x y : ℕ) (ys : List ℕ) → pairwise ltb (x ∷ y ∷ ys) ≡ ltb x y && pairwise ltb (y ∷ ys)
 rising_two x y ys =
     reflects_same (reflects_pairwise ltb reflects_lt (x ∷ y ∷ ys))
     (reflects_and (reflects_lt x y) (reflects_pairwise ltb reflects_lt (y ∷ ys)))

@@ -20,7 +20,7 @@ pub const TABLE_WORDS: usize = TABLE_ROOM as usize / 64 + 1;
 pub const CODE_ROOM: usize = CODE_BASE as usize + TABLE_ROOM as usize + 1;
 
 // A lookup table of a part: the net that it drives (0 for none), how many inputs it has, the inputs, its truth table and its level.
-#[derive(Clone, Copy)]
+#[derive(Clone, Copy, Debug, PartialEq, Eq)]
 pub struct Table {
     pub net: u16,
     pub count: u8,
@@ -55,5 +55,5 @@ pub fn blank() -> Table
 pub fn in_use(count: u8) -> usize
     ensures { result ≡ min count 6 }
 {
-    if count < 6 { count as usize } else { 6 }
+    usize::from(count.min(6))
 }

@@ -2,7 +2,7 @@
 // table/specs/LevelTest defines it, and table/specs/LevelTestLaws has the proof that it stands for the records.
 #![tactic(auto)]
 
-ghost use Rattle.std.specs.Prelude.{◌≡◌, map, ℕ, max, ◌≤◌, ◌<◌, get_or, set, take};
+ghost use Rattle.std.specs.Prelude.{◌≡◌, map, ℕ, ◌≤◌, ◌<◌, get_or, set, take};
 ghost use Rattle.cover.specs.Trusted.Tables.{greatest};
 ghost use Rattle.table.specs.Trusted.Limits.{table_room};
 ghost use Rattle.table.specs.Trusted.Records.{reads};
@@ -15,14 +15,7 @@ use tree::CODE_BASE;
 fn level_at(levels: &[u16], code: u16) -> u16
     ensures { result ≡ get_or levels.now code 0 }
 {
-    let at = code as usize;
-    if at < levels.len() { levels[at] } else { 0 }
-}
-
-fn larger(a: u16, b: u16) -> u16
-    ensures { result ≡ max a b }
-{
-    if a < b { b } else { a }
+    levels.get(usize::from(code)).copied().unwrap_or(0)
 }
 
 // The greatest level of the first n inputs.
@@ -30,11 +23,9 @@ fn greatest_level(levels: &[u16], inputs: [u16; 6], n: usize) -> u16
     requires { n ≤ 6 }
     ensures { result ≡ greatest (map (λ c. get_or levels.now c 0) (take n inputs)) }
 {
-    let mut most: u16 = 0;
-    let mut i = 0;
-    while i < n {
-        most = larger(most, level_at(levels, inputs[i]));
-        i += 1;
+    let mut most = 0;
+    for &code in &inputs[..n] {
+        most = level_at(levels, code).max(most);
     }
     most
 }
@@ -74,6 +65,5 @@ pub fn is_levelled(levels: &mut [u16], at: usize, r: Table) -> bool
     requires { (at < table_room) × ((c : ℕ) → get_or levels.old c 0 ≤ table_room) }
     ensures { (result ≡ is_levelled_in levels.old r) × (levels.new ≡ noted_next levels.old at r.net (reads r)) }
 {
-    let inputs = r.inputs;
-    next_level(levels, at, r.net, r.count, inputs) == r.level
+    next_level(levels, at, r.net, r.count, r.inputs) == r.level
 }

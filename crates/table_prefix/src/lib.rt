@@ -6,7 +6,7 @@ ghost use Rattle.std.specs.Prelude.{◌≡◌, ◌≤◌, take};
 ghost use Rattle.table.specs.PrefixTest.{claim_all, empty_prefix, with_driver, prefix_after};
 
 use flags::raise;
-use table::{NET_WORDS, Prefix, TABLE_WORDS, Table, in_use};
+use table::{NET_WORDS, Prefix, TABLE_ROOM, TABLE_WORDS, Table, in_use};
 
 // Of no record.
 pub fn empty_prefix() -> Prefix
@@ -24,10 +24,8 @@ fn claim_all(claimed: &mut [u64], inputs: [u16; 6], n: usize)
     requires { n ≤ 6 }
     ensures { claimed.new ≡ claim_all claimed.old (take n inputs) }
 {
-    let mut i = 0;
-    while i < n {
-        raise(claimed, inputs[i] as usize);
-        i += 1;
+    for &net in &inputs[..n] {
+        raise(claimed, usize::from(net));
     }
 }
 
@@ -42,22 +40,15 @@ fn mark_driver(drives: &mut [u64], net: u16, at: usize)
 }
 
 // Of one more record, after the others; unchanged where there is no room for it.
-pub fn after(prefix: Prefix, r: Table) -> Prefix
+pub fn after(mut prefix: Prefix, r: Table) -> Prefix
     ensures { result ≡ prefix_after prefix r }
 {
-    let count = prefix.count;
-    if count >= 800 {
-        return prefix;
+    let at = usize::from(prefix.count);
+    if at < TABLE_ROOM as usize {
+        raise(&mut prefix.claimed, usize::from(r.net));
+        claim_all(&mut prefix.claimed, r.inputs, in_use(r.count));
+        mark_driver(&mut prefix.drives, r.net, at);
+        prefix.count += 1;
     }
-    let mut claimed = prefix.claimed;
-    let mut drives = prefix.drives;
-    let inputs = r.inputs;
-    raise(&mut claimed, r.net as usize);
-    claim_all(&mut claimed, inputs, in_use(r.count));
-    mark_driver(&mut drives, r.net, count as usize);
-    Prefix {
-        count: count + 1,
-        claimed,
-        drives,
-    }
+    prefix
 }

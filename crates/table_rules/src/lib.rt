@@ -20,10 +20,7 @@ fn sourced(drives: &[u64], count: u16, x: u16) -> bool
         return true;
     }
     let t = x - CODE_BASE - 1;
-    if t >= count {
-        return false;
-    }
-    !flag(drives, t as usize)
+    t < count && !flag(drives, usize::from(t))
 }
 
 // So for the first n inputs.
@@ -31,50 +28,24 @@ fn all_sourced(drives: &[u64], count: u16, inputs: [u16; 6], n: usize) -> bool
     requires { n ≤ 6 }
     ensures { result ≡ all (sourced_in drives.now count) (take n inputs) }
 {
-    let mut i = 0;
-    while i < n {
-        if !sourced(drives, count, inputs[i]) {
-            return false;
-        }
-        i += 1;
-    }
-    true
+    inputs[..n].iter().all(|&x| sourced(drives, count, x))
 }
 
 // The net driven, if any, is claimed by no record before, and the record does not read it.
 fn unclaimed(claimed: &[u64], r: Table) -> bool
     ensures { result ≡ unclaimed_in claimed.now r }
 {
-    let net = r.net;
-    let inputs = r.inputs;
-    if net == 0 {
-        return true;
-    }
-    if flag(claimed, net as usize) {
-        return false;
-    }
-    !reads_net(inputs, in_use(r.count), net)
+    r.net == 0
+        || (!flag(claimed, usize::from(r.net)) && !reads_net(r.inputs, in_use(r.count), r.net))
 }
 
 // The record keeps 01's points after the records before.
 pub fn keeps_points(prefix: Prefix, k: u8, r: Table) -> bool
     ensures { result ≡ keeps_points_in k prefix r }
 {
-    let drives = prefix.drives;
-    let claimed = prefix.claimed;
-    let inputs = r.inputs;
-    if !padded(r) {
-        return false;
-    }
-    if !coded(r) {
-        return false;
-    }
-    if !sized(k, r) {
-        return false;
-    }
-    if all_sourced(&drives, prefix.count, inputs, in_use(r.count)) {
-        unclaimed(&claimed, r)
-    } else {
-        false
-    }
+    padded(r)
+        && coded(r)
+        && sized(k, r)
+        && all_sourced(&prefix.drives, prefix.count, r.inputs, in_use(r.count))
+        && unclaimed(&prefix.claimed, r)
 }

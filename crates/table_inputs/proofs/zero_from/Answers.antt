@@ -1,28 +1,13 @@
-use native.Mathlib.Omega.{arith}
-use mathlib.Core.Path.{refl, sym, ◌∙◌}
-use borrow.Author.Rules.{rules}
-use borrow.Author.Tests.{eq-eqb, ne_eqb}
-use lib.Dec.{eqb}
-use Rattle.table.specs.LoopLaws.{all_stops, all_goes, all_ends}
+use Rattle.std.proofs.Common.{rules, tests, drop, eqb, ◌-◌, ◌≤◌, length, arith, length-drop, ◌∙◌}
+use Rattle.std.proofs.lemmas.List.{take_all}
+use Rattle.std.proofs.lemmas.Iterator.{YieldsList-from_slice}
+use Rattle.std.proofs.lemmas.Iterator.Search.{all_from_yields_List}
+use Rattle.lists.proofs.LibraryTests.{list_all_is_all}
 use Rattle.table_inputs.proofs.zero_from.Goals as goal
-
-pub loop-i-init : goal.loop-i-init
-loop-i-init c = ((search rules), refl)
-
-pub returns-then-inputs-i-ne0 : goal.returns-then-inputs-i-ne0
-returns-then-inputs-i-ne0 c =
-    let a = c.args in
-    let l = c.loop-i in
-    sym (l.invariant.1 ∙ all_stops (λ x. eqb x 0) a.inputs l.i 0 (omega arith) (ne_eqb _ _ c.if-inputs-i-ne0.true))
-
-pub loop-i-preserved : goal.loop-i-preserved
-loop-i-preserved c =
-    let a = c.args in
-    let l = c.loop-i in
-    (l.invariant.0, l.invariant.1 ∙ all_goes (λ x. eqb x 0) a.inputs l.i 0 (omega arith) (eq-eqb _ _ c.if-inputs-i-ne0.false))
 
 pub returns : goal.returns
 returns c =
-    let a = c.args in
-    let l = c.loop-i in
-    sym (l.invariant.1 ∙ all_ends (λ x. eqb x 0) a.inputs l.i 0 (omega arith))
+    let rest = drop c.args.n c.args.inputs in
+    let room : length rest ≤ 6 - c.args.n = simp length-drop (omega arith) in
+    let whole = take_all (6 - c.args.n) rest room in
+    all_from_yields_List (λ x. eqb x 0) _ _ _ c.all.ensures.ran (YieldsList-from_slice rest (cc)) (λ x b q k. search (rules, tests)) ∙ list_all_is_all (λ x. eqb x 0) rest

@@ -1,31 +1,12 @@
-use native.Mathlib.Omega.{arith}
-use mathlib.Core.Path.{refl, sym, ◌∙◌}
-use borrow.Author.Rules.{rules}
+use Rattle.std.proofs.Common.{rules, tests, take, ◌∙◌}
+use Rattle.std.proofs.lemmas.Iterator.{YieldsList-from_slice}
+use Rattle.std.proofs.lemmas.Iterator.Search.{all_from_yields_List}
+use Rattle.lists.proofs.LibraryTests.{list_all_is_all}
 use Rattle.table.specs.PrefixTest.{sourced_in}
-use Rattle.table.specs.LoopLaws.{all_take_stops, all_take_goes, all_take_ends}
 use Rattle.table_rules.proofs.all_sourced.Goals as goal
-
-pub loop-i-init : goal.loop-i-init
-loop-i-init c = ((search rules), refl)
-
-pub returns-then-not-sourced : goal.returns-then-not-sourced
-returns-then-not-sourced c =
-    let a = c.args in
-    let l = c.loop-i in
-    sym (l.invariant.1 ∙ all_take_stops (sourced_in a.drives.now a.count) a.inputs a.n l.i 0 (omega arith) (omega arith)
-    (sym c.sourced.ensures ∙ c.if-not-sourced.true))
-
-pub loop-i-preserved : goal.loop-i-preserved
-loop-i-preserved c =
-    let a = c.args in
-    let l = c.loop-i in (
-      l.invariant.0,
-      l.invariant.1 ∙ all_take_goes (sourced_in a.drives.now a.count) a.inputs a.n l.i 0 (omega arith) (omega arith)
-          (sym c.sourced.ensures ∙ c.if-not-sourced.false),
-    )
 
 pub returns : goal.returns
 returns c =
-    let a = c.args in
-    let l = c.loop-i in
-    sym (l.invariant.1 ∙ all_take_ends (sourced_in a.drives.now a.count) a.inputs a.n l.i 0 (omega arith) (omega arith))
+    let used = take c.args.n c.args.inputs in
+    let names = sourced_in c.args.drives.now c.args.count in
+    all_from_yields_List names _ _ _ c.all.ensures.ran (YieldsList-from_slice used (cc)) (λ x b q k. search (rules, tests)) ∙ list_all_is_all names used
