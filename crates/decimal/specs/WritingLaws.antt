@@ -1,5 +1,5 @@
 -- A number with a sign that has room is written.
-use Rattle.std.specs.Prelude.{ℕ, zero, suc, ◌+◌, ◌-◌, ◌^◌, ◌≤◌, ◌<◌, ◌≡◌, refl, Bool, true, false, cond, ◌&&◌, List, length}
+use Rattle.std.specs.Prelude.{ℕ, zero, suc, ◌+◌, ◌-◌, ◌^◌, ◌≤◌, ◌<◌, ◌≡◌, refl, Bool, true, false, cond, ◌&&◌, List, length, Ok}
 use Rattle.std.proofs.Common.{arith, ap₂, le-leb}
 use Rattle.lists.specs.TestLaws.{reflects_true}
 use Rattle.decimal.specs.Trusted.Number.{Number}
@@ -8,7 +8,6 @@ use Rattle.decimal.specs.Trusted.Columns.{room, signed_room, signed_field_of}
 use Rattle.decimal.specs.ColumnLaws.{reflects_room}
 use Rattle.decimal.specs.Trusted.Writing.{write_if, signed_written_at}
 use Rattle.decimal.specs.Trusted.Columns.{with_field}
-use Rattle.decimal.specs.declared.Written.TheVariants.{Done}
 
 signed_room_lem : (width : ℕ) (n : Number) → 0 < width → Within width n → signed_room width n ≡ true
 signed_room_lem width n p h = by_sign n.negative h.sign
@@ -23,6 +22,6 @@ signed_room_lem width n p h = by_sign n.negative h.sign
         reflects_true (reflects_room (width - 1) n.magnitude) (some_column (width - 1) n.magnitude (s refl).0 (s refl).1, (s refl).1)
 
 pub signed_written_at_lem : (old : List ℕ) (at width : ℕ) (n : Number) → at + width ≤ length old → 0 < width → Within width n →
-    signed_written_at old at width n ≡ record { answer = Done; bytes = with_field old at width (signed_field_of width n) }
+    signed_written_at old at width n ≡ record { answer = Ok tt; bytes = with_field old at width (signed_field_of width n) }
 signed_written_at_lem old at width n l p h =
     ap₂ (λ a b. write_if (a && b) (with_field old at width (signed_field_of width n)) old) (le-leb (at + width) (length old) l) (signed_room_lem width n p h)

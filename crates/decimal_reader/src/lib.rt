@@ -1,164 +1,106 @@
 // The reader of a field: the decimal number in its six columns, or in any number of columns where it has no minus sign.
 #![tactic(auto)]
 
-ghost use Rattle.std.specs.Prelude.{◌≡◌, ◌+◌, ◌*◌, ◌^◌, ◌≤◌, ◌<◌, leb, length, drop};
+ghost use Rattle.std.specs.Prelude.{◌≡◌, ◌+◌, ◌≤◌, ◌<◌, IfSome, not, ◌==◌, position, length, [], ◌∷◌};
 ghost use Rattle.decimal.specs.Trusted.Number.{columns, digits, natural, signed, in_word};
 ghost use Rattle.decimal.specs.Trusted.Reading.{field_answer, field_read, parsed, word_read};
-ghost use Rattle.decimal.specs.Inside.{Skipped};
 
-use decimal::{COLUMNS, Field, Parsed};
-
-// A tenth of 2^64, rounded down.
-const TENTH: u64 = 1844674407370955161;
+use decimal::COLUMNS;
 
 // So many digits are always below 2^64.
 const SHORT: usize = 19;
 
 // The number in the six columns of a field. A slice that is not six bytes long holds no number.
-pub fn read(s: &[u8]) -> Field
+pub fn read(s: &[u8]) -> Option<i32>
     ensures { result ≡ field_read s.now }
 {
     if s.len() != COLUMNS {
-        return Field::NoNumber;
+        return None;
     }
-    signed(s, blanks(s))
+    signed(&s[first_other(s)?..])
 }
 
 // The number in the columns, without a minus sign and below 2^64.
-pub fn read_word(s: &[u8]) -> Parsed
+pub fn read_word(s: &[u8]) -> Option<u64>
     ensures { result ≡ word_read s.now }
 {
-    let at = blanks(s);
-    if s.len() - at <= SHORT {
-        return natural(s, at);
-    }
-    long(s, at)
-}
-
-// How many blanks stand before the first byte that is none.
-fn blanks(s: &[u8]) -> usize
-    ensures { Skipped s.now result }
-{
-    let mut i = 0;
-    while i < s.len() {
-        if s[i] != b' ' {
-            return i;
-        }
-        i += 1;
-    }
-    i
-}
-
-// The number that the bytes from an index on make, with its sign. "-0" is no number.
-fn signed(s: &[u8], at: usize) -> Field
-    requires { length s.now ≤ columns }
-    ensures { result ≡ field_answer (signed (drop at s.now)) }
-{
-    if s.len() <= at {
-        return Field::NoNumber;
-    }
-    if s[at] == b'-' {
-        match natural(s, at + 1) {
-            Parsed::Natural(n) => {
-                let is_zero = n == 0;
-                if is_zero {
-                    Field::NoNumber
-                } else {
-                    Field::Value(-(n as i32))
-                }
-            }
-            Parsed::Nothing => Field::NoNumber,
-        }
+    let number = &s[first_other(s)?..];
+    if number.len() <= SHORT {
+        natural(number)
     } else {
-        match natural(s, at) {
-            Parsed::Natural(n) => Field::Value(n as i32),
-            Parsed::Nothing => Field::NoNumber,
-        }
+        long(number)
     }
 }
 
-// The number that the bytes from an index on make, 19 of them at most: one digit or more, with no leading zero.
-fn natural(s: &[u8], at: usize) -> Parsed
-    requires { (at ≤ length s.now) × (length s.now ≤ at + 19) }
-    ensures { result ≡ parsed (natural (drop at s.now)) }
+// Where the first byte stands that is no blank.
+fn first_other(s: &[u8]) -> Option<usize>
+    ensures { result ≡ position (λ b. not (b == 32)) s.now }
 {
-    if s.len() <= at {
-        return Parsed::Nothing;
-    }
-    if s[at] == b'0' {
-        if at + 1 < s.len() {
-            return Parsed::Nothing;
-        }
-    }
-    digits(s, at)
+    s.iter().position(|&b| b != b' ')
 }
 
-// The number that the bytes from an index on make, if each is a digit. So few digits cannot reach 2^64: nothing is tested.
-fn digits(s: &[u8], at: usize) -> Parsed
-    requires { (at ≤ length s.now) × (length s.now ≤ at + 19) }
-    ensures { result ≡ parsed (digits 0 (drop at s.now)) }
+// The number that the bytes make, with its sign. "-0" is no number.
+fn signed(s: &[u8]) -> Option<i32>
+    requires { length s.now ≤ columns }
+    ensures { result ≡ field_answer (signed s.now) }
 {
-    let mut n: u64 = 0;
-    let mut i = at;
-    while i < s.len() {
-        let b = s[i];
-        if b < b'0' {
-            return Parsed::Nothing;
+    match s {
+        [b'-', magnitude @ ..] => {
+            let n = natural(magnitude)?;
+            let is_zero = n == 0;
+            if is_zero { None } else { Some(-(n as i32)) }
         }
-        if b'9' < b {
-            return Parsed::Nothing;
-        }
-        n = 10 * n + ((b - b'0') as u64);
-        i += 1;
+        _ => Some(natural(s)? as i32),
     }
-    Parsed::Natural(n)
 }
 
-// The number below 2^64 that the bytes from an index on make, more than 19 of them.
-fn long(s: &[u8], at: usize) -> Parsed
-    requires { at + 19 < length s.now }
-    ensures { result ≡ parsed (in_word (natural (drop at s.now))) }
+// The number that the bytes make, 19 of them at most: one digit or more, with no leading zero.
+fn natural(s: &[u8]) -> Option<u64>
+    requires { length s.now ≤ 19 }
+    ensures { result ≡ parsed (natural s.now) }
 {
-    if s[at] == b'0' {
-        return Parsed::Nothing;
+    match s {
+        [] => None,
+        [b'0', _, ..] => None,
+        _ => digits(s),
     }
-    long_digits(s, at)
 }
 
-// The same, if each is a digit.
-fn long_digits(s: &[u8], at: usize) -> Parsed
-    ensures { result ≡ parsed (in_word (digits 0 (drop at s.now))) }
+// The number that the bytes make, if each is a digit. So few digits cannot reach 2^64: nothing is tested.
+fn digits(s: &[u8]) -> Option<u64>
+    requires { length s.now ≤ 19 }
+    ensures { result ≡ parsed (digits 0 s.now) }
 {
     let mut n: u64 = 0;
-    let mut i = at;
-    while i < s.len() {
-        let b = s[i];
-        if b < b'0' {
-            return Parsed::Nothing;
-        }
-        if b'9' < b {
-            return Parsed::Nothing;
-        }
-        let d = (b - b'0') as u64;
-        if past(n, d) {
-            return Parsed::Nothing;
-        }
-        n = 10 * n + d;
-        i += 1;
+    for &b in s {
+        n = 10 * n + digit(b)?;
     }
-    Parsed::Natural(n)
+    Some(n)
 }
 
-// Whether n with one digit more is 2^64 or more.
-fn past(n: u64, d: u64) -> bool
-    requires { d ≤ 9 }
-    ensures { result ≡ leb (2 ^ 64) (10 * n + d) }
+// The number below 2^64 that the bytes make, more than 19 of them.
+fn long(s: &[u8]) -> Option<u64>
+    requires { 19 < length s.now }
+    ensures { result ≡ parsed (in_word (natural s.now)) }
 {
-    if n < TENTH {
-        return false;
+    if s[0] == b'0' {
+        return None;
     }
-    if TENTH < n {
-        return true;
+    let mut n: u64 = 0;
+    for &b in s {
+        n = n.checked_mul(10)?.checked_add(digit(b)?)?;
     }
-    5 < d
+    Some(n)
+}
+
+// The value of a digit.
+fn digit(b: u8) -> Option<u64>
+    ensures read { result ≡ parsed (digits 0 (b ∷ [])) }
+    ensures value { IfSome result (λ d. (d ≤ 9) × (b ≡ 48 + d)) }
+{
+    if b.is_ascii_digit() {
+        Some((b - b'0') as u64)
+    } else {
+        None
+    }
 }

@@ -2,7 +2,7 @@
 // second byte on, and prints the line and the answer.
 #![tactic(auto)]
 
-use decimal::{Field, Parsed, Written};
+use decimal::TooWide;
 use input_reader::read_file;
 use std::io;
 
@@ -34,14 +34,10 @@ fn main(rt: HostRuntime) -> io::Result<()> {
 
 // Prints what each line of a text holds.
 fn print_fields(rt: &impl Print, text: &[u8]) -> io::Result<()> {
-    let mut start = 0;
-    let mut i = 0;
-    while i < text.len() {
-        if text[i] == b'\n' {
-            print_field(rt, &text[start..i])?;
-            start = i + 1;
+    for line in text.split_inclusive(|&b| b == b'\n') {
+        if let Some(s) = line.strip_suffix(b"\n") {
+            print_field(rt, s)?;
         }
-        i += 1;
     }
     Ok(())
 }
@@ -51,17 +47,17 @@ fn print_field(rt: &impl Print, s: &[u8]) -> io::Result<()> {
     print(rt, s)?;
     print(rt, b"] ")?;
     match decimal_reader::read(s) {
-        Field::Value(v) => {
+        Some(v) => {
             if decimal::negative(v) {
                 print(rt, b"minus ")?;
             }
             rt.print(decimal::magnitude(v))?;
         }
-        Field::NoNumber => print(rt, b"no number")?,
+        None => print(rt, b"no number")?,
     }
     match decimal_reader::read_word(s) {
-        Parsed::Natural(n) => println!(rt; ", word {n}"),
-        Parsed::Nothing => print(rt, b", no word\n"),
+        Some(n) => println!(rt; ", word {n}"),
+        None => print(rt, b", no word\n"),
     }
 }
 
@@ -79,10 +75,10 @@ fn print_signed(rt: &impl Print, width: usize, v: i32) -> io::Result<()> {
     print_answer(rt, answer)
 }
 
-fn print_answer(rt: &impl Print, answer: Written) -> io::Result<()> {
+fn print_answer(rt: &impl Print, answer: Result<(), TooWide>) -> io::Result<()> {
     match answer {
-        Written::Done => print(rt, b" done\n"),
-        Written::TooWide => print(rt, b" too wide\n"),
+        Ok(()) => print(rt, b" done\n"),
+        Err(TooWide) => print(rt, b" too wide\n"),
     }
 }
 

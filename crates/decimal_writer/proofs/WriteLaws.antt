@@ -1,6 +1,7 @@
 -- Writing a number column by column: what division by ten leaves, and the digits that a number has.
-use Prim.Native.Nat.{ℕ, zero, suc, ◌+◌, ◌*◌, ◌-◌, ◌/◌, ◌%◌, ◌^◌, ◌≤◌, ◌<◌}
-use native.Mathlib.Nat.{pow-le-pow_right, mod-lt, mod-add-div, div-eq_of_lt, le-div_iff_mul-le}
+use Rattle.std.specs.Prelude.{Ok}
+use Prim.Native.Nat.{max, ℕ, zero, suc, ◌+◌, ◌*◌, ◌-◌, ◌/◌, ◌%◌, ◌^◌, ◌≤◌, ◌<◌}
+use native.Mathlib.Nat.{pow-suc, pow-le-pow_right, mod-lt, mod-add-div, div-eq_of_lt}
 use native.Mathlib.Omega.{arith}
 use mathlib.Core.Path.{◌≡◌, refl, sym, ap, ap₂, ◌∙◌}
 use mathlib.Core.Bool.{true, false, not, cond, ◌&&◌}
@@ -8,7 +9,7 @@ use mathlib.Core.List.{List, ◌∷◌}
 use lib.Dec.{eqb}
 use lib.ListN.{length, drop, set, length-set}
 use lib.Seq.{drop-cons, drop-set-lt, get_or-set_same}
-use Rattle.lists.specs.Cases.{by_eqb, by_leb}
+use Rattle.lists.specs.Cases.{by_eqb}
 use Rattle.lists.specs.TestLaws.{reflects_eq, reflects_not, reflects_and, reflects_same, reflects_true, by_reflects}
 use Rattle.decimal.specs.Trusted.Columns.{room, column, field_of, signed_field_of}
 use Rattle.decimal.specs.Trusted.Number.{Number}
@@ -16,7 +17,6 @@ use Rattle.decimal.specs.ColumnLaws.{reflects_room, ten_pos}
 use Rattle.decimal.specs.FieldLaws.{plain_field, minus_digits}
 use Rattle.decimal.specs.Trusted.Writing.{write_if, field_written, signed_written}
 use Rattle.decimal.specs.Inside.{digit_of, DigitCount}
-use Rattle.decimal.specs.declared.Written.TheVariants.{Done}
 
 -- nothing is left of a number below the divisor, and only of such a number
 pub div_none : (n b : ℕ) → 0 < b → n / b ≡ 0 → n < b
@@ -39,21 +39,27 @@ drop_set l i b h =
     let m : i < length (set l i b) = simp length-set h in
     drop-cons (set l i b) i 0 m ∙ rw (get_or-set_same l i b 0 h, drop-set-lt (suc i) l i b (omega arith))
 
--- the column before those from i, with k columns to its right; `left` is what stands there and further left
-pub column_more : (dst : List ℕ) (n i k width left b : ℕ) → 0 < i → k + i ≡ width → length dst ≡ width → left ≡ n / 10 ^ k →
-    b ≡ digit_of left (eqb i width) → drop i dst ≡ field_of k n → drop (i - 1) (set dst (i - 1) b) ≡ field_of (suc k) n
-column_more dst n i k width left b p s h l d e =
-    let same : suc (i - 1) ≡ i = omega arith in
-    let last : eqb i width ≡ eqb k 0 = reflects_same (reflects_eq i width) (reflects_eq k 0) (λ f. omega arith) (λ f. omega arith) in
-    drop_set dst (i - 1) b (omega arith) ∙ ap₂ ◌∷◌ (d ∙ ap₂ digit_of l last ∙ sym (column_digit n k)) (ap (λ m. drop m dst) same ∙ e)
+-- the column with k columns to its right, after those; `left` is what stands there and further left
+pub column_more : (dst : List ℕ) (n k width left b : ℕ) → k < width → length dst ≡ width → left ≡ n / 10 ^ k → b ≡ digit_of left (eqb k 0) →
+    drop (width - k) dst ≡ field_of k n → drop (width - (k + 1)) (set dst (width - k - 1) b) ≡ field_of (k + 1) n
+column_more dst n k width left b s h l d e =
+    let here : width - (k + 1) ≡ width - k - 1 = omega arith in
+    let right : suc (width - k - 1) ≡ width - k = omega arith in
+    let more : k + 1 ≡ suc k = omega arith in
+    rw (here, more)
+    (drop_set dst (width - k - 1) b (omega arith)
+    ∙ ap₂ ◌∷◌ (d ∙ ap (λ m. digit_of m (eqb k 0)) l ∙ sym (column_digit n k)) (ap (λ m. drop m dst) right ∙ e))
 
 -- ---- digits
 
-pub power_some : (n k : ℕ) → 0 < n / 10 ^ k → 10 ^ k ≤ n
-power_some n k h = omega (arith, (le-div_iff_mul-le {k = 10 ^ k} {x = 1} {y = n} (ten_pos k)).0 h)
-
-pub power_below : (n k : ℕ) → n < 2 ^ 64 → 10 ^ k ≤ n → k < 20
-power_below n k h l = by_leb (λ b. k < 20) 20 k (λ m. absurd (omega (arith, pow-le-pow_right {n = 10} (omega arith) {i = 20} {j = k} m))) (λ m. m)
+pub count_from_log : (n m r : ℕ) → m ≡ max n 1 → 10 ^ r ≤ m → m < 10 * 10 ^ r → DigitCount n (r + 1)
+count_from_log n m r e l h =
+    let more : r + 1 ≡ suc r = omega arith in
+    let back : r + 1 - 1 ≡ r = omega arith in record {
+      some = omega arith;
+      enough = rw (more, pow-suc 10 r) (omega arith);
+      least = λ p. rw back (omega (arith, pow-le-pow_right {n = 10} (omega arith) {i = 1} {j = r} (omega arith)));
+    }
 
 pub plain_written : (old : List ℕ) (n : ℕ) → field_written old n ≡ signed_written old (record { negative = false; magnitude = n })
 plain_written old n = ap (λ l. write_if (room (length old) n) l old) (sym (plain_field (length old) n))
@@ -89,7 +95,7 @@ module _ {n count : ℕ} (d : DigitCount n count) where
 
   -- the minus sign stands before the digits
   pub minus_written : (old : List ℕ) → count < length old →
-      record { answer = Done; bytes = set (field_of (length old) n) (length old - count - 1) 45 } ≡ signed_written old (record { negative = true; magnitude = n })
+      record { answer = Ok tt; bytes = set (field_of (length old) n) (length old - count - 1) 45 } ≡ signed_written old (record { negative = true; magnitude = n })
   unfolding minus
   minus_written old h = sym (ap₂ (λ b l. write_if b l old) (has_room (length old - 1) (omega arith)) (whole (length old) h))
     where

@@ -7,21 +7,21 @@ ghost use Rattle.decimal.specs.Trusted.Reading.{number_of_int};
 ghost use Rattle.decimal.specs.Trusted.Writing.{field_written, signed_written, field_written_at, signed_written_at};
 ghost use Rattle.decimal.specs.Inside.{digit_of, DigitCount};
 
-use decimal::{Written, magnitude, negative};
+use decimal::{TooWide, magnitude, negative};
 
 // Writes a number right-justified after blanks into the whole of `dst`, if it has room there.
-pub fn write(dst: &mut [u8], n: u64) -> Written
+pub fn write(dst: &mut [u8], n: u64) -> Result<(), TooWide>
     ensures { record { answer = result; bytes = dst.new } ≡ field_written dst.old n }
 {
     if dst.len() < digit_count(n) {
-        return Written::TooWide;
+        return Err(TooWide);
     }
     put(dst, n);
-    Written::Done
+    Ok(())
 }
 
 // The same of a signed number, with a minus sign before the digits of one below zero.
-pub fn write_signed(dst: &mut [u8], v: i32) -> Written
+pub fn write_signed(dst: &mut [u8], v: i32) -> Result<(), TooWide>
     ensures { record { answer = result; bytes = dst.new } ≡ signed_written dst.old (number_of_int v) }
 {
     let n = magnitude(v) as u64;
@@ -30,37 +30,31 @@ pub fn write_signed(dst: &mut [u8], v: i32) -> Written
     }
     let count = digit_count(n);
     if dst.len() <= count {
-        return Written::TooWide;
+        return Err(TooWide);
     }
     put(dst, n);
     let sign = dst.len() - count - 1;
     dst[sign] = b'-';
-    Written::Done
+    Ok(())
 }
 
 // Writes a number into the field of `width` bytes that starts at `at`. Bytes outside the field stay.
-pub fn write_at(buf: &mut [u8], at: usize, width: usize, n: u64) -> Written
+pub fn write_at(buf: &mut [u8], at: usize, width: usize, n: u64) -> Result<(), TooWide>
     ensures { record { answer = result; bytes = buf.new } ≡ field_written_at buf.old at width n }
 {
-    if buf.len() < at {
-        return Written::TooWide;
-    }
-    if buf.len() - at < width {
-        return Written::TooWide;
+    if buf.len() < at || buf.len() - at < width {
+        return Err(TooWide);
     }
     let end = at + width;
     write(&mut buf[at..end], n)
 }
 
 // The same of a signed number.
-pub fn write_signed_at(buf: &mut [u8], at: usize, width: usize, v: i32) -> Written
+pub fn write_signed_at(buf: &mut [u8], at: usize, width: usize, v: i32) -> Result<(), TooWide>
     ensures { record { answer = result; bytes = buf.new } ≡ signed_written_at buf.old at width (number_of_int v) }
 {
-    if buf.len() < at {
-        return Written::TooWide;
-    }
-    if buf.len() - at < width {
-        return Written::TooWide;
+    if buf.len() < at || buf.len() - at < width {
+        return Err(TooWide);
     }
     let end = at + width;
     write_signed(&mut buf[at..end], v)
@@ -70,13 +64,7 @@ pub fn write_signed_at(buf: &mut [u8], at: usize, width: usize, v: i32) -> Writt
 fn digit_count(n: u64) -> usize
     ensures { DigitCount n result }
 {
-    let mut rest = n / 10;
-    let mut count: usize = 1;
-    while 0 < rest {
-        rest = rest / 10;
-        count += 1;
-    }
-    count
+    n.max(1).ilog10() as usize + 1
 }
 
 // The lowest digits of a number, one to a column, with blanks left of the number.
@@ -85,11 +73,8 @@ fn put(dst: &mut [u8], n: u64)
 {
     let width = dst.len();
     let mut left = n;
-    let mut i = width;
-    while 0 < i {
-        let b = digit(left, i == width);
-        i -= 1;
-        dst[i] = b;
+    for right in 0..width {
+        dst[width - right - 1] = digit(left, right == 0);
         left = left / 10;
     }
 }
@@ -98,11 +83,9 @@ fn put(dst: &mut [u8], n: u64)
 fn digit(left: u64, last: bool) -> u8
     ensures { result ≡ digit_of left last }
 {
-    if left == 0 {
-        if last {
-            return b'0';
-        }
-        return b' ';
+    if left == 0 && !last {
+        b' '
+    } else {
+        b'0' + ((left % 10) as u8)
     }
-    b'0' + ((left % 10) as u8)
 }

@@ -9,7 +9,6 @@ ghost use Rattle.opening.specs.Trusted.Opening.{count as count_of};
 ghost use Rattle.fast_opening.specs.Trusted.FastOpening.{fast_numbers, unopened, wanted_after, fast_opened_by};
 ghost use Rattle.fast_opening.specs.Promises.{fast_start};
 
-use decimal::Field;
 use opening::Told;
 use part::{Opening, Part};
 
@@ -102,13 +101,13 @@ pub fn read_fast_opening(input: &[u8]) -> FastOpening
     let first = decimal_reader::read(&input[0..6]);
     let second = decimal_reader::read(&input[6..12]);
     let third = decimal_reader::read(&input[12..18]);
-    let Field::Value(k) = first else {
+    let Some(k) = first else {
         return refuse(1);
     };
-    let Field::Value(capacity) = second else {
+    let Some(capacity) = second else {
         return refuse(1);
     };
-    let Field::Value(wanted) = third else {
+    let Some(wanted) = third else {
         return refuse(1);
     };
     open(count(k), count(capacity), wanted)

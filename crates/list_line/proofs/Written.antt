@@ -8,10 +8,11 @@ use Rattle.decimal.specs.Trusted.Columns.{field_of}
 use Rattle.decimal.specs.ColumnLaws.{reflects_room, field_length}
 use Rattle.decimal.specs.Trusted.Writing.{FieldWrite, write_if, field_written_at}
 use Rattle.decimal.specs.Trusted.Columns.{with_field}
-use Rattle.decimal.specs.declared.Written.{Written}
+use Rattle.std.specs.Prelude.{⊤, Result}
+use Rattle.decimal.specs.declared.TooWide.{TooWide}
 use Rattle.list_line.specs.Trusted.Writes.{pasted}
 
-pub number_written : (old new : List ℕ) (at width n : ℕ) {a : Written} → at + width ≤ length old → (0 < width) × (n < 10 ^ width) →
+pub number_written : (old new : List ℕ) (at width n : ℕ) {a : Result ⊤ TooWide} → at + width ≤ length old → (0 < width) × (n < 10 ^ width) →
     record { answer = a; bytes = new } ≡ field_written_at old at width n → new ≡ pasted old at (field_of width n)
 number_written old new at width n {a} l h e =
     ap (λ (o : FieldWrite). o.bytes) e

@@ -26,7 +26,7 @@ fn put_field(buf: &mut [u8], at: usize, n: u16)
     requires { at + 6 ≤ length buf.old }
     ensures { buf.new ≡ pasted buf.old at (field_of 6 n) }
 {
-    decimal_writer::write_at(buf, at, FIELD, n as u64);
+    let _ = decimal_writer::write_at(buf, at, FIELD, n as u64);
 }
 
 // A truth table, from the place on.
@@ -34,7 +34,7 @@ fn put_truth(buf: &mut [u8], at: usize, truth: u64)
     requires { at + 21 ≤ length buf.old }
     ensures { buf.new ≡ pasted buf.old at (field_of 21 truth) }
 {
-    decimal_writer::write_at(buf, at, TRUTH, truth);
+    let _ = decimal_writer::write_at(buf, at, TRUTH, truth);
 }
 
 // A line feed at the place.

@@ -6,7 +6,7 @@ ghost use Rattle.decimal.specs.Trusted.Reading.{parsed};
 ghost use Rattle.list_layout.specs.Trusted.Layout.{first_number};
 ghost use Rattle.list_layout.specs.Taken.{narrow, input_count, not_laid, NumbersTaken, LineFeedTaken, TopTaken, TableTaken};
 
-use decimal::{COLUMNS, Parsed};
+use decimal::COLUMNS;
 use decimal_reader::read_word;
 use list_layout::{FieldNumbers, TableRead, TopRead};
 use lists::within;
@@ -16,18 +16,14 @@ use table::{INPUT_ROOM, Table, blank};
 const TRUTH: usize = 21;
 
 // The number in so many columns from the place on; nothing where the text ends before.
-fn number_at(text: &[u8], at: usize, width: usize) -> Parsed
+fn number_at(text: &[u8], at: usize, width: usize) -> Option<u64>
     ensures { result ≡ parsed (first_number width (drop at text.now)) }
 {
     let len = text.len();
-    if len < at {
-        return Parsed::Nothing;
+    if len < at || len - at < width {
+        return None;
     }
-    if len - at < width {
-        return Parsed::Nothing;
-    }
-    let end = at + width;
-    read_word(&text[at..end])
+    read_word(&text[at..at + width])
 }
 
 // The numbers of n fields from the place on.
@@ -39,7 +35,7 @@ fn numbers_at(text: &[u8], at: usize, n: usize) -> FieldNumbers
     let mut place = at;
     let mut i = 0;
     while i < n {
-        let Parsed::Natural(x) = number_at(text, place, COLUMNS) else {
+        let Some(x) = number_at(text, place, COLUMNS) else {
             return FieldNumbers {
                 laid: false,
                 numbers,
@@ -149,7 +145,7 @@ pub fn read_table(text: &[u8], at: usize, t: u16) -> TableRead
         return not_laid();
     }
     let place = first + COLUMNS * n;
-    let Parsed::Natural(truth) = number_at(text, place, TRUTH) else {
+    let Some(truth) = number_at(text, place, TRUTH) else {
         return not_laid();
     };
     let end = place + TRUTH;

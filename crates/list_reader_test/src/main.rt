@@ -91,7 +91,7 @@ fn print_levels(rt: &impl Print, part: Part) -> io::Result<()> {
 // A level in six columns.
 fn print_level(rt: &impl Print, level: u16) -> io::Result<()> {
     let mut b = [b' '; 6];
-    decimal_writer::write(&mut b, level as u64);
+    let _ = decimal_writer::write(&mut b, level as u64);
     print(rt, &b)
 }
 

@@ -8,7 +8,6 @@ ghost use Rattle.part.specs.Trusted.OpenAnswers.{opening_answer};
 ghost use Rattle.opening.specs.Trusted.Opening.{count as count_of, opening_numbers, opened_by};
 ghost use Rattle.opening.specs.Promises.{told as told_answer, start_result};
 
-use decimal::Field;
 use part::{Opening, Part};
 
 // The bytes of the opening line with its line feed.
@@ -82,10 +81,10 @@ pub fn read_opening(input: &[u8]) -> Start
     }
     let first = decimal_reader::read(&input[0..6]);
     let second = decimal_reader::read(&input[6..12]);
-    let Field::Value(k) = first else {
+    let Some(k) = first else {
         return no_opening();
     };
-    let Field::Value(capacity) = second else {
+    let Some(capacity) = second else {
         return no_opening();
     };
     let most = count(decimal::negative(k), decimal::magnitude(k));

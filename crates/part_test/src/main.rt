@@ -32,7 +32,6 @@
 ghost use Rattle.std.specs.Prelude.{◌≡◌, ◌≤◌, length};
 ghost use Rattle.std.specs.Io.{ReadsAtMost};
 
-use decimal::Field;
 use input_reader::{read_file, read_full};
 use listing::WriteAnswer;
 use part::{Added, Adding, Opening, Part, SetAdded, SetAdding};
@@ -69,11 +68,7 @@ fn field(s: &[u8], i: usize) -> u32 {
     if s.len() < end {
         return 0;
     }
-    let f = decimal_reader::read(&s[start..end]);
-    match f {
-        Field::Value(v) => decimal::magnitude(v),
-        Field::NoNumber => 0,
-    }
+    decimal_reader::read(&s[start..end]).map_or(0, decimal::magnitude)
 }
 
 fn low16(x: u32) -> u16 {
@@ -87,7 +82,7 @@ fn low8(x: u32) -> u8 {
 // A number in six columns.
 fn put(rt: &impl Print, v: i32) -> io::Result<()> {
     let mut b = [b' '; 6];
-    decimal_writer::write_signed(&mut b, v);
+    let _ = decimal_writer::write_signed(&mut b, v);
     rt.write_all(&b)
 }
 

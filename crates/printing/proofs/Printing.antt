@@ -19,7 +19,8 @@ use Rattle.decimal.specs.Trusted.Reading.{number_of_int}
 use Rattle.decimal.specs.Trusted.Writing as writing
 use Rattle.decimal.specs.WritingLaws.{signed_written_at_lem}
 use Rattle.decimal.proofs.SignLaws.{minus_bits, negated_fits}
-use Rattle.decimal.specs.declared.Written.{Written}
+use Rattle.std.specs.Prelude.{⊤, Result}
+use Rattle.decimal.specs.declared.TooWide.{TooWide}
 use Rattle.part.specs.Trusted.Sound.{Sound}
 use Rattle.part.specs.SoundLaws.{sound_reflects}
 use Rattle.listing.specs.Trusted.Listing.{list_of}
@@ -83,7 +84,7 @@ module _ (old : List ℕ) (number sheet place : ℕ) where
   refusal_out l = sym (fitted_out old 0 {line = refusal_line number sheet place} refl (lt-leb 19 (length old) l))
 
   module _ (room : 19 ≤ length old) (some : 0 < number) (small : number < 256) (few : sheet < 65536) (low : place < 65536) where
-    pub refusal_in : (a b d : List ℕ) {x y z : Written} →
+    pub refusal_in : (a b d : List ℕ) {x y z : Result ⊤ TooWide} →
         record { answer = x; bytes = a } ≡ writing.signed_written_at old 0 6 (minus number) →
         record { answer = y; bytes = b } ≡ writing.field_written_at a 6 6 sheet →
         record { answer = z; bytes = d } ≡ writing.field_written_at b 12 6 place →

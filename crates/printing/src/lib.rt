@@ -31,9 +31,9 @@ pub fn print_refusal(output: &mut [u8], number: u8, sheet: u16, place: u16) -> P
     if output.len() < REFUSAL {
         return Printed::NoRoom;
     }
-    decimal_writer::write_signed_at(output, 0, FIELD, -(number as i32));
-    decimal_writer::write_at(output, 6, FIELD, sheet as u64);
-    decimal_writer::write_at(output, 12, FIELD, place as u64);
+    let _ = decimal_writer::write_signed_at(output, 0, FIELD, -(number as i32));
+    let _ = decimal_writer::write_at(output, 6, FIELD, sheet as u64);
+    let _ = decimal_writer::write_at(output, 12, FIELD, place as u64);
     output[18] = b'\n';
     Printed::Wrote(REFUSAL)
 }

@@ -4,7 +4,6 @@
 // level.
 #![tactic(auto)]
 
-use decimal::Field;
 use input_reader::read_file;
 use records::Found;
 use std::rt::Files;
@@ -84,10 +83,7 @@ fn field(text: &[u8], start: usize, i: usize) -> u32 {
     }
     let at = start + from;
     let end = at + 6;
-    match decimal_reader::read(&text[at..end]) {
-        Field::Value(v) => decimal::magnitude(v),
-        Field::NoNumber => 0,
-    }
+    decimal_reader::read(&text[at..end]).map_or(0, decimal::magnitude)
 }
 
 fn low16(x: u32) -> u16 {
@@ -111,7 +107,7 @@ fn print_found(rt: &impl Print, f: Found) -> io::Result<()> {
 // A number on a line of its own.
 fn print_number(rt: &impl Print, v: i32) -> io::Result<()> {
     let mut b = [b' '; 6];
-    decimal_writer::write_signed(&mut b, v);
+    let _ = decimal_writer::write_signed(&mut b, v);
     rt.write_all(&b)?;
     rt.write_all(b"\n")
 }

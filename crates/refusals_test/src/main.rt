@@ -7,7 +7,7 @@ use std::io;
 // The number in six columns, and a blank.
 fn say_number(rt: &impl Print, number: u32) -> io::Result<()> {
     let mut columns = [b' '; 6];
-    decimal_writer::write(&mut columns, number as u64);
+    let _ = decimal_writer::write(&mut columns, number as u64);
     rt.write_all(&columns)?;
     rt.write_all(b" ")
 }

@@ -93,7 +93,7 @@ pub fn read_fields(line: &[u8]) -> Fields
             return no_fields();
         }
         let end = at + decimal::COLUMNS;
-        let decimal::Field::Value(v) = decimal_reader::read(&line[at..end]) else {
+        let Some(v) = decimal_reader::read(&line[at..end]) else {
             return no_fields();
         };
         let sign = sign_of(decimal::negative(v));

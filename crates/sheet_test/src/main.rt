@@ -107,7 +107,7 @@ fn print_signed(rt: &impl Print, negative: bool, n: u32) -> io::Result<()> {
         print(rt, b" ")?;
     }
     let mut field = [b' '; 6];
-    decimal_writer::write(&mut field, n as u64);
+    let _ = decimal_writer::write(&mut field, n as u64);
     print(rt, &field)
 }
 

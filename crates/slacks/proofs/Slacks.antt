@@ -16,7 +16,8 @@ use Rattle.decimal.specs.Trusted.Columns.{field_of, signed_field_of}
 use Rattle.decimal.specs.Trusted.Reading.{number_of_int}
 use Rattle.decimal.specs.Trusted.Writing as writing
 use Rattle.decimal.specs.WritingLaws.{signed_written_at_lem}
-use Rattle.decimal.specs.declared.Written.{Written}
+use Rattle.std.specs.Prelude.{⊤, Result}
+use Rattle.decimal.specs.declared.TooWide.{TooWide}
 use Rattle.list_line.specs.Trusted.Writes.{pasted}
 use Rattle.list_line.specs.PasteLaws.{paste_one, paste_length, paste_next}
 use Rattle.list_line.proofs.Written.{number_written}
@@ -61,7 +62,7 @@ module _ (wanted level : ℕ) (h : wanted < 65536) (k : level < 65536) where
 -- ---- the line
 
 module _ (old : List ℕ) (at wanted net level : ℕ) (room : at + 13 ≤ length old) (h : wanted < 65536) (few : net < 65536) (k : level < 65536) where
-  pub slack_line_lem : (a b : List ℕ) {x y : Written} →
+  pub slack_line_lem : (a b : List ℕ) {x y : Result ⊤ TooWide} →
       record { answer = x; bytes = a } ≡ writing.field_written_at old at 6 net →
       record { answer = y; bytes = b } ≡ writing.signed_written_at a (at + 6) 6 (slack_of wanted level) →
       set b (at + 12) 10 ≡ pasted old at (slack_line wanted net level)

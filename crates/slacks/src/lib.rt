@@ -44,8 +44,8 @@ fn put_slack(buf: &mut [u8], at: usize, wanted: u16, net: u16, level: u16)
     ensures { buf.new ≡ pasted buf.old at (slack_line wanted net level) }
 {
     let slack = wanted as i32 - level as i32;
-    decimal_writer::write_at(buf, at, FIELD, net as u64);
-    decimal_writer::write_signed_at(buf, at + 6, FIELD, slack);
+    let _ = decimal_writer::write_at(buf, at, FIELD, net as u64);
+    let _ = decimal_writer::write_signed_at(buf, at + 6, FIELD, slack);
     buf[at + 12] = b'\n';
 }
 

@@ -1,19 +1,18 @@
 -- What writing a number into a field does: the answer, and the bytes after it, for every width and every number.
 -- Definitions only: the laws are in WritingLaws.
-use Rattle.std.specs.Prelude.{ℕ, ◌+◌, Bool, true, false, ◌&&◌, List, leb, length}
+use Rattle.std.specs.Prelude.{ℕ, ◌+◌, Bool, true, false, ◌&&◌, List, leb, length, ⊤, Result, Ok, Err}
 use Rattle.decimal.specs.Trusted.Number.{Number}
 use Rattle.decimal.specs.Trusted.Columns.{room, field_of, signed_room, signed_field_of, with_field}
-use Rattle.decimal.specs.declared.Written.{Written}
-use Rattle.decimal.specs.declared.Written.TheVariants.{Done, TooWide}
+use Rattle.decimal.specs.declared.TooWide.{TooWide}
 
 pub record FieldWrite : Type 0 where
-  pub answer : Written
+  pub answer : Result ⊤ TooWide
   pub bytes : List ℕ
 
 -- a number without room alters no byte
 abbrev pub write_if : Bool → List ℕ → List ℕ → FieldWrite
-write_if true new old = record { answer = Done; bytes = new }
-write_if false new old = record { answer = TooWide; bytes = old }
+write_if true new old = record { answer = Ok tt; bytes = new }
+write_if false new old = record { answer = Err (record {}); bytes = old }
 
 -- a number into a whole field
 abbrev pub field_written : List ℕ → ℕ → FieldWrite

@@ -1,12 +1,14 @@
-use native.Mathlib.Omega.{arith}
-use mathlib.Core.Path.{sym, ap, ◌∙◌}
+use Rattle.std.proofs.Common.{arith, sym, ap, ◌∙◌}
 use Rattle.decimal.specs.Trusted.Reading.{field_answer}
-use Rattle.decimal_reader.proofs.NumberLaws.{field_signed, field_other}
+use Rattle.decimal_reader.proofs.NumberLaws.{field_full, number_none, number_there}
 use Rattle.decimal_reader.proofs.read.Goals as goal
 
-pub returns-then-s-ne-COLUMNS : goal.returns-then-s-ne-COLUMNS
-returns-then-s-ne-COLUMNS c = sym (ap field_answer (field_other c.args.s.now c.if-s-ne-COLUMNS.true))
+pub returns-in_err-first_other : goal.returns-in_err-first_other
+returns-in_err-first_other c =
+    let s = c.args.s.now in
+    c.from_residual.ensures ∙ sym (ap field_answer (field_full s (omega arith) ∙ number_none s (sym c.first_other.ensures ∙ c.in_err-first_other.was)))
 
 pub returns : goal.returns
 returns c =
-    c.signed.ensures ∙ sym (ap field_answer (field_signed c.args.s.now c.blanks.result (omega arith) c.blanks.ensures))
+    let s = c.args.s.now in
+    c.signed.ensures ∙ sym (ap field_answer (field_full s (omega arith) ∙ number_there s (sym c.first_other.ensures ∙ c.in_ok-first_other.was)))

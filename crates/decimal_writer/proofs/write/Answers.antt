@@ -1,8 +1,8 @@
+use Rattle.std.specs.Prelude.{Ok}
 use mathlib.Core.Path.{sym, ap, ◌∙◌}
 use lib.ListN.{length}
 use Rattle.decimal.specs.Trusted.Columns.{field_of}
 use Rattle.decimal.specs.Trusted.Writing.{write_if}
-use Rattle.decimal.specs.declared.Written.TheVariants.{Done}
 use Rattle.decimal_writer.proofs.WriteLaws.{has_room, no_room}
 use Rattle.decimal_writer.proofs.write.Goals as goal
 
@@ -16,5 +16,5 @@ pub returns : goal.returns
 returns c =
     let a = c.args in
     let dst = a.dst.now in
-    ap (λ l. record { answer = Done; bytes = l }) c.put.ensures
+    ap (λ l. record { answer = Ok tt; bytes = l }) c.put.ensures
     ∙ sym (ap (λ b. write_if b (field_of (length dst) a.n) dst) (has_room c.digit_count.ensures (length dst) c.if-dst-digit_count.false))

@@ -8,11 +8,6 @@ returns-then-buf-at c =
     let a = c.args in
     place_past (room a.width a.n) a.buf.now (field_of a.width a.n) a.at a.width (omega arith)
 
-pub returns-then-buf-at-2 : goal.returns-then-buf-at-2
-returns-then-buf-at-2 c =
-    let a = c.args in
-    place_past (room a.width a.n) a.buf.now (field_of a.width a.n) a.at a.width (omega arith)
-
 pub returns : goal.returns
 returns c =
     let a = c.args in

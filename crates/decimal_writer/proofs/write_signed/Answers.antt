@@ -1,3 +1,4 @@
+use Rattle.std.specs.Prelude.{Ok}
 use Prim.Native.Nat.{◌-◌}
 use mathlib.Core.Path.{◌≡◌, sym, ap, ap₂, ◌∙◌}
 use lib.ListN.{length, set}
@@ -6,7 +7,6 @@ use Rattle.decimal.specs.Trusted.Columns.{field_of}
 use Rattle.decimal.specs.ColumnLaws.{field_length}
 use Rattle.decimal.specs.Trusted.Reading.{number_of_int}
 use Rattle.decimal.specs.Trusted.Writing.{signed_written}
-use Rattle.decimal.specs.declared.Written.TheVariants.{Done}
 use Rattle.decimal_writer.proofs.WriteLaws.{plain_written, minus_written, minus_wide}
 use Rattle.decimal_writer.proofs.write_signed.Goals as goal
 use Rattle.decimal_writer.proofs.write_signed.Goals.{After-negative}
@@ -38,7 +38,7 @@ returns c =
     let m = c.magnitude-n.result in
     let dst = c.args.dst.now in
     let count = c.digit_count-count.result in
-    ap (λ l. record { answer = Done; bytes = set l (length l - count - 1) 45 }) c.put.ensures
-    ∙ ap (λ w. record { answer = Done; bytes = set (field_of (length dst) m) (w - count - 1) 45 }) (field_length (length dst) m)
+    ap (λ l. record { answer = Ok tt; bytes = set l (length l - count - 1) 45 }) c.put.ensures
+    ∙ ap (λ w. record { answer = Ok tt; bytes = set (field_of (length dst) m) (w - count - 1) 45 }) (field_length (length dst) m)
     ∙ minus_written c.digit_count-count.ensures dst c.if-dst-count.false
     ∙ sym (ap (signed_written dst) (number (goal.at.returns c).After-negative ∙ ap (λ b. record { negative = b; magnitude = m }) c.if-not-negative.false))

@@ -14,11 +14,6 @@ returns-then-buf-at c =
     let a = c.args in
     place_past (signed_room a.width (number_of_int a.v)) a.buf.now (signed_field_of a.width (number_of_int a.v)) a.at a.width (omega arith)
 
-pub returns-then-buf-at-2 : goal.returns-then-buf-at-2
-returns-then-buf-at-2 c =
-    let a = c.args in
-    place_past (signed_room a.width (number_of_int a.v)) a.buf.now (signed_field_of a.width (number_of_int a.v)) a.at a.width (omega arith)
-
 pub returns : goal.returns
 returns c =
     let a = c.args in

@@ -39,7 +39,7 @@ returns c =
     let input = c.args.input.now in
     opened_fast c.count.result c.count-2.result
     (three_numbers input c.if-input-ne10.false
-    (read_held (take columns input) (sym c.read-first.ensures ∙ c.in-Value.is))
-    (read_held (take columns (drop 6 input)) (sym c.read-second.ensures ∙ c.in-Value-second.is))
-    (read_held (take columns (drop 12 input)) (sym c.read-third.ensures ∙ c.in-Value-third.is)))
+    (read_held (take columns input) (sym c.read-first.ensures ∙ c.in-Some.is))
+    (read_held (take columns (drop 6 input)) (sym c.read-second.ensures ∙ c.in-Some-second.is))
+    (read_held (take columns (drop 12 input)) (sym c.read-third.ensures ∙ c.in-Some-third.is)))
     c.count.ensures c.count-2.ensures c.«open».ensures

@@ -11,11 +11,6 @@ returns-then-len-at c =
     let a = c.args in
     sym (ap parsed (first_short a.width a.at a.text.now (omega arith)))
 
-pub returns-then-len-at-2 : goal.returns-then-len-at-2
-returns-then-len-at-2 c =
-    let a = c.args in
-    sym (ap parsed (first_short a.width a.at a.text.now (omega arith)))
-
 pub returns : goal.returns
 returns c =
     let a = c.args in

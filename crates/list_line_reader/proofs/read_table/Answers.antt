@@ -13,7 +13,7 @@ use Rattle.list_layout.specs.Taken.{LineFeedTaken, TableTaken}
 use Rattle.list_layout.specs.TakenLaws.{first_ends}
 use Rattle.list_layout.specs.LineTakenLaws.{head_not, HeadTaken, head_there, inputs_not, truth_not, feed_not, table_there}
 use Rattle.list_line_reader.proofs.read_table.Goals as goal
-use Rattle.list_line_reader.proofs.read_table.Goals.{After-narrow, Else-n-eq0, Else-not-inputs, In-Natural}
+use Rattle.list_line_reader.proofs.read_table.Goals.{After-narrow, Else-n-eq0, Else-not-inputs, In-Some}
 
 pub returns-then-n-eq0 : goal.returns-then-n-eq0
 returns-then-n-eq0 c =
@@ -70,17 +70,17 @@ returns-in_default c =
     (truth_not a.text.now a.at a.t f.result f.ensures (head_taken (goal.at.returns-in_default c).Else-n-eq0) c.numbers_at-inputs.result c.numbers_at-inputs.ensures (inputs_laid (goal.at.returns-in_default c).Else-not-inputs)
     (parsed_none (first_number 21 (drop p a.text.now)) (sym c.number_at.ensures ∙ c.in_default.is)))
 
-truth_found : (c : In-Natural) →
+truth_found : (c : In-Some) →
     let a = c.args in
-    first_number 21 (drop (a.at + 18 + columns * c.input_count-n.result) a.text.now) ≡ some c.in-Natural.truth
+    first_number 21 (drop (a.at + 18 + columns * c.input_count-n.result) a.text.now) ≡ some c.in-Some.truth
 truth_found c =
     let a = c.args in
-    parsed_some (first_number 21 (drop (a.at + 18 + columns * c.input_count-n.result) a.text.now)) (sym c.number_at.ensures ∙ c.in-Natural.is)
+    parsed_some (first_number 21 (drop (a.at + 18 + columns * c.input_count-n.result) a.text.now)) (sym c.number_at.ensures ∙ c.in-Some.is)
 
 pub overflow_add-end : goal.overflow_add-end
 overflow_add-end c =
     let a = c.args in
-    omega (arith, first_ends 21 (a.at + 18 + columns * c.input_count-n.result) a.text.now (omega arith) (truth_found (goal.at.overflow_add-end c).In-Natural))
+    omega (arith, first_ends 21 (a.at + 18 + columns * c.input_count-n.result) a.text.now (omega arith) (truth_found (goal.at.overflow_add-end c).In-Some))
 
 pub returns-then-not-line_feed_at : goal.returns-then-not-line_feed_at
 returns-then-not-line_feed_at c =
@@ -88,7 +88,7 @@ returns-then-not-line_feed_at c =
     let f = c.numbers_at-head in
     let p = a.at + 18 + columns * c.input_count-n.result in
     subst (TableTaken a.text.now a.at a.t) (sym c.not_laid-then-not-line_feed_at.ensures)
-    (feed_not a.text.now a.at a.t f.result f.ensures (head_taken (goal.at.returns-then-not-line_feed_at c).Else-n-eq0) c.numbers_at-inputs.result c.numbers_at-inputs.ensures (inputs_laid (goal.at.returns-then-not-line_feed_at c).Else-not-inputs) (truth_found (goal.at.returns-then-not-line_feed_at c).In-Natural)
+    (feed_not a.text.now a.at a.t f.result f.ensures (head_taken (goal.at.returns-then-not-line_feed_at c).Else-n-eq0) c.numbers_at-inputs.result c.numbers_at-inputs.ensures (inputs_laid (goal.at.returns-then-not-line_feed_at c).Else-not-inputs) (truth_found (goal.at.returns-then-not-line_feed_at c).In-Some)
     (subst (LineFeedTaken a.text.now (p + 21)) (c.if-not-line_feed_at.true) c.line_feed_at.ensures))
 
 pub overflow_cast-table : goal.overflow_cast-table
@@ -112,8 +112,8 @@ returns c =
     let f = c.numbers_at-head in
     let n = c.input_count-n.result in
     let p = a.at + 18 + columns * n in
-    let truth = c.in-Natural.truth in
+    let truth = c.in-Some.truth in
     let feed = c.if-not-line_feed_at.false in
-    table_there a.text.now a.at a.t f.result f.ensures (head_taken (goal.at.returns c).Else-n-eq0) c.numbers_at-inputs.result c.numbers_at-inputs.ensures (inputs_laid (goal.at.returns c).Else-not-inputs) (truth_found (goal.at.returns c).In-Natural)
+    table_there a.text.now a.at a.t f.result f.ensures (head_taken (goal.at.returns c).Else-n-eq0) c.numbers_at-inputs.result c.numbers_at-inputs.ensures (inputs_laid (goal.at.returns c).Else-not-inputs) (truth_found (goal.at.returns c).In-Some)
     (whole c) (subst (LineFeedTaken a.text.now (p + 21)) feed c.line_feed_at.ensures) _ refl refl
     (ap₂ (λ o i. record { net = o; count = n; inputs = i; truth = truth; level = 0 }) c.narrow.ensures c.narrow_all-held.ensures)

@@ -26,7 +26,7 @@ returns-in_default-second c = c.no_opening-in_default-second.ensures ∙ ap open
 pub returns : goal.returns
 returns c =
     let input = c.args.input.now in
-    let x = read_number (take columns input) (sym c.read-first.ensures ∙ c.in-Value.is) c.negative.ensures c.magnitude.ensures in
-    let y = read_number (take columns (drop columns input)) (sym c.read-second.ensures ∙ c.in-Value-second.is) c.negative-2.ensures c.magnitude-2.ensures in
+    let x = read_number (take columns input) (sym c.read-first.ensures ∙ c.in-Some.is) c.negative.ensures c.magnitude.ensures in
+    let y = read_number (take columns (drop columns input)) (sym c.read-second.ensures ∙ c.in-Some-second.is) c.negative-2.ensures c.magnitude-2.ensures in
     c.«open».ensures ∙ ap₂ opened c.count-most.ensures c.count-tables.ensures
     ∙ ap opened_by (sym (two_numbers input c.if-input-ne10.false x y))

@@ -36,7 +36,7 @@ pub loop-at-preserved : goal.loop-at-preserved
 loop-at-preserved c =
     let h = c.loop-at.invariant in
     so_far_more h (omega arith) (omega arith) (record { sign = c.sign_of-sign.result; magnitude = c.magnitude.result })
-    (read_number (take columns (drop c.loop-at.at c.args.line.now)) (sym (field_read_lem (goal.at.loop-at-preserved c).After-read) ∙ c.in-Value.is) (c.sign_of-sign.ensures ∙ c.negative.ensures) c.magnitude.ensures)
+    (read_number (take columns (drop c.loop-at.at c.args.line.now)) (sym (field_read_lem (goal.at.loop-at-preserved c).After-read) ∙ c.in-Some.is) (c.sign_of-sign.ensures ∙ c.negative.ensures) c.magnitude.ensures)
     (omega arith)
 
 pub returns : goal.returns
