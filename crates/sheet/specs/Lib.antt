@@ -13,3 +13,4 @@ pub mod FrontLaws
 pub mod Checks
 pub mod StoreLaws
 pub mod PlaceLaws
+pub mod LineAnswers

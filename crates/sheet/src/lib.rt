@@ -2,7 +2,7 @@
 #![tactic(auto)]
 
 ghost use Rattle.std.specs.Prelude.{◌≡◌};
-ghost use Rattle.sheet.specs.Trusted.Answers.{number_of};
+ghost use Rattle.sheet.specs.Trusted.Answers.{number_of, on_line};
 
 use tree::Kind;
 
@@ -16,21 +16,21 @@ pub const MOST_LEAVES: u16 = 256;
 pub const FANIN_ROOM: usize = MOST_LEAVES as usize + MOST_GATES + 1;
 
 // What a fanin reads: a net, or an earlier gate.
-#[derive(Clone, Copy)]
+#[derive(Clone, Copy, Debug, PartialEq, Eq)]
 pub enum Source {
     Net(u16),
     Gate(u16),
 }
 
 // A fanin: what it reads, and whether inverted.
-#[derive(Clone, Copy)]
+#[derive(Clone, Copy, Debug, PartialEq, Eq)]
 pub struct Edge {
     pub inverted: bool,
     pub source: Source,
 }
 
 // A gate: its kind, how many fanins it has, and the place of the first among the sheet's.
-#[derive(Clone, Copy)]
+#[derive(Clone, Copy, Debug, PartialEq, Eq)]
 pub struct Gate {
     pub kind: Kind,
     pub count: u8,
@@ -48,59 +48,46 @@ pub struct Sheet {
     pub fanins: [Edge; FANIN_ROOM],
 }
 
-// Why a text is no sheet. Its number in 01 is `number_of` in specs/Trusted/Answers.
-#[derive(Clone, Copy)]
+// Why a text is no sheet, with its number in 01: `number_of` in specs/Trusted/Answers.
+#[derive(Clone, Copy, Debug, PartialEq, Eq)]
 pub enum Refusal {
-    Layout,
-    OutputNet,
-    GateCount,
-    GateKind,
-    FaninCount,
-    NoSource,
-    GateTwice,
-    NetTwice,
-    OutputLeaf,
-    LeafCount,
-    GateUnread,
+    Layout = 1,
+    OutputNet = 4,
+    GateCount = 5,
+    GateKind = 6,
+    FaninCount = 7,
+    NoSource = 8,
+    GateTwice = 9,
+    NetTwice = 10,
+    OutputLeaf = 11,
+    LeafCount = 12,
+    GateUnread = 13,
 }
 
 // The number of a refusal in 01.
 pub fn number(why: Refusal) -> u8
     ensures { result ≡ number_of why }
 {
-    match why {
-        Refusal::Layout => 1,
-        Refusal::OutputNet => 4,
-        Refusal::GateCount => 5,
-        Refusal::GateKind => 6,
-        Refusal::FaninCount => 7,
-        Refusal::NoSource => 8,
-        Refusal::GateTwice => 9,
-        Refusal::NetTwice => 10,
-        Refusal::OutputLeaf => 11,
-        Refusal::LeafCount => 12,
-        Refusal::GateUnread => 13,
-    }
+    why as u8
 }
 
-// A refusal gives the line, from 1.
-#[derive(Clone, Copy)]
-pub enum ReadAnswer {
-    Accepted,
-    Refused(Refusal, u16),
+// Why a text is refused, and at which line, from 1.
+#[derive(Clone, Copy, Debug, PartialEq, Eq)]
+pub struct SheetError {
+    pub why: Refusal,
+    pub line: u16,
 }
 
-// What comes of a text. The sheet of a refused text is zero.
-#[derive(Clone, Copy)]
-pub struct ReadResult {
-    pub answer: ReadAnswer,
-    pub sheet: Sheet,
+// What was read of a line, or its refusal with the line.
+pub fn at_line<T>(read: Result<T, Refusal>, line: u16) -> Result<T, SheetError>
+    ensures { result ≡ on_line line read }
+{
+    read.map_err(|why| SheetError { why, line })
 }
 
-// What comes of a text from a place on, and the place after the sheet. The sheet of a refused text is zero, and so is the place.
+// A sheet that was read from a place of a text on, and the place after it.
 #[derive(Clone, Copy)]
 pub struct Next {
-    pub answer: ReadAnswer,
-    pub end: usize,
     pub sheet: Sheet,
+    pub end: usize,
 }

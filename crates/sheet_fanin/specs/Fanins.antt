@@ -1,14 +1,13 @@
 -- What is kept of the fanins so far, in flags packed into words, and what comes of one more. Internal definitions: the laws are in proofs/FaninLaws.
-use Rattle.std.specs.Prelude.{ℕ, suc, ◌+◌, ◌/◌, ◌≤◌, ◌<◌, ◌≡◌, false, List, [], ◌∷◌, ◌++◌, length}
-use Rattle.std.proofs.Math.Option.{Option, none, some}
+use Rattle.std.specs.Prelude.{ℕ, suc, ◌+◌, ◌/◌, ◌≤◌, ◌<◌, ◌≡◌, false, List, [], ◌∷◌, ◌++◌, length, Result, Ok, Err}
+use Rattle.std.proofs.Math.Option.{some}
 use Rattle.lists.specs.Trusted.Tests.{elem}
 use Rattle.lists.specs.Trusted.Checked.{Checked, passed, refused}
 use Rattle.tree.specs.Trusted.Limits.{code_base}
 use Rattle.flags.specs.Flags.{flag_at, raised}
 use Rattle.sheet.specs.declared.Source.{Source}
 use Rattle.sheet.specs.declared.Source.TheVariants.{Net as net, Gate as gate}
-use Rattle.sheet_fanin.specs.declared.Fanin.{Fanin}
-use Rattle.sheet_fanin.specs.declared.Fanin.TheVariants.{Reads, Bad as BadFanin}
+use Rattle.sheet.specs.declared.Refusal.{Refusal}
 use Rattle.sheet.specs.Trusted.Sheet.{net_of}
 use Rattle.sheet.specs.Trusted.Limits.{most_gates, most_leaves}
 use Rattle.sheet.specs.Trusted.Read.{Seen, source_of, read_fanin}
@@ -34,22 +33,18 @@ abbrev pub saw : Seen → Source → Seen
 saw seen (net n) = record { nets = seen.nets ++ (n ∷ []); gates = seen.gates }
 saw seen (gate g) = record { nets = seen.nets; gates = seen.gates ++ (g ∷ []) }
 
-abbrev pub source_step : Fanin → Option Source
-source_step (Reads source) = some source
-source_step (BadFanin why) = none
-
-abbrev pub fanin_step : ℕ → Seen → Fanin → Checked (Source × Seen)
-fanin_step g seen (Reads source) = passed (source, saw seen source)
-fanin_step g seen (BadFanin why) = refused (number_of why) (suc g)
+abbrev pub fanin_step : ℕ → Seen → Result Source Refusal → Checked (Source × Seen)
+fanin_step g seen (Ok source) = passed (source, saw seen source)
+fanin_step g seen (Err why) = refused (number_of why) (suc g)
 
 -- the flags with that of a fanin that is written as n, where it is accepted
-abbrev pub flags_after : List ℕ → ℕ → Fanin → List ℕ
-flags_after words n (Reads source) = raised words n
-flags_after words n (BadFanin why) = words
+abbrev pub flags_after : List ℕ → ℕ → Result Source Refusal → List ℕ
+flags_after words n (Ok source) = raised words n
+flags_after words n (Err why) = words
 
 -- a fanin of gate g that is written as n
-pub record FaninRead (words : List ℕ) (leaves out g n : ℕ) (r : Fanin) : Type 0 where
-  pub source : (s : Source) → r ≡ Reads s → source_of g n ≡ some s
-  pub few : (s : Source) → r ≡ Reads s → leaves ≤ most_leaves → leaves + length (net_of s) ≤ most_leaves
+pub record FaninRead (words : List ℕ) (leaves out g n : ℕ) (r : Result Source Refusal) : Type 0 where
+  pub source : (s : Source) → r ≡ Ok s → source_of g n ≡ some s
+  pub few : (s : Source) → r ≡ Ok s → leaves ≤ most_leaves → leaves + length (net_of s) ≤ most_leaves
   pub step : (seen : Seen) → Marked words leaves seen → read_fanin out g seen n ≡ fanin_step g seen r
-  pub first : (s : Source) → r ≡ Reads s → flag_at words n ≡ false
+  pub first : (s : Source) → r ≡ Ok s → flag_at words n ≡ false

@@ -2,10 +2,11 @@
 #![tactic(auto)]
 
 ghost use Rattle.std.specs.Prelude.{◌≡◌, ◌+◌, ◌≤◌, length};
+ghost use Rattle.sheet.specs.Trusted.Answers.{found};
 ghost use Rattle.sheet.specs.Trusted.Read.{source_of};
 ghost use Rattle.sheet.specs.Trusted.Limits.{most_gates, most_leaves};
 ghost use Rattle.sheet.specs.Trusted.Sheet.{net_of};
-ghost use Rattle.sheet_fanin.specs.Fanins.{source_step, flags_after, FaninRead};
+ghost use Rattle.sheet_fanin.specs.Fanins.{flags_after, FaninRead};
 
 use flags::{flag, raise};
 use lists::within;
@@ -14,71 +15,68 @@ use sheet::{MOST_GATES, MOST_LEAVES, Refusal, Source};
 // The words that hold a flag for each number that a fanin may be written as.
 pub const FLAG_WORDS: usize = (tree::CODE_BASE as usize + MOST_GATES) / 64 + 1;
 
-// A fanin: what it reads, or why it is refused.
-#[derive(Clone, Copy)]
-pub enum Fanin {
-    Reads(Source),
-    Bad(Refusal),
-}
-
 // What a fanin of a gate is written as: a net, or an earlier gate.
-fn source_of(gate: u16, code: u32) -> Fanin
+fn source_of(gate: u16, code: u32) -> Option<Source>
     requires { gate ≤ most_gates }
-    ensures { source_of gate code ≡ source_step result }
+    ensures { source_of gate code ≡ found result }
 {
     if within(1, tree::GREATEST_NET as u32, code) {
-        return Fanin::Reads(Source::Net(code as u16));
+        return Some(Source::Net(code as u16));
     }
     let base = tree::CODE_BASE as u32;
     if code <= base {
-        return Fanin::Bad(Refusal::NoSource);
+        return None;
     }
     if base + gate as u32 <= code {
-        return Fanin::Bad(Refusal::NoSource);
+        return None;
     }
-    Fanin::Reads(Source::Gate((code - base) as u16))
+    Some(Source::Gate((code - base) as u16))
 }
 
 // A fanin of a gate, where `seen` has a flag raised for each number that was a fanin before.
-fn fanin_of(seen: &[u64], leaves: u16, out: u16, gate: u16, code: u32) -> Fanin
+fn fanin_of(seen: &[u64], leaves: u16, out: u16, gate: u16, code: u32) -> Result<Source, Refusal>
     requires { gate ≤ most_gates }
     ensures { FaninRead seen.now leaves out gate code result }
 {
-    let Fanin::Reads(source) = source_of(gate, code) else {
-        return Fanin::Bad(Refusal::NoSource);
+    let Some(source) = source_of(gate, code) else {
+        return Err(Refusal::NoSource);
     };
     let twice = flag(seen, code as usize);
     match source {
         Source::Gate(_) => {
             if twice {
-                return Fanin::Bad(Refusal::GateTwice);
+                return Err(Refusal::GateTwice);
             }
         }
         Source::Net(n) => {
             if twice {
-                return Fanin::Bad(Refusal::NetTwice);
+                return Err(Refusal::NetTwice);
             }
             if n == out {
-                return Fanin::Bad(Refusal::OutputLeaf);
+                return Err(Refusal::OutputLeaf);
             }
             if MOST_LEAVES <= leaves {
-                return Fanin::Bad(Refusal::LeafCount);
+                return Err(Refusal::LeafCount);
             }
         }
     }
-    Fanin::Reads(source)
+    Ok(source)
 }
 
 // The same, and where it is accepted its flag is raised.
-pub fn read_fanin(seen: &mut [u64], leaves: u16, out: u16, gate: u16, code: u32) -> Fanin
+pub fn read_fanin(
+    seen: &mut [u64],
+    leaves: u16,
+    out: u16,
+    gate: u16,
+    code: u32,
+) -> Result<Source, Refusal>
     requires { gate ≤ most_gates }
     ensures { FaninRead seen.old leaves out gate code result × (seen.new ≡ flags_after seen.old code result) }
 {
-    let fanin = fanin_of(seen, leaves, out, gate, code);
-    if let Fanin::Reads(_) = fanin {
-        raise(seen, code as usize);
-    }
-    fanin
+    let source = fanin_of(seen, leaves, out, gate, code)?;
+    raise(seen, code as usize);
+    Ok(source)
 }
 
 // The number of leaves with what one more fanin reads.

@@ -5,9 +5,11 @@ use native.Mathlib.Nat.{add-zero}
 use native.Mathlib.Numerals.{add-one}
 use mathlib.Core.Path.{◌≡◌, refl, sym, ap, ap₂, ◌∙◌}
 use mathlib.Core.Option.{Option, none, some}
+use Rattle.std.specs.Prelude.{Result, Ok, Err}
 use mathlib.Core.List.{List, [], ◌∷◌, ◌++◌, append_assoc, append-nil}
 use lib.ListN.{length, get_or, take, drop, set, replicate, length-set, length-take, length-drop, length-map, get_or-map, drop_of_length-le}
 use lib.Seq.{drop-cons, get_or-drop, get_or-take, length-take-le}
+use Rattle.std.proofs.lemmas.Result.{IfOk-at_ok}
 use Rattle.lists.specs.ListLaws.{every_none}
 use Rattle.lists.specs.Trusted.Checked.{Checked, passed, refused, ◌>>=◌, given}
 use Rattle.tree.specs.declared.Kind.{Kind}
@@ -16,12 +18,7 @@ use Rattle.decimal.specs.Trusted.Number.{Number}
 use Rattle.sheet.specs.declared.Source.{Source}
 use Rattle.sheet.specs.declared.Edge.{Edge}
 use Rattle.sheet.specs.declared.Gate.{Gate}
-use Rattle.sheet.specs.declared.ReadAnswer.{ReadAnswer}
-use Rattle.sheet.specs.declared.ReadAnswer.TheVariants.{Accepted}
 use Rattle.sheet.specs.declared.Refusal.{Refusal}
-use Rattle.sheet_line.specs.declared.Fault.TheVariants.{Nothing, Is}
-use Rattle.sheet_fanin.specs.declared.Fanin.{Fanin}
-use Rattle.sheet_fanin.specs.declared.Fanin.TheVariants.{Reads, Bad}
 use Rattle.sheet_line.specs.declared.FieldValue.{FieldValue}
 use Rattle.sheet_line.specs.declared.GateLine.{GateLine}
 use Rattle.sheet.specs.Trusted.Limits.{most_fields, most_gates, most_leaves, fanin_room}
@@ -29,7 +26,7 @@ use Rattle.sheet.specs.Trusted.Line.{line, fields}
 use Rattle.sheet.specs.Trusted.Sheet.{DrawnGate, net_of}
 use Rattle.sheet.specs.Trusted.Read.{Seen, nothing, read_fanin, read_fanins, gate_head_of, read_left}
 use Rattle.sheet.specs.Trusted.Answers.{number_of, drawn_gate, drawn_gates}
-use Rattle.sheet_line.specs.Inside.{value_of, gate_line, fanin_numbers, fault_step, GateLineRead}
+use Rattle.sheet_line.specs.Inside.{value_of, gate_line, fanin_numbers, gate_line_step, GateLineRoom, GateLineRead}
 use Rattle.flags.specs.Flags.{raised}
 use Rattle.sheet_fanin.specs.Fanins.{flag_words, Marked, saw, fanin_step, FaninRead}
 use Rattle.sheet_line.proofs.HeadLaws.{zero_value}
@@ -183,8 +180,7 @@ module _ (text : List ℕ) (start out count : ℕ) where
   all = read_left out count 1 nothing (drop start text)
 
   -- at a gate's line
-  pub record AtLine (gates : List Gate) (fs : List Edge) (used : ℕ) (words : List ℕ) (leaves : ℕ) (answer : ReadAnswer) (at g : ℕ) : Type 0 where
-    pub accepted : answer ≡ Accepted
+  pub record AtLine (gates : List Gate) (fs : List Edge) (used : ℕ) (words : List ℕ) (leaves at g : ℕ) : Type 0 where
     pub far : g ≤ count
     pub inside : at ≤ length text
     pub room : length gates ≡ most_gates
@@ -197,8 +193,7 @@ module _ (text : List ℕ) (start out count : ℕ) where
     pub same : all ≡ lines out (count - g) (g + 1) (drawn_gates fs g gates) seen (drop at text)
 
   -- at a fanin of gate g + 1
-  pub record AtFanin (gates : List Gate) (fs : List Edge) (used : ℕ) (words : List ℕ) (leaves : ℕ) (answer : ReadAnswer) (g : ℕ) (l : GateLine) (i : ℕ) : Type 0 where
-    pub accepted : answer ≡ Accepted
+  pub record AtFanin (gates : List Gate) (fs : List Edge) (used : ℕ) (words : List ℕ) (leaves g : ℕ) (l : GateLine) (i : ℕ) : Type 0 where
     pub far : g < count
     pub room : length gates ≡ most_gates
     pub wide : length fs ≡ fanin_room
@@ -214,9 +209,8 @@ module _ (text : List ℕ) (start out count : ℕ) where
     pub same : all ≡ fanins out (count - (g + 1)) (g + 1) (drawn_gates fs g gates) l.kind (take i (drop used fs)) seen (drop i (fanin_numbers l)) (drop l.end text)
 
   pub at_start : (gates : List Gate) (fs : List Edge) → length gates ≡ most_gates → length fs ≡ fanin_room → start ≤ length text →
-      AtLine gates fs 0 (replicate flag_words 0) 0 Accepted start 0
+      AtLine gates fs 0 (replicate flag_words 0) 0 start 0
   at_start gates fs r w l = record {
-    accepted = refl;
     far = omega arith;
     inside = l;
     room = r;
@@ -230,34 +224,33 @@ module _ (text : List ℕ) (start out count : ℕ) where
         ∙ ap (λ n. lines out n 1 [] nothing (drop start text)) (let q : count ≡ count - 0 = omega arith in q);
   }
 
-  module _ {gates : List Gate} {fs : List Edge} {used : ℕ} {words : List ℕ} {leaves : ℕ} {answer : ReadAnswer} {at g : ℕ} (h : AtLine gates fs used words leaves answer at g) where
+  module _ {gates : List Gate} {fs : List Edge} {used : ℕ} {words : List ℕ} {leaves at g : ℕ} (h : AtLine gates fs used words leaves at g) where
     one_left : g < count → all ≡ lines out (suc (count - (g + 1))) (g + 1) (drawn_gates fs g gates) h.seen (drop at text)
     one_left l = h.same ∙ ap (λ n. lines out n (g + 1) (drawn_gates fs g gates) h.seen (drop at text)) (let q : count - g ≡ suc (count - (g + 1)) = omega arith in q)
 
-    pub line_refused : g < count → (l : GateLine) → GateLineRead text at l → (why : Refusal) → l.fault ≡ Is why → all ≡ refused (number_of why) (g + 1 + 1)
-    line_refused k l r why e =
+    pub line_refused : g < count → (r : Result GateLine Refusal) → GateLineRead text at r → (why : Refusal) → r ≡ Err why → all ≡ refused (number_of why) (g + 1 + 1)
+    line_refused k r d why e =
         one_left k
         ∙ (lines_refused out (count - (g + 1)) (g + 1) (drawn_gates fs g gates) h.seen (drop at text)
-        (r.step (g + 1) ∙ ap (λ w. fault_step (g + 1) w (l.kind, fanin_numbers l, drop l.end text)) e)
+        (d.step (g + 1) ∙ ap (gate_line_step (g + 1) text) e)
         ∙ ap (refused (number_of why)) (sym (add-one (g + 1))))
 
-    pub line_taken : g < count → (l : GateLine) → GateLineRead text at l → l.fault ≡ Nothing → AtFanin gates fs used words leaves answer g l 0
-    line_taken k l r e = record {
-      accepted = h.accepted;
+    pub line_taken : g < count → (r : Result GateLine Refusal) → GateLineRead text at r → (l : GateLine) → r ≡ Ok l → AtFanin gates fs used words leaves g l 0
+    line_taken k r d l e = let room : GateLineRoom text l = IfOk-at_ok (GateLineRoom text) e d.room in record {
       far = k;
       room = h.room;
       wide = h.wide;
       below = h.below;
       read = add-zero used ∙ h.read;
-      whole = r.whole;
-      within = r.within;
+      whole = room.whole;
+      within = room.within;
       some_left = omega arith;
-      ends = r.ends;
+      ends = room.ends;
       seen = h.seen;
       marked = h.marked;
       few = h.few;
       same = one_left k ∙ lines_passed out (count - (g + 1)) (g + 1) (drawn_gates fs g gates) h.seen (drop at text)
-          (r.step (g + 1) ∙ ap (λ w. fault_step (g + 1) w (l.kind, fanin_numbers l, drop l.end text)) e);
+          (d.step (g + 1) ∙ ap (gate_line_step (g + 1) text) e);
     }
 
     pub lines_over : count ≤ g → all ≡ passed (drawn_gates fs count gates, h.seen, drop at text)
@@ -266,8 +259,8 @@ module _ (text : List ℕ) (start out count : ℕ) where
         ∙ (ap (λ n. lines out n (g + 1) (drawn_gates fs g gates) h.seen (drop at text)) (let q : count - g ≡ 0 = omega arith in q)
         ∙ (lines_done out (g + 1) (drawn_gates fs g gates) h.seen (drop at text) ∙ ap (λ n. passed (drawn_gates fs n gates, h.seen, drop at text)) (let q : g ≡ count = omega arith in q)))
 
-  module _ {gates : List Gate} {fs : List Edge} {used : ℕ} {words : List ℕ} {leaves : ℕ} {answer : ReadAnswer} {g : ℕ} {l : GateLine} {i : ℕ}
-      (h : AtFanin gates fs used words leaves answer g l i) where
+  module _ {gates : List Gate} {fs : List Edge} {used : ℕ} {words : List ℕ} {leaves g : ℕ} {l : GateLine} {i : ℕ}
+      (h : AtFanin gates fs used words leaves g l i) where
     abbrev number : FieldValue
     number = get_or l.numbers (i + 2) zero_value
 
@@ -277,7 +270,7 @@ module _ (text : List ℕ) (start out count : ℕ) where
         h.same
         ∙ ap (λ xs. fanins out (count - (g + 1)) (g + 1) (drawn_gates fs g gates) l.kind (take i (drop used fs)) h.seen xs (drop l.end text)) (fanin_at l i h.whole h.within k)
 
-    pub fanin_refused : i < l.count → (r : Fanin) → FaninRead words leaves out (g + 1) number.magnitude r → (why : Refusal) → r ≡ Bad why →
+    pub fanin_refused : i < l.count → (r : Result Source Refusal) → FaninRead words leaves out (g + 1) number.magnitude r → (why : Refusal) → r ≡ Err why →
         all ≡ refused (number_of why) (g + 1 + 1)
     fanin_refused k r f why e =
         one_number k
@@ -285,7 +278,7 @@ module _ (text : List ℕ) (start out count : ℕ) where
         (f.step h.seen h.marked ∙ ap (fanin_step (g + 1) h.seen) e)
         ∙ ap (refused (number_of why)) (sym (add-one (g + 1))))
 
-    module _ (b : g + 1 ≤ most_gates) (r : Fanin) (d : FaninRead words leaves out (g + 1) number.magnitude r) (s : Source) (e : r ≡ Reads s) where
+    module _ (b : g + 1 ≤ most_gates) (r : Result Source Refusal) (d : FaninRead words leaves out (g + 1) number.magnitude r) (s : Source) (e : r ≡ Ok s) where
       read_next : used + (i + 1) ≡ read_count (raised words number.magnitude) (leaves + length (net_of s))
       read_next =
           let q = read_more words h.marked.whole (g + 1) number.magnitude leaves b s (d.source s e) (d.first s e) in
@@ -298,9 +291,8 @@ module _ (text : List ℕ) (start out count : ℕ) where
           omega (arith, q, read_next)
 
       pub fanin_taken : i < l.count → (f : Edge) → f ≡ record { inverted = (value_of number).negative; source = s } → (n : ℕ) → n ≡ leaves + length (net_of s) →
-          (ws : List ℕ) → ws ≡ raised words number.magnitude → AtFanin gates (set fs (used + i) f) used ws n answer g l (i + 1)
+          (ws : List ℕ) → ws ≡ raised words number.magnitude → AtFanin gates (set fs (used + i) f) used ws n g l (i + 1)
       fanin_taken k f p n q ws u = record {
-        accepted = h.accepted;
         far = h.far;
         room = h.room;
         wide = simp length-set h.wide;
@@ -331,9 +323,8 @@ module _ (text : List ℕ) (start out count : ℕ) where
       after_room = let q = read_most words leaves h.few in omega (arith, all_taken, h.read)
 
       pub gate_taken : count ≤ most_gates → (x : Gate) → x ≡ record { kind = l.kind; count = l.count; first = used } →
-          AtLine (set gates g x) fs (used + l.count) words leaves answer l.end (g + 1)
+          AtLine (set gates g x) fs (used + l.count) words leaves l.end (g + 1)
       gate_taken m x e = record {
-        accepted = h.accepted;
         far = omega arith;
         inside = h.ends;
         room = simp length-set h.room;

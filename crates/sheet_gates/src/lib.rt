@@ -2,45 +2,21 @@
 #![tactic(auto)]
 
 ghost use Rattle.std.specs.Prelude.{◌≡◌, ◌≤◌, length};
-ghost use Rattle.sheet.specs.Trusted.Answers.{no_fanins};
 ghost use Rattle.sheet_gates.specs.Gates.{GatesRead, UnreadFound};
 
 use flags::flag;
-use sheet::{Edge, FANIN_ROOM, Gate, MOST_GATES, ReadAnswer, Source};
-use sheet_fanin::{FLAG_WORDS, Fanin, read_fanin, with_leaf};
-use sheet_line::{Fault, GateLine, read_gate_line};
+use sheet::{Edge, FANIN_ROOM, Gate, MOST_GATES, SheetError, Source, at_line};
+use sheet_fanin::{FLAG_WORDS, read_fanin, with_leaf};
+use sheet_line::{GateLine, read_gate_line};
 use tree::Kind;
 
-// The lines of gates that were read: where they are accepted the gates, their fanins, the place after them, and a flag raised for each
-// number that was a fanin.
+// The lines of gates that were read: the gates, their fanins, the place after them, and a flag raised for each number that was a fanin.
 #[derive(Clone, Copy)]
 pub struct Lines {
-    pub answer: ReadAnswer,
     pub end: usize,
     pub gates: [Gate; MOST_GATES],
     pub fanins: [Edge; FANIN_ROOM],
     pub seen: [u64; FLAG_WORDS],
-}
-
-// No fanins and no gate: all zero.
-pub fn no_fanins() -> [Edge; FANIN_ROOM]
-    ensures { result ≡ no_fanins }
-{
-    let none = Edge {
-        inverted: false,
-        source: Source::Net(0),
-    };
-    [none; FANIN_ROOM]
-}
-
-pub fn no_gate() -> Gate
-    ensures { result ≡ record { kind = Kind.And; count = 0; first = 0 } }
-{
-    Gate {
-        kind: Kind::And,
-        count: 0,
-        first: 0,
-    }
 }
 
 fn edge_of(inverted: bool, source: Source) -> Edge
@@ -61,68 +37,54 @@ fn gate_of(line: GateLine, first: u16) -> Gate
 }
 
 // The lines of so many gates, from a place on.
-pub fn gate_lines(text: &[u8], start: usize, out: u16, count: u8) -> Lines
+pub fn gate_lines(text: &[u8], start: usize, out: u16, count: u8) -> Result<Lines, SheetError>
     requires { start ≤ length text.now }
     ensures { GatesRead text.now start out count result }
 {
-    let none = no_gate();
-    let mut gates = [none; MOST_GATES];
-    let mut fanins = no_fanins();
+    let no_gate = Gate {
+        kind: Kind::And,
+        count: 0,
+        first: 0,
+    };
+    let mut gates = [no_gate; MOST_GATES];
+    let no_fanin = edge_of(false, Source::Net(0));
+    let mut fanins = [no_fanin; FANIN_ROOM];
     let mut used: usize = 0;
     let mut seen = [0u64; FLAG_WORDS];
     let mut leaves: u16 = 0;
-    let mut answer = ReadAnswer::Accepted;
     let mut end = start;
-    'lines: for g in 0..count as usize {
+    for g in 0..count as usize {
         let gate = g as u16 + 1;
-        let line = read_gate_line(text, end);
-        let fault = line.fault;
-        if let Fault::Is(why) = fault {
-            answer = ReadAnswer::Refused(why, gate + 1);
-            break 'lines;
-        }
+        let line = at_line(read_gate_line(text, end), gate + 1)?;
         for i in 0..line.count as usize {
             let x = line.numbers[i + 2];
-            match read_fanin(&mut seen, leaves, out, gate, x.magnitude) {
-                Fanin::Bad(why) => {
-                    answer = ReadAnswer::Refused(why, gate + 1);
-                    break 'lines;
-                }
-                Fanin::Reads(source) => {
-                    let at = used + i;
-                    fanins[at] = edge_of(x.sign != 0, source);
-                    leaves = with_leaf(leaves, source);
-                }
-            }
+            let fanin = read_fanin(&mut seen, leaves, out, gate, x.magnitude);
+            let source = at_line(fanin, gate + 1)?;
+            let at = used + i;
+            fanins[at] = edge_of(x.sign != 0, source);
+            leaves = with_leaf(leaves, source);
         }
         gates[g] = gate_of(line, used as u16);
         used += line.count as usize;
         end = line.end;
     }
-    Lines {
-        answer,
+    Ok(Lines {
         end,
         gates,
         fanins,
         seen,
-    }
+    })
 }
 
 // The line of the first gate that is never read, the root left aside.
-#[derive(Clone, Copy)]
-pub enum Unread {
-    First(u16),
-    Nowhere,
-}
-
-pub fn first_unread(seen: &[u64], count: u8) -> Unread
+pub fn first_unread(seen: &[u64], count: u8) -> Option<u16>
     ensures { UnreadFound seen.now count result }
 {
     let base = tree::CODE_BASE as usize;
     for g in 1..count as usize {
         if !flag(seen, base + g) {
-            return Unread::First(g as u16 + 1);
+            return Some(g as u16 + 1);
         }
     }
-    Unread::Nowhere
+    None
 }

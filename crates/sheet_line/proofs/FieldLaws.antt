@@ -3,19 +3,18 @@ use Prim.Native.Nat.{ℕ, zero, suc, ◌+◌, ◌-◌, ◌*◌, ◌≤◌, ◌<�
 use native.Mathlib.Omega.{arith}
 use native.Mathlib.Numerals.{add-one}
 use mathlib.Core.Path.{◌≡◌, refl, sym, ap, ◌∙◌}
-use mathlib.Core.Bool.{true, false, cond}
+use mathlib.Core.Bool.{cond}
 use mathlib.Core.Option.{Option, none, some}
 use mathlib.Core.List.{List, [], ◌∷◌, ◌++◌, map, map-append, append_assoc, append-nil}
 use lib.ListN.{length, take, drop, set, length-drop, length-set, drop_of_length-le}
 use lib.Seq.{take_all, drop-drop, take-suc-set}
 use borrow.Author.Tests.{ne_eqb}
+use Rattle.std.specs.Prelude.{Some, None}
 use Rattle.decimal.specs.Trusted.Number.{Number, columns, number, field_number}
 use Rattle.sheet_line.specs.declared.FieldValue.{FieldValue}
-use Rattle.sheet_line.specs.declared.Fields.{Fields}
 use Rattle.sheet.specs.Trusted.Limits.{most_fields}
 use Rattle.sheet.specs.Trusted.Line.{with, cells, fields}
-use Rattle.sheet_line.specs.Inside.{value_of, FieldsRoom, FieldsRead}
-use Rattle.sheet_line.proofs.HeadLaws.{fields_none}
+use Rattle.sheet_line.specs.Inside.{value_of, FieldsRead}
 
 -- numbers before others, where all are there
 abbrev pub with_all : List Number → Option (List Number) → Option (List Number)
@@ -56,11 +55,10 @@ pub record SoFar (bytes : List ℕ) (numbers : List FieldValue) (count at : ℕ)
 
 module _ {bytes : List ℕ} {numbers : List FieldValue} {count at : ℕ} (h : SoFar bytes numbers count at) where
   -- a field is missing or none: the line is not laid out
-  pub so_far_none : (f : Fields) → (f.laid ≡ false) × FieldsRoom f → cells (most_fields - count) (drop at bytes) ≡ none → FieldsRead bytes f
-  so_far_none f (e, r) n =
-      record { same = h.same ∙ (ap (with_all (map value_of (take count numbers))) n ∙ sym (fields_none f e)); room = r }
+  pub so_far_none : cells (most_fields - count) (drop at bytes) ≡ none → FieldsRead bytes None
+  so_far_none n = record { same = h.same ∙ ap (with_all (map value_of (take count numbers))) n; room = tt }
 
-  pub so_far_all : length bytes ≤ at → FieldsRead bytes (record { laid = true; count = count; numbers = numbers })
+  pub so_far_all : length bytes ≤ at → FieldsRead bytes (Some (record { count = count; numbers = numbers }))
   so_far_all l = record {
     same =
         h.same

@@ -2,7 +2,7 @@
 use Prim.Native.Nat.{ℕ, zero, suc, ◌-◌, ◌≤◌}
 use native.Mathlib.Omega.{arith}
 use mathlib.Core.Path.{◌≡◌, refl, ap, ◌∙◌}
-use mathlib.Core.Bool.{true, false, cond}
+use mathlib.Core.Bool.{true, false}
 use mathlib.Core.Option.{none, some}
 use mathlib.Core.List.{List, [], ◌∷◌, map}
 use lib.ListN.{length, get_or, take, drop, length-drop, length-map}
@@ -15,7 +15,7 @@ use Rattle.sheet_line.specs.declared.FieldValue.{FieldValue}
 use Rattle.sheet_line.specs.declared.Fields.{Fields}
 use Rattle.sheet.specs.Trusted.Limits.{most_gates}
 use Rattle.sheet.specs.Trusted.Read.{counts, head_of}
-use Rattle.sheet_line.specs.Inside.{value_of, values_of, numbers_of, FieldsRoom}
+use Rattle.sheet_line.specs.Inside.{value_of, values_of, FieldsRoom}
 
 -- ---- the fields as a list
 
@@ -25,12 +25,6 @@ zero_value = record { sign = 0; magnitude = 0 }
 -- the number in field i
 abbrev pub field_at : Fields → ℕ → Number
 field_at f i = value_of (get_or f.numbers i zero_value)
-
-pub fields_none : (f : Fields) → f.laid ≡ false → numbers_of f ≡ none
-fields_none f e = ap (λ b. cond b (some (values_of f)) none) e
-
-pub fields_some : (f : Fields) → f.laid ≡ true → numbers_of f ≡ some (values_of f)
-fields_some f e = ap (λ b. cond b (some (values_of f)) none) e
 
 pub values_count : (f : Fields) → FieldsRoom f → length (values_of f) ≡ f.count
 values_count f r =

@@ -1,18 +1,16 @@
 -- What the functions inside answer. Internal definitions.
-use Rattle.std.specs.Prelude.{ℕ, ◌+◌, ◌-◌, Bool, not, ◌&&◌, ◌||◌, List, ltb}
+use Rattle.std.specs.Prelude.{ℕ, ◌+◌, ◌-◌, Bool, not, ◌||◌, List, Result}
 use Rattle.lists.specs.Trusted.Lists.{from}
 use Rattle.lists.specs.Trusted.Checked.{Checked, passed, ◌>>=◌, require, given}
 use Rattle.sheet_gates.specs.declared.Lines.{Lines}
-use Rattle.sheet_gates.specs.Gates.{Comes, GatesHeld}
+use Rattle.sheet_gates.specs.Gates.{GatesHeld}
+use Rattle.sheet_line.specs.declared.Head.{Head}
+use Rattle.sheet.specs.declared.SheetError.{SheetError}
 use Rattle.sheet.specs.declared.Next.{Next}
 use Rattle.sheet.specs.Trusted.Sheet.{DrawnGate, DrawnSheet}
 use Rattle.sheet.specs.Trusted.Line.{line, fields}
 use Rattle.sheet.specs.Trusted.Read.{is_empty, Head as LineOne, Seen, nothing, read_left, read_unread, head_of}
 use Rattle.sheet.specs.Trusted.Promise.{NextRead}
-
--- bytes follow the last line, where none may
-abbrev pub more : (last : Bool) (end size : ℕ) → Bool
-more last end size = last && ltb end size
 
 -- what comes after the gates
 abbrev pub read_end : (last : Bool) → LineOne → List DrawnGate × Seen × List ℕ → Checked (DrawnSheet × List ℕ)
@@ -29,7 +27,8 @@ read_front last text = do
   gates ← read_left head.out head.count 1 nothing rest
   read_end last head gates
 
--- of the lines of the gates
-abbrev pub EndRead : List ℕ → Lines → LineOne → Bool → Next → Type 0
-EndRead text l head last r =
-    (m : Checked (List DrawnGate × Seen × List ℕ)) → Comes l.answer (GatesHeld text head.count l) m → NextRead text (m >>= read_end last head) r
+-- after the lines of the gates, where `m` is what the definition makes of them
+abbrev pub EndRead : List ℕ → Lines → Head → Bool → Result Next SheetError → Type 0
+EndRead text l h last r =
+    (a : List DrawnGate × Seen × List ℕ) → GatesHeld text h.count l a →
+    NextRead text (read_end last (record { out = h.out; inverted = h.inverted; count = h.count }) a) r

@@ -14,7 +14,7 @@ pub const FEWEST_FANINS: usize = 2;
 pub const MOST_FANINS: usize = 10;
 
 // The kind of a gate.
-#[derive(Clone, Copy)]
+#[derive(Clone, Copy, Debug, PartialEq, Eq)]
 pub enum Kind {
     And,
     Or,

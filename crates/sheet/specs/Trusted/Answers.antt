@@ -1,17 +1,13 @@
 -- What the code's answers stand for: 01's number for each refusal, and a sheet's gates and fanins as lists. Definitions only.
-use Rattle.std.specs.Prelude.{ℕ, false, List, map, take, drop, replicate}
+use Rattle.std.specs.Prelude.{ℕ, List, map, take, drop, Option as CodeOption, Some, None, Result, Ok, Err}
+use Rattle.std.proofs.Math.Option.{Option, none, some}
 use Rattle.lists.specs.Trusted.Checked.{Checked, passed, refused}
-use Rattle.tree.specs.declared.Kind.TheVariants.{And as and}
-use Rattle.sheet.specs.declared.Source.TheVariants.{Net as net}
 use Rattle.sheet.specs.declared.Edge.{Edge}
 use Rattle.sheet.specs.declared.Gate.{Gate}
 use Rattle.sheet.specs.declared.Sheet.{Sheet}
 use Rattle.sheet.specs.declared.Refusal.{Refusal}
 use Rattle.sheet.specs.declared.Refusal.TheVariants.{Layout, OutputNet, GateCount, GateKind, FaninCount, NoSource, GateTwice, NetTwice, OutputLeaf, LeafCount, GateUnread}
-use Rattle.sheet.specs.declared.ReadAnswer.{ReadAnswer}
-use Rattle.sheet.specs.declared.ReadAnswer.TheVariants.{Accepted, Refused}
-use Rattle.sheet.specs.declared.ReadResult.{ReadResult}
-use Rattle.sheet.specs.Trusted.Limits.{most_gates, fanin_room}
+use Rattle.sheet.specs.declared.SheetError.{SheetError}
 use Rattle.sheet.specs.Trusted.Sheet.{DrawnGate, DrawnSheet}
 
 -- 01, "Turned down because of the input"
@@ -38,19 +34,20 @@ drawn_gates fs n gs = map (drawn_gate fs) (take n gs)
 abbrev pub drawn_sheet : Sheet → DrawnSheet
 drawn_sheet s = record { out = s.out; inverted = s.inverted; gates = drawn_gates s.fanins s.count s.gates }
 
-abbrev pub answered : {A : Type 0} → ReadAnswer → A → Checked A
-answered Accepted a = passed a
-answered (Refused why line) a = refused (number_of why) line
+-- the code's option as the definitions' one
+abbrev pub found : {A : Type 0} → CodeOption A → Option A
+found None = none
+found (Some a) = some a
 
-abbrev pub outcome : ReadResult → Checked DrawnSheet
-outcome r = answered r.answer (drawn_sheet r.sheet)
+-- what was read of a line, or its refusal with the line
+abbrev pub on_line : {A : Type 0} → ℕ → Result A Refusal → Result A SheetError
+on_line line (Ok a) = Ok a
+on_line line (Err why) = Err (record { why = why; line = line })
 
--- all zero: what stands past the counts, and for the sheet of a text that is refused
-unfoldable pub no_fanins : List Edge
-no_fanins = replicate fanin_room (record { inverted = false; source = net 0 })
+-- what comes of a reading, where what was read stands for `f` of it
+abbrev pub answered : {A B : Type 0} → (A → B) → Result A SheetError → Checked B
+answered f (Ok a) = passed (f a)
+answered f (Err e) = refused (number_of e.why) e.line
 
-unfoldable pub no_gates : List Gate
-no_gates = replicate most_gates (record { kind = and; count = 0; first = 0 })
-
-abbrev pub no_sheet : Sheet
-no_sheet = record { out = 0; inverted = false; count = 0; gates = no_gates; fanins = no_fanins }
+abbrev pub outcome : Result Sheet SheetError → Checked DrawnSheet
+outcome = answered drawn_sheet

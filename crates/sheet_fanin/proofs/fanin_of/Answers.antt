@@ -1,4 +1,5 @@
 use Prim.Native.Nat.{ℕ}
+use Rattle.std.specs.Prelude.{Ok, Err}
 use native.Mathlib.Omega.{arith}
 use mathlib.Core.Path.{◌≡◌, sym, ap, ◌∙◌}
 use mathlib.Core.Option.{some}
@@ -9,11 +10,11 @@ use Rattle.lists.specs.Trusted.Checked.{passed}
 use Rattle.sheet.specs.declared.Source.{Source}
 use Rattle.sheet.specs.declared.Source.TheVariants.{Net as net, Gate as gate}
 use Rattle.sheet.specs.declared.Refusal.{Refusal}
-use Rattle.sheet_fanin.specs.declared.Fanin.TheVariants.{Reads, Bad}
 use Rattle.sheet.specs.Trusted.Limits.{most_leaves}
 use Rattle.sheet.specs.Trusted.Sheet.{net_of}
 use Rattle.sheet.specs.Trusted.Read.{source_of}
-use Rattle.sheet_fanin.specs.Fanins.{saw, source_step}
+use Rattle.sheet.specs.Trusted.Answers.{found}
+use Rattle.sheet_fanin.specs.Fanins.{saw}
 use Rattle.sheet_fanin.proofs.FaninLaws.{fanin_none, gate_twice, gate_once, net_twice, net_out, net_many, net_once, net_flag, gate_flag}
 use Rattle.sheet_fanin.proofs.fanin_of.Goals as goal
 use Rattle.sheet_fanin.proofs.fanin_of.Goals.{In-Gate, In-Net}
@@ -21,20 +22,20 @@ use Rattle.sheet_fanin.proofs.fanin_of.Goals.{In-Gate, In-Net}
 -- in the arm of a gate
 gate_is_lem : (c : In-Gate) → let a = c.args in
     source_of a.gate a.code ≡ some (gate c.in-Gate.field-0)
-gate_is_lem c = c.source_of.ensures ∙ (ap source_step c.in-Reads.is ∙ ap some c.in-Gate.is)
+gate_is_lem c = c.source_of.ensures ∙ (ap found c.in-Some.is ∙ ap some c.in-Gate.is)
 
 -- in the arm of a net
 net_is : (c : In-Net) → let a = c.args in
     source_of a.gate a.code ≡ some (net c.in-Net.n)
-net_is c = c.source_of.ensures ∙ (ap source_step c.in-Reads.is ∙ ap some c.in-Net.is)
+net_is c = c.source_of.ensures ∙ (ap found c.in-Some.is ∙ ap some c.in-Net.is)
 
-none_reads : (why : Refusal) (s : Source) → Bad why ≡ Reads s → ⊥
+none_reads : (why : Refusal) (s : Source) → Err why ≡ Ok s → ⊥
 none_reads why s e = let z : ◌≡◌ {A = ℕ} 0 1 = cc in omega arith
 
 pub returns-in_default : goal.returns-in_default
 returns-in_default c =
     let a = c.args in
-    let e = c.source_of.ensures ∙ ap source_step c.in_default.is in
+    let e = c.source_of.ensures ∙ ap found c.in_default.is in
     record {
       source = λ s q. absurd (none_reads _ s q);
       few = λ s q l. absurd (none_reads _ s q);

@@ -5,16 +5,16 @@ use Rattle.sheet_gates.proofs.gate_lines.Given as goal
 
 abbrev pub invariant-loop-i : goal.invariant-loop-i
 invariant-loop-i l =
-    AtFanin l.text l.start l.out l.count l.gates l.fanins l.used l.seen l.leaves l.answer l.g l.line l.i
+    AtFanin l.text l.start l.out l.count l.gates l.fanins l.used l.seen l.leaves l.g l.line l.i
 
 abbrev pub decreases-loop-i : goal.decreases-loop-i
 decreases-loop-i l =
     l.line.count - l.i
 
-abbrev pub invariant-lines : goal.invariant-lines
-invariant-lines l =
-    AtLine l.text l.start l.out l.count l.gates l.fanins l.used l.seen l.leaves l.answer l.end l.g
+abbrev pub invariant-loop-g : goal.invariant-loop-g
+invariant-loop-g l =
+    AtLine l.text l.start l.out l.count l.gates l.fanins l.used l.seen l.leaves l.end l.g
 
-abbrev pub decreases-lines : goal.decreases-lines
-decreases-lines l =
+abbrev pub decreases-loop-g : goal.decreases-loop-g
+decreases-loop-g l =
     l.count - l.g

@@ -1,5 +1,6 @@
 use Prim.Native.Nat.{◌+◌, ◌-◌}
 use native.Mathlib.Omega.{arith}
+use borrow.Author.Rules.{rules}
 use mathlib.Core.Path.{◌≡◌, sym, ap, ◌∙◌}
 use lib.ListN.{take, drop, length-drop}
 use Rattle.decimal.specs.Trusted.Number.{columns}
@@ -17,26 +18,31 @@ field_read_lem c =
 pub returns-then-count-ge-MOST_FIELDS : goal.returns-then-count-ge-MOST_FIELDS
 returns-then-count-ge-MOST_FIELDS c =
     let h = c.loop-at.invariant in
-    so_far_none h c.no_fields-then-count-ge-MOST_FIELDS.result c.no_fields-then-count-ge-MOST_FIELDS.ensures (so_far_full h (omega arith) (omega arith))
+    so_far_none h (so_far_full h (omega arith) (omega arith))
 
 pub returns-then-line-at-lt-COLUMNS : goal.returns-then-line-at-lt-COLUMNS
 returns-then-line-at-lt-COLUMNS c =
     let h = c.loop-at.invariant in
-    so_far_none h c.no_fields-then-line-at-lt-COLUMNS.result c.no_fields-then-line-at-lt-COLUMNS.ensures
+    so_far_none h
     (so_far_bad h (omega arith) (omega arith) (short_none (drop c.loop-at.at c.args.line.now) (simp length-drop (omega arith))))
 
 pub returns-in_default : goal.returns-in_default
 returns-in_default c =
     let h = c.loop-at.invariant in
-    so_far_none h c.no_fields-in_default.result c.no_fields-in_default.ensures
+    so_far_none h
     (so_far_bad h (omega arith) (omega arith)
     (read_none (take columns (drop c.loop-at.at c.args.line.now)) (sym (field_read_lem (goal.at.returns-in_default c).After-read) ∙ c.in_default.is)))
 
 pub loop-at-preserved : goal.loop-at-preserved
 loop-at-preserved c =
     let h = c.loop-at.invariant in
+<<<<<<< HEAD
     so_far_more h (omega arith) (omega arith) (record { sign = c.sign_of-sign.result; magnitude = c.magnitude.result })
     (read_number (take columns (drop c.loop-at.at c.args.line.now)) (sym (field_read_lem (goal.at.loop-at-preserved c).After-read) ∙ c.in-Some.is) (c.sign_of-sign.ensures ∙ c.negative.ensures) c.magnitude.ensures)
+=======
+    so_far_more h (omega arith) (omega arith) _
+    (read_number (take columns (drop c.loop-at.at c.args.line.now)) (sym (field_read_lem (goal.at.loop-at-preserved c).After-read) ∙ c.in-Value.is) (search rules) c.magnitude.ensures)
+>>>>>>> 02849b2 (A sheet is read as a Result: its refusal is an error with the line, and a refused text has no sheet)
     (omega arith)
 
 pub returns : goal.returns

@@ -6,16 +6,16 @@ use Rattle.lists.specs.Trusted.Tests.{within}
 use Rattle.tree.specs.Trusted.Limits.{greatest_net}
 use Rattle.sheet.specs.Trusted.Limits.{most_gates}
 use Rattle.sheet.specs.Trusted.Read.{counts, head_of}
-use Rattle.sheet_line.specs.Inside.{values_of, numbers_of}
-use Rattle.sheet_line.proofs.HeadLaws.{field_at, fields_none, fields_some, values_count, values_pair, head_none, head_other, head_net, head_count, head_good}
+use Rattle.sheet_line.specs.Inside.{values_of}
+use Rattle.sheet_line.proofs.HeadLaws.{field_at, values_count, values_pair, head_other, head_net, head_count, head_good}
 use Rattle.sheet_line.proofs.read_head.Goals as goal
-use Rattle.sheet_line.proofs.read_head.Goals.{Else-count-ne2, Else-not-counts, Else-not-within}
+use Rattle.sheet_line.proofs.read_head.Goals.{Else-f-ne2, Else-not-counts, Else-not-within}
 
 -- the two fields, where there are two
-pair_is : (c : Else-count-ne2) → head_of (numbers_of c.args.f) ≡ head_of (some (field_at c.args.f 0 ∷ field_at c.args.f 1 ∷ []))
+pair_is : (c : Else-f-ne2) → head_of (some (values_of c.args.f)) ≡ head_of (some (field_at c.args.f 0 ∷ field_at c.args.f 1 ∷ []))
 pair_is c =
     let f = c.args.f in
-    ap head_of (fields_some f c.if-not-laid.false ∙ ap some (values_pair f c.requires c.if-count-ne2.false))
+    ap (λ xs. head_of (some xs)) (values_pair f c.requires c.if-f-ne2.false)
 
 net_good : (c : Else-not-within) → within 1 greatest_net (field_at c.args.f 0).magnitude ≡ true
 net_good c = sym c.within.ensures ∙ c.if-not-within.false
@@ -23,24 +23,19 @@ net_good c = sym c.within.ensures ∙ c.if-not-within.false
 count_good : (c : Else-not-counts) → counts 1 most_gates (field_at c.args.f 1) ≡ true
 count_good c = sym c.counts.ensures ∙ c.if-not-counts.false
 
-pub returns-then-not-laid : goal.returns-then-not-laid
-returns-then-not-laid c = ap head_of (fields_none c.args.f c.if-not-laid.true) ∙ head_none
-
-pub returns-then-count-ne2 : goal.returns-then-count-ne2
-returns-then-count-ne2 c =
+pub returns-then-f-ne2 : goal.returns-then-f-ne2
+returns-then-f-ne2 c =
     let f = c.args.f in
-    let r = c.requires in
-    ap head_of (fields_some f c.if-not-laid.false)
-    ∙ head_other (values_of f) (λ e. c.if-count-ne2.true (sym (values_count f r) ∙ e))
+    head_other (values_of f) (λ e. c.if-f-ne2.true (sym (values_count f c.requires) ∙ e))
 
 pub returns-then-not-within : goal.returns-then-not-within
 returns-then-not-within c =
-    pair_is (goal.at.returns-then-not-within c).Else-count-ne2 ∙ head_net _ _ (sym c.within.ensures ∙ c.if-not-within.true)
+    pair_is (goal.at.returns-then-not-within c).Else-f-ne2 ∙ head_net _ _ (sym c.within.ensures ∙ c.if-not-within.true)
 
 pub returns-then-not-counts : goal.returns-then-not-counts
 returns-then-not-counts c =
-    pair_is (goal.at.returns-then-not-counts c).Else-count-ne2 ∙ head_count _ _ (net_good (goal.at.returns-then-not-counts c).Else-not-within) (sym c.counts.ensures ∙ c.if-not-counts.true)
+    pair_is (goal.at.returns-then-not-counts c).Else-f-ne2 ∙ head_count _ _ (net_good (goal.at.returns-then-not-counts c).Else-not-within) (sym c.counts.ensures ∙ c.if-not-counts.true)
 
 pub returns : goal.returns
 returns c =
-    pair_is (goal.at.returns c).Else-count-ne2 ∙ head_good _ _ (net_good (goal.at.returns c).Else-not-within) (count_good (goal.at.returns c).Else-not-counts)
+    pair_is (goal.at.returns c).Else-f-ne2 ∙ head_good _ _ (net_good (goal.at.returns c).Else-not-within) (count_good (goal.at.returns c).Else-not-counts)
