@@ -1,5 +1,5 @@
 -- The tests of an output net over the records in use; and the mapping's records as a sheet's tables.
-use Rattle.std.specs.Prelude.{ℕ, ◌+◌, ◌≤◌, ◌<◌, ◌≡◌, refl, Bool, true, false, ◌||◌, List, [], ◌∷◌, ◌++◌, map, eqb, length, get_or, take, drop, replicate}
+use Rattle.std.specs.Prelude.{ℕ, ◌+◌, ◌≤◌, ◌<◌, ◌≡◌, refl, Bool, true, false, ◌||◌, List, [], ◌∷◌, ◌++◌, map, eqb, length, get_or, take, drop, replicate, Result}
 use Rattle.std.proofs.Common.{arith, add-one, sym, ap, ap₂, ◌∙◌, subst, ⊎_elim, append_assoc, le-leb, length-append, take-suc, length-take-le, get_or-take}
 use Rattle.std.proofs.Math.Bool.{or_assoc, or-false}
 use Rattle.std.proofs.lemmas.Bool.{lt-leb}
@@ -21,10 +21,9 @@ use Rattle.levels.specs.Trusted.LevelTables.{FastestCoverTables}
 use Rattle.levels.proofs.SameLaws.{split_level, fastest_same}
 use Rattle.sheet.specs.Trusted.Sheet.{DrawnSheet}
 use Rattle.sheet.specs.declared.Sheet.{Sheet as CodeSheet}
-use Rattle.sheet.specs.declared.ReadAnswer.{ReadAnswer as CodeAnswer}
-use Rattle.sheet.specs.declared.ReadResult.{ReadResult as CodeReading}
+use Rattle.sheet.specs.declared.SheetError.{SheetError}
 use Rattle.sheet.specs.Trusted.Read.{read_sheet}
-use Rattle.sheet.specs.Trusted.Answers.{drawn_sheet, answered}
+use Rattle.sheet.specs.Trusted.Answers.{drawn_sheet, outcome}
 use Rattle.sheet.specs.Trusted.Formed.{WellFormed}
 use Rattle.sheet.specs.Trusted.Promise.{SheetRead}
 use Rattle.joined.specs.Trusted.Covered.{covered}
@@ -298,5 +297,5 @@ module _ (w : Way) (p : Part) (text : List ℕ) where
     add_offered s e q a o = rw (reflects_true (sound_reflects p) h, reading_passed w text s e) o
 
 -- what the code read
-pub reading_is : (text : List ℕ) (r : CodeReading) → SheetRead text r → {a : CodeAnswer} → r.answer ≡ a → read_sheet text ≡ answered a (drawn_sheet r.sheet)
-reading_is text r h i = sym h.same ∙ ap (λ a. answered a (drawn_sheet r.sheet)) i
+pub reading_is : (text : List ℕ) (r : Result CodeSheet SheetError) → SheetRead text r → {s : Result CodeSheet SheetError} → r ≡ s → read_sheet text ≡ outcome s
+reading_is text r h i = sym h ∙ ap outcome i

@@ -13,7 +13,6 @@ use joined_level_mapper::map_joined_fast;
 use joined_mapper::map_joined;
 use mapper_laws::Mapping;
 use part_records::{Uses, with_table};
-use sheet::ReadAnswer;
 use table::{CODE_ROOM, Table};
 use table_levels::next_level;
 
@@ -84,12 +83,10 @@ impl Part {
         requires { Sound self × LevelsStand levels.old (tables_of self) }
         ensures { Add least self text.now result.part (adding_answer result.answer) × LevelsStand levels.new (tables_of result.part) }
     {
-        let reading = sheet_reader::read(text);
-        let answer = reading.answer;
-        if let ReadAnswer::Refused(why, line) = answer {
-            return self.refused(Adding::Misread(why, line));
-        }
-        let sheet = reading.sheet;
+        let sheet = match sheet_reader::read(text) {
+            Ok(sheet) => sheet,
+            Err(e) => return self.refused(Adding::Misread(e.why, e.line)),
+        };
         let mapping = map_joined(sheet, self.k, self.used);
         self.offer(sheet.out, mapping, levels)
     }
@@ -100,12 +97,10 @@ impl Part {
         requires { Sound self × LevelsStand levels.old (tables_of self) }
         ensures { Add fastest self text.now result.part (adding_answer result.answer) × LevelsStand levels.new (tables_of result.part) }
     {
-        let reading = sheet_reader::read(text);
-        let answer = reading.answer;
-        if let ReadAnswer::Refused(why, line) = answer {
-            return self.refused(Adding::Misread(why, line));
-        }
-        let sheet = reading.sheet;
+        let sheet = match sheet_reader::read(text) {
+            Ok(sheet) => sheet,
+            Err(e) => return self.refused(Adding::Misread(e.why, e.line)),
+        };
         let mapping = map_joined_fast(sheet, self.k, self.used, levels);
         self.offer(sheet.out, mapping, levels)
     }

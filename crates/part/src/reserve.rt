@@ -11,7 +11,6 @@ ghost use Rattle.part.specs.Trusted.AddAnswers.{adding_answer, adding_result};
 use crate::{Added, Adding, Part};
 use joined_mapper::map_joined;
 use part_records::Reservation;
-use sheet::ReadAnswer;
 use table::CODE_ROOM;
 
 impl Part {
@@ -29,12 +28,10 @@ impl Part {
         requires { Sound self × LevelsStand levels.old (tables_of self) }
         ensures { Reserves least self text.now result.part (adding_answer result.answer) }
     {
-        let reading = sheet_reader::read(text);
-        let answer = reading.answer;
-        if let ReadAnswer::Refused(why, line) = answer {
-            return self.refused(Adding::Misread(why, line));
-        }
-        let sheet = reading.sheet;
+        let sheet = match sheet_reader::read(text) {
+            Ok(sheet) => sheet,
+            Err(e) => return self.refused(Adding::Misread(e.why, e.line)),
+        };
         let mapping = map_joined(sheet, self.k, self.used);
         let added = self.offer(sheet.out, mapping, levels);
         let answer = added.answer;
@@ -83,12 +80,10 @@ impl Part {
         requires { Sound self × LevelsStand levels.old (tables_of self) }
         ensures { (ts : List Try) × Committed self text.now (adding_result result ts) }
     {
-        let reading = sheet_reader::read(text);
-        let answer = reading.answer;
-        if let ReadAnswer::Refused(why, line) = answer {
-            return self.refused(Adding::Misread(why, line));
-        }
-        let sheet = reading.sheet;
+        let sheet = match sheet_reader::read(text) {
+            Ok(sheet) => sheet,
+            Err(e) => return self.refused(Adding::Misread(e.why, e.line)),
+        };
         let reservation = self.reservation;
         if sheet.out != reservation.net {
             return self.refused(Adding::NotReserved);

@@ -4,7 +4,7 @@
 #![tactic(auto)]
 
 use input_reader::read_file;
-use sheet::{Edge, Gate, ReadAnswer, Sheet, Source};
+use sheet::{Edge, Gate, Sheet, SheetError, Source};
 use std::rt::Files;
 use std::{env, io};
 use tree::Kind;
@@ -29,10 +29,10 @@ fn print_case(rt: &(impl Files + Print), name: &str) -> io::Result<()> {
 }
 
 fn print_one(rt: &impl Print, text: &[u8]) -> io::Result<()> {
-    let r = sheet_reader::read(text);
-    let answer = r.answer;
-    let sheet = r.sheet;
-    print_answer(rt, answer, sheet)
+    match sheet_reader::read(text) {
+        Ok(sheet) => print_sheet(rt, &sheet),
+        Err(e) => print_refusal(rt, e),
+    }
 }
 
 fn print_two(rt: &impl Print, text: &[u8]) -> io::Result<()> {
@@ -41,59 +41,51 @@ fn print_two(rt: &impl Print, text: &[u8]) -> io::Result<()> {
     Ok(())
 }
 
-// The place after the sheet.
+// The place after the sheet, and 0 where it is refused.
 fn print_next(rt: &impl Print, text: &[u8], start: usize) -> io::Result<usize> {
-    let r = sheet_reader::read_next(text, start);
-    let answer = r.answer;
-    let sheet = r.sheet;
-    print_answer(rt, answer, sheet)?;
-    Ok(r.end)
-}
-
-fn print_answer(rt: &impl Print, answer: ReadAnswer, sheet: Sheet) -> io::Result<()> {
-    match answer {
-        ReadAnswer::Accepted => print_sheet(rt, sheet),
-        ReadAnswer::Refused(why, line) => {
-            print_signed(rt, true, sheet::number(why) as u32)?;
-            print_number(rt, line as u32)?;
-            end_line(rt)
+    match sheet_reader::read_next(text, start) {
+        Ok(next) => {
+            print_sheet(rt, &next.sheet)?;
+            Ok(next.end)
+        }
+        Err(e) => {
+            print_refusal(rt, e)?;
+            Ok(0)
         }
     }
 }
 
-fn print_sheet(rt: &impl Print, sheet: Sheet) -> io::Result<()> {
+fn print_refusal(rt: &impl Print, e: SheetError) -> io::Result<()> {
+    print_signed(rt, true, sheet::number(e.why) as u32)?;
+    print_number(rt, e.line as u32)?;
+    end_line(rt)
+}
+
+fn print_sheet(rt: &impl Print, sheet: &Sheet) -> io::Result<()> {
     print_signed(rt, sheet.inverted, sheet.out as u32)?;
     print_number(rt, sheet.count as u32)?;
     end_line(rt)?;
-    let fanins = sheet.fanins;
-    for g in 0..sheet.count as usize {
-        let gate = sheet.gates[g];
-        print_gate(rt, gate, fanins)?;
+    for gate in &sheet.gates[..sheet.count as usize] {
+        print_gate(rt, gate, &sheet.fanins)?;
     }
     Ok(())
 }
 
-fn print_gate(rt: &impl Print, gate: Gate, fanins: [Edge; sheet::FANIN_ROOM]) -> io::Result<()> {
-    let kind = gate.kind;
-    match kind {
+fn print_gate(rt: &impl Print, gate: &Gate, fanins: &[Edge]) -> io::Result<()> {
+    match gate.kind {
         Kind::And => print_number(rt, 1)?,
         Kind::Or => print_number(rt, 2)?,
     }
     print_number(rt, gate.count as u32)?;
     let first = gate.first as usize;
-    let end = first + gate.count as usize;
-    for i in first..end {
-        if i < sheet::FANIN_ROOM {
-            let fanin = fanins[i];
-            print_fanin(rt, fanin)?;
-        }
+    for fanin in fanins.iter().skip(first).take(gate.count as usize) {
+        print_fanin(rt, *fanin)?;
     }
     end_line(rt)
 }
 
 fn print_fanin(rt: &impl Print, fanin: Edge) -> io::Result<()> {
-    let source = fanin.source;
-    match source {
+    match fanin.source {
         Source::Net(n) => print_signed(rt, fanin.inverted, n as u32),
         Source::Gate(g) => print_signed(rt, fanin.inverted, tree::CODE_BASE as u32 + g as u32),
     }
@@ -101,11 +93,7 @@ fn print_fanin(rt: &impl Print, fanin: Edge) -> io::Result<()> {
 
 // The sign in a column of its own, and the number in six.
 fn print_signed(rt: &impl Print, negative: bool, n: u32) -> io::Result<()> {
-    if negative {
-        print(rt, b"-")?;
-    } else {
-        print(rt, b" ")?;
-    }
+    print(rt, if negative { b"-" } else { b" " })?;
     let mut field = [b' '; 6];
     let _ = decimal_writer::write(&mut field, n as u64);
     print(rt, &field)

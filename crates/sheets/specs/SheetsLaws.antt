@@ -1,5 +1,6 @@
 -- Laws of the sheets of an input: an answer and its number, one sheet, and sheets one after the other.
-use Rattle.std.specs.Prelude.{ℕ, suc, ◌+◌, ◌≤◌, ◌<◌, ◌≡◌, refl, cond, List, [], ◌∷◌, length, drop}
+use Rattle.std.specs.Prelude.{ℕ, suc, ◌+◌, ◌≤◌, ◌<◌, ◌≡◌, refl, cond, List, [], ◌∷◌, length, drop, Result, Ok, Err}
+use Rattle.std.proofs.lemmas.Result.{IfOk-at_ok}
 use Rattle.std.proofs.Common.{add-one, arith, sym, ap, ◌∙◌, subst, eq-eqb, ne_eqb, length-drop}
 use Rattle.lists.specs.Trusted.Checked.{Checked, passed, refused as unread, ◌>>=◌}
 use Rattle.sheet.specs.declared.Refusal.{Refusal}
@@ -10,10 +11,9 @@ use Rattle.sheet.specs.Trusted.Cut.{sheet_text, next_read}
 use Rattle.sheet.specs.CutLaws.{leaving, next_is, text_less}
 use Rattle.sheet.specs.Trusted.Formed.{WellFormed}
 use Rattle.sheet.specs.ReadLaws.{read_formed}
-use Rattle.sheet.specs.Trusted.Answers.{number_of, drawn_sheet, answered}
-use Rattle.sheet.specs.Trusted.Promise.{NextRead}
-use Rattle.sheet.specs.declared.ReadAnswer.{ReadAnswer as CodeAnswer}
-use Rattle.sheet.specs.declared.ReadAnswer.TheVariants.{Accepted as Read, Refused as Misread}
+use Rattle.sheet.specs.Trusted.Answers.{number_of, drawn_sheet}
+use Rattle.sheet.specs.Trusted.Promise.{next_step, NextRead}
+use Rattle.sheet.specs.declared.SheetError.{SheetError}
 use Rattle.sheet.specs.declared.Next.{Next}
 use Rattle.part.specs.Trusted.Parts.{Shaped}
 use Rattle.part.specs.Trusted.Sound.{Sound}
@@ -112,25 +112,28 @@ pub record Stepped (w : Way) (input : List ℕ) (p : Part) (at : ℕ) (q : Part)
   pub within : told t ≡ accepted → (at < end) × (end ≤ length input)
 
 -- refused as it is read, or offered to the part
-module _ (input : List ℕ) (p : Part) (at : ℕ) (sound : Sound p) (shape : Shaped p) (inside : at < length input) (r : Next)
+module _ (input : List ℕ) (p : Part) (at : ℕ) (sound : Sound p) (shape : Shaped p) (inside : at < length input) (r : Result Next SheetError)
     (h : NextRead input (next_read (drop at input)) r) where
-  next_is_step : {a : CodeAnswer} → r.answer ≡ a → next_read (drop at input) ≡ answered a (drawn_sheet r.sheet, drop r.end input)
-  next_is_step i = h.same ∙ ap (λ (a : CodeAnswer). answered a (drawn_sheet r.sheet, drop r.end input)) i
+  next_is_step : {s : Result Next SheetError} → r ≡ s → next_read (drop at input) ≡ next_step input s
+  next_is_step i = h.same ∙ ap (next_step input) i
 
-  read_front_lem : r.answer ≡ Read → Front input at r.end (drawn_sheet r.sheet)
-  read_front_lem i = front input at r.end (drawn_sheet r.sheet) inside h.within (next_is_step i)
+  next_within : (n : Next) → r ≡ Ok n → n.end ≤ length input
+  next_within n i = IfOk-at_ok (λ (m : Next). m.end ≤ length input) i h.within
 
-  pub next_formed : r.answer ≡ Read → WellFormed (drawn_sheet r.sheet)
-  next_formed i = read_formed (sheet_text (drop at input)).0 (drawn_sheet r.sheet) (read_front_lem i).read
+  read_front_lem : (n : Next) → r ≡ Ok n → Front input at n.end (drawn_sheet n.sheet)
+  read_front_lem n i = front input at n.end (drawn_sheet n.sheet) inside (next_within n i) (next_is_step i)
 
-  pub stepped_refused : (w : Way) (why : Refusal) (line n : ℕ) → r.answer ≡ Misread why line → n ≡ number_of why →
-      Stepped w input p at p (record { number = n; line = line }) r.end
-  stepped_refused w why line n i e =
-      let t = told_misread n line why e in
+  pub next_formed : (n : Next) → r ≡ Ok n → WellFormed (drawn_sheet n.sheet)
+  next_formed n i = read_formed (sheet_text (drop at input)).0 (drawn_sheet n.sheet) (read_front_lem n i).read
+
+  pub stepped_refused : (w : Way) (error : SheetError) (number : ℕ) → r ≡ Err error → number ≡ number_of error.why →
+      Stepped w input p at p (record { number = number; line = error.line }) at
+  stepped_refused w error number i e =
+      let t = told_misread number error.line error.why e in
       let text = (sheet_text (drop at input)).0 in
-      let m : read_sheet text ≡ unread (number_of why) line = leaving_refused _ (number_of why) line _ (sym (next_is (drop at input)) ∙ next_is_step i) in
+      let m : read_sheet text ≡ unread (number_of error.why) error.line = leaving_refused _ (number_of error.why) error.line _ (sym (next_is (drop at input)) ∙ next_is_step i) in
       record {
-        add = subst (Add w p text p) (sym t) (add_misread w p text sound (number_of why) line m);
+        add = subst (Add w p text p) (sym t) (add_misread w p text sound (number_of error.why) error.line m);
         rest = λ z. absurd (not_refused t z);
         shaped = shape;
         sound = sound;
@@ -138,11 +141,11 @@ module _ (input : List ℕ) (p : Part) (at : ℕ) (sound : Sound p) (shape : Sha
         within = λ z. absurd (not_refused t z);
       }
 
-  pub stepped_offered : (w : Way) → r.answer ≡ Read → (q : Part) (a : Answer) (t : Told) → Offer w p (circuit_of r.sheet) q a → told t ≡ a → Stepped w input p at q t r.end
-  stepped_offered w i q a t o e =
-      let f = read_front_lem i in
+  pub stepped_offered : (w : Way) (n : Next) → r ≡ Ok n → (q : Part) (a : Answer) (t : Told) → Offer w p (circuit_of n.sheet) q a → told t ≡ a → Stepped w input p at q t n.end
+  stepped_offered w n i q a t o e =
+      let f = read_front_lem n i in
       let text = (sheet_text (drop at input)).0 in
-      let g : Add w p text q (told t) = subst (Add w p text q) (sym e) (add_offered w p text sound (drawn_sheet r.sheet) f.read q a o) in
+      let g : Add w p text q (told t) = subst (Add w p text q) (sym e) (add_offered w p text sound (drawn_sheet n.sheet) f.read q a o) in
       let k = kept p shape (add_case w p text q (told t) g) in
       record {
         add = g;
@@ -150,7 +153,7 @@ module _ (input : List ℕ) (p : Part) (at : ℕ) (sound : Sound p) (shape : Sha
         shaped = k.shaped;
         sound = k.sound sound;
         grown = grown w p text q (told t) g;
-        within = λ z. (f.after, h.within);
+        within = λ z. (f.after, next_within n i);
       }
 
 -- ---- sheets one after the other

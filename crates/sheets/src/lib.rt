@@ -12,7 +12,6 @@ ghost use Rattle.sheets.specs.Promises.{Ended};
 use joined_mapper::map_joined;
 use opening::Told;
 use part::{Added, Adding, Part};
-use sheet::ReadAnswer;
 use table::CODE_ROOM;
 
 // The part after the sheets, and the number of the last one.
@@ -75,16 +74,17 @@ pub fn add_sheets(opened: Part, input: &[u8], start: usize) -> End
     let mut sheet: u16 = 0;
     while at < input.len() {
         sheet += 1;
-        let next = sheet_reader::read_next(input, at);
-        let answer = next.answer;
-        if let ReadAnswer::Refused(why, line) = answer {
-            let told = Told {
-                number: sheet::number(why),
-                line,
-            };
-            let part = added.part;
-            return End { part, told, sheet };
-        }
+        let next = match sheet_reader::read_next(input, at) {
+            Ok(next) => next,
+            Err(e) => {
+                let told = Told {
+                    number: sheet::number(e.why),
+                    line: e.line,
+                };
+                let part = added.part;
+                return End { part, told, sheet };
+            }
+        };
         added = added.part.offer(
             next.sheet.out,
             map_joined(next.sheet, added.part.k, added.part.used),

@@ -14,18 +14,18 @@ use Rattle.part.proofs.StoringLaws.{sheet_mappable, mapped_storable, mapped_offe
 use Rattle.part.proofs.Shape.{shaped}
 use Rattle.sheets.specs.SheetsLaws.{number_some, sheets_start, sheets_more, few_sheets, on_the_way, ended_stop, ended_all, Stepped, next_formed, stepped_refused, stepped_offered}
 use Rattle.sheets.proofs.add_sheets.Goals as goal
-use Rattle.sheets.proofs.add_sheets.Goals.{After-tell_adding-told, In_default}
+use Rattle.sheets.proofs.add_sheets.Goals.{After-tell_adding-told, In-Ok}
 
-sheet_formed : (c : In_default) → WellFormed (drawn_sheet c.read_next-next.result.sheet)
+sheet_formed : (c : In-Ok) → WellFormed (drawn_sheet c.in-Ok.next.sheet)
 sheet_formed c =
-    next_formed c.args.input.now c.loop-at.added.part c.loop-at.at c.loop-at.invariant.0.sound c.loop-at.invariant.0.shaped (omega arith) c.read_next-next.result c.read_next-next.ensures c.in_default.is
+    next_formed c.args.input.now c.loop-at.added.part c.loop-at.at c.loop-at.invariant.0.sound c.loop-at.invariant.0.shaped (omega arith) c.read_next.result c.read_next.ensures c.in-Ok.next c.in-Ok.is
 
-sheet_stepped : (c : After-tell_adding-told) → Stepped least c.args.input.now c.loop-at.added.part c.loop-at.at c.offer-added.result.part c.tell_adding-told.result c.read_next-next.result.end
+sheet_stepped : (c : After-tell_adding-told) → Stepped least c.args.input.now c.loop-at.added.part c.loop-at.at c.offer-added.result.part c.tell_adding-told.result c.in-Ok.next.end
 sheet_stepped c =
     let q = c.offer-added.result.part in
     let a = adding_answer c.offer-added.result.answer in
-    stepped_offered c.args.input.now c.loop-at.added.part c.loop-at.at c.loop-at.invariant.0.sound c.loop-at.invariant.0.shaped (omega arith) c.read_next-next.result c.read_next-next.ensures least c.in_default.is
-    q a c.tell_adding-told.result (mapped_offered c.loop-at.added.part c.read_next-next.result.sheet c.map_joined.result c.map_joined.ensures q a c.offer-added.ensures.0) c.tell_adding-told.ensures
+    stepped_offered c.args.input.now c.loop-at.added.part c.loop-at.at c.loop-at.invariant.0.sound c.loop-at.invariant.0.shaped (omega arith) c.read_next.result c.read_next.ensures least c.in-Ok.next c.in-Ok.is
+    q a c.tell_adding-told.result (mapped_offered c.loop-at.added.part c.in-Ok.next.sheet c.map_joined.result c.map_joined.ensures q a c.offer-added.ensures.0) c.tell_adding-told.ensures
 
 pub loop-at-init : goal.loop-at-init
 unfolding no_levels
@@ -38,33 +38,33 @@ loop-at-init c =
 pub overflow_add-sheet : goal.overflow_add-sheet
 overflow_add-sheet c = record { fits = omega (arith, few_sheets c.loop-at.invariant.0) }
 
-pub returns-in-Refused : goal.returns-in-Refused
-returns-in-Refused c =
-    ended_stop c.loop-at.invariant.0 c.loop-at.added.part (record { number = c.number.result; line = c.in-Refused.line }) c.read_next-next.result.end (omega arith)
-    (stepped_refused c.args.input.now c.loop-at.added.part c.loop-at.at c.loop-at.invariant.0.sound c.loop-at.invariant.0.shaped (omega arith) c.read_next-next.result c.read_next-next.ensures least c.in-Refused.why c.in-Refused.line c.number.result c.in-Refused.is c.number.ensures)
-    (λ z. omega (arith, number_some c.in-Refused.why, c.number.ensures, z))
+pub returns-in-Err : goal.returns-in-Err
+returns-in-Err c =
+    ended_stop c.loop-at.invariant.0 c.loop-at.added.part (record { number = c.number.result; line = c.in-Err.e.line }) c.loop-at.at (omega arith)
+    (stepped_refused c.args.input.now c.loop-at.added.part c.loop-at.at c.loop-at.invariant.0.sound c.loop-at.invariant.0.shaped (omega arith) c.read_next.result c.read_next.ensures least c.in-Err.e c.number.result c.in-Err.is c.number.ensures)
+    (λ z. omega (arith, number_some c.in-Err.e.why, c.number.ensures, z))
 
 pub map_joined-requires : goal.map_joined-requires
 map_joined-requires c =
     let l = c.loop-at in
-    sheet_mappable l.added.part l.invariant.0.sound c.read_next-next.result.sheet (sheet_formed (goal.at.map_joined-requires c).In_default)
+    sheet_mappable l.added.part l.invariant.0.sound c.in-Ok.next.sheet (sheet_formed (goal.at.map_joined-requires c).In-Ok)
 
 pub offer-added-requires : goal.offer-added-requires
 offer-added-requires c =
     let l = c.loop-at in
-    (l.invariant.0.sound, mapped_storable l.added.part.k l.added.part.used c.read_next-next.result.sheet c.map_joined.result c.map_joined.ensures (sheet_formed (goal.at.offer-added-requires c).In_default), l.invariant.1)
+    (l.invariant.0.sound, mapped_storable l.added.part.k l.added.part.used c.in-Ok.next.sheet c.map_joined.result c.map_joined.ensures (sheet_formed (goal.at.offer-added-requires c).In-Ok), l.invariant.1)
 
 pub returns-then-told-ne0 : goal.returns-then-told-ne0
 returns-then-told-ne0 c =
-    ended_stop c.loop-at.invariant.0 c.offer-added.result.part c.tell_adding-told.result c.read_next-next.result.end (omega arith) (sheet_stepped (goal.at.returns-then-told-ne0 c).After-tell_adding-told) c.if-told-ne0.true
+    ended_stop c.loop-at.invariant.0 c.offer-added.result.part c.tell_adding-told.result c.in-Ok.next.end (omega arith) (sheet_stepped (goal.at.returns-then-told-ne0 c).After-tell_adding-told) c.if-told-ne0.true
 
 pub loop-at-smaller : goal.loop-at-smaller
 loop-at-smaller c =
-    omega (arith, on_the_way c.loop-at.invariant.0 c.offer-added.result.part c.tell_adding-told.result c.read_next-next.result.end (omega arith) (sheet_stepped (goal.at.loop-at-smaller c).After-tell_adding-told) c.if-told-ne0.false)
+    omega (arith, on_the_way c.loop-at.invariant.0 c.offer-added.result.part c.tell_adding-told.result c.in-Ok.next.end (omega arith) (sheet_stepped (goal.at.loop-at-smaller c).After-tell_adding-told) c.if-told-ne0.false)
 
 pub loop-at-preserved : goal.loop-at-preserved
 loop-at-preserved c =
-    (sheets_more c.loop-at.invariant.0 c.offer-added.result.part c.tell_adding-told.result c.read_next-next.result.end (omega arith) (sheet_stepped (goal.at.loop-at-preserved c).After-tell_adding-told) c.if-told-ne0.false, c.offer-added.ensures.1)
+    (sheets_more c.loop-at.invariant.0 c.offer-added.result.part c.tell_adding-told.result c.in-Ok.next.end (omega arith) (sheet_stepped (goal.at.loop-at-preserved c).After-tell_adding-told) c.if-told-ne0.false, c.offer-added.ensures.1)
 
 pub returns : goal.returns
 returns c = ended_all c.loop-at.invariant.0 (omega arith)

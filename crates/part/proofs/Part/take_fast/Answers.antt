@@ -11,38 +11,38 @@ use Rattle.part.specs.Trusted.AddAnswers.{adding_answer}
 use Rattle.part.proofs.StoringLaws.{sheet_mappable, levels_low, fast_storable, fast_offered, add_same, add_misread, add_offered, reading_is}
 use Rattle.part.specs.declared.Adding.TheVariants.{Misread}
 use Rattle.part.proofs.Part.take_fast.Goals as goal
-use Rattle.part.proofs.Part.take_fast.Goals.{In_default}
+use Rattle.part.proofs.Part.take_fast.Goals.{In-Ok}
 
-pub returns-in-Refused : goal.returns-in-Refused
-returns-in-Refused c =
+pub returns-in-Err : goal.returns-in-Err
+returns-in-Err c =
     let a = c.args in (
-      add_same c.refused.result a.self (Misread c.in-Refused.why c.in-Refused.line) c.refused.ensures fastest a.self a.text.now
-          (add_misread fastest a.self a.text.now c.requires.0 (number_of c.in-Refused.why) c.in-Refused.line (reading_is a.text.now c.read-reading.result c.read-reading.ensures c.in-Refused.is)),
+      add_same c.refused.result a.self (Misread c.in-Err.e.why c.in-Err.e.line) c.refused.ensures fastest a.self a.text.now
+          (add_misread fastest a.self a.text.now c.requires.0 (number_of c.in-Err.e.why) c.in-Err.e.line (reading_is a.text.now c.read.result c.read.ensures c.in-Err.is)),
       subst (λ r. LevelsStand a.levels.now (tables_of r.part)) (sym c.refused.ensures) c.requires.1,
     )
 
-sheet_read : (c : In_default) → read_sheet c.args.text.now ≡ passed (drawn_sheet c.read-reading.result.sheet)
+sheet_read : (c : In-Ok) → read_sheet c.args.text.now ≡ passed (drawn_sheet c.in-Ok.sheet)
 sheet_read c =
-    reading_is c.args.text.now c.read-reading.result c.read-reading.ensures c.in_default.is
+    reading_is c.args.text.now c.read.result c.read.ensures c.in-Ok.is
 
 -- and it is well formed
-sheet_formed : (c : In_default) → WellFormed (drawn_sheet c.read-reading.result.sheet)
+sheet_formed : (c : In-Ok) → WellFormed (drawn_sheet c.in-Ok.sheet)
 sheet_formed c =
-    read_formed c.args.text.now (drawn_sheet c.read-reading.result.sheet) (sheet_read c)
+    read_formed c.args.text.now (drawn_sheet c.in-Ok.sheet) (sheet_read c)
 
 pub map_joined_fast-mapping-requires : goal.map_joined_fast-mapping-requires
 map_joined_fast-mapping-requires c =
-    (sheet_mappable c.args.self c.requires.0 c.read-reading.result.sheet (sheet_formed (goal.at.map_joined_fast-mapping-requires c).In_default), levels_low c.requires.1)
+    (sheet_mappable c.args.self c.requires.0 c.in-Ok.sheet (sheet_formed (goal.at.map_joined_fast-mapping-requires c).In-Ok), levels_low c.requires.1)
 
 pub offer-requires : goal.offer-requires
 offer-requires c =
-    (c.requires.0, fast_storable c.args.self.k c.args.self.used c.args.levels.now c.read-reading.result.sheet c.map_joined_fast-mapping.result c.map_joined_fast-mapping.ensures (sheet_formed (goal.at.offer-requires c).In_default), c.requires.1)
+    (c.requires.0, fast_storable c.args.self.k c.args.self.used c.args.levels.now c.in-Ok.sheet c.map_joined_fast-mapping.result c.map_joined_fast-mapping.ensures (sheet_formed (goal.at.offer-requires c).In-Ok), c.requires.1)
 
 pub returns : goal.returns
 returns c =
     let o = c.offer in
     let a = adding_answer o.result.answer in (
-      add_offered fastest c.args.self c.args.text.now c.requires.0 (drawn_sheet c.read-reading.result.sheet) (sheet_read (goal.at.returns c).In_default) o.result.part a
-          (fast_offered c.args.self c.args.levels.now c.requires.1 c.read-reading.result.sheet c.map_joined_fast-mapping.result c.map_joined_fast-mapping.ensures o.result.part a o.ensures.0),
+      add_offered fastest c.args.self c.args.text.now c.requires.0 (drawn_sheet c.in-Ok.sheet) (sheet_read (goal.at.returns c).In-Ok) o.result.part a
+          (fast_offered c.args.self c.args.levels.now c.requires.1 c.in-Ok.sheet c.map_joined_fast-mapping.result c.map_joined_fast-mapping.ensures o.result.part a o.ensures.0),
       o.ensures.1,
     )
