@@ -26,23 +26,18 @@ returns-then-line-at-lt-COLUMNS c =
     so_far_none h
     (so_far_bad h (omega arith) (omega arith) (short_none (drop c.loop-at.at c.args.line.now) (simp length-drop (omega arith))))
 
-pub returns-in_default : goal.returns-in_default
-returns-in_default c =
+pub returns-in_err-v : goal.returns-in_err-v
+returns-in_err-v c =
     let h = c.loop-at.invariant in
-    so_far_none h
+    rw c.from_residual.ensures (so_far_none h
     (so_far_bad h (omega arith) (omega arith)
-    (read_none (take columns (drop c.loop-at.at c.args.line.now)) (sym (field_read_lem (goal.at.returns-in_default c).After-read) ∙ c.in_default.is)))
+    (read_none (take columns (drop c.loop-at.at c.args.line.now)) (sym (field_read_lem (goal.at.returns-in_err-v c).After-read) ∙ c.in_err-v.was))))
 
 pub loop-at-preserved : goal.loop-at-preserved
 loop-at-preserved c =
     let h = c.loop-at.invariant in
-<<<<<<< HEAD
-    so_far_more h (omega arith) (omega arith) (record { sign = c.sign_of-sign.result; magnitude = c.magnitude.result })
-    (read_number (take columns (drop c.loop-at.at c.args.line.now)) (sym (field_read_lem (goal.at.loop-at-preserved c).After-read) ∙ c.in-Some.is) (c.sign_of-sign.ensures ∙ c.negative.ensures) c.magnitude.ensures)
-=======
     so_far_more h (omega arith) (omega arith) _
-    (read_number (take columns (drop c.loop-at.at c.args.line.now)) (sym (field_read_lem (goal.at.loop-at-preserved c).After-read) ∙ c.in-Value.is) (search rules) c.magnitude.ensures)
->>>>>>> 02849b2 (A sheet is read as a Result: its refusal is an error with the line, and a refused text has no sheet)
+    (read_number (take columns (drop c.loop-at.at c.args.line.now)) (sym (field_read_lem (goal.at.loop-at-preserved c).After-read) ∙ c.in_ok-v.was) (search rules) c.magnitude.ensures)
     (omega arith)
 
 pub returns : goal.returns
