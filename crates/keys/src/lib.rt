@@ -1,19 +1,12 @@
 // What the search does with keys: the join of two, which operands it places, the order, and the most leaves.
 #![tactic(auto)]
 
-ghost use Rattle.std.specs.Prelude.{◌≡◌, true, false, min, ◌<◌};
+ghost use Rattle.std.specs.Prelude.{◌≡◌, true, false, ◌<◌};
 ghost use Rattle.plan.specs.Key.{join as join_of, cuts, ◌≼◌};
 ghost use Rattle.plan.specs.Volume.{volume as volume_of};
 ghost use Rattle.plan.specs.Entries.{Joinable, Joined};
 
 use plan::{Cuts, Key};
-
-// The lesser of two numbers.
-fn lesser(a: u8, b: u8) -> u8
-    ensures { result ≡ min a b }
-{
-    if a <= b { a } else { b }
-}
 
 // The key of two operands under one gate: both held by its table; or the wider one placed; or both.
 pub fn join(k: u8, a: Key, b: Key) -> Key
@@ -25,7 +18,7 @@ pub fn join(k: u8, a: Key, b: Key) -> Key
     if width <= k {
         return Key { below, width };
     }
-    let narrow = lesser(a.width, b.width);
+    let narrow = a.width.min(b.width);
     if narrow < k {
         Key {
             below: below + 1,
@@ -51,7 +44,7 @@ pub fn cuts_of(k: u8, a: Key, b: Key) -> Cuts
         };
     }
     let right_wider = a.width <= b.width;
-    if lesser(a.width, b.width) >= k {
+    if a.width.min(b.width) >= k {
         Cuts {
             left: true,
             right: true,
@@ -73,11 +66,7 @@ pub fn cuts_of(k: u8, a: Key, b: Key) -> Cuts
 pub fn precedes(a: Key, b: Key) -> bool
     ensures { (result ≡ true → a ≼ b) × (result ≡ false → b ≼ a) }
 {
-    if a.below == b.below {
-        a.width < b.width
-    } else {
-        a.below < b.below
-    }
+    a < b
 }
 
 // The most leaves that a cover with that key can have: each table below stands for one input and brings k.

@@ -12,7 +12,7 @@ pub const MASKS: usize = 1024;
 pub const MOST_STEPS: usize = 19;
 
 // What matters of a cover of a tree: the tables below the one that holds the root, and the inputs of that one.
-#[derive(Clone, Copy)]
+#[derive(Clone, Copy, PartialEq, Eq, PartialOrd, Ord)]
 pub struct Key {
     pub below: u8,
     pub width: u8,

@@ -9,7 +9,7 @@ use mathlib.Core.List.{List, [], ◌∷◌}
 use lib.ListN.{length, get_or, take, set, length-take, length-set}
 use lib.Seq.{get_or-take}
 use lib.Bits.{and_self}
-use lib.Pow.{pow_pos, pow-lt, pow_mono}
+use lib.Pow.{pow_pos, pow_mono}
 use Rattle.lists.specs.Trusted.Lists.{sum}
 use Rattle.lists.specs.ListLaws.{every_at}
 use Rattle.lists.specs.NumberLaws.{sum_mix}
@@ -28,6 +28,7 @@ pub record Filling (K count : ℕ) (ks : List Key) (bs ws us vs : List ℕ) (h t
   pub fanins : h ≤ count
   pub bit : next ≡ 2 ^ h
   pub room : next ≤ 2 ^ count
+  pub places : 2 ^ count ≤ masks
   pub some : 1 ≤ s
   pub most : s ≤ next
   pub half : s < next → (g : ℕ) × (h ≡ g + 1) × (top ≡ 2 ^ g) × (top < s)
@@ -48,34 +49,47 @@ taken_at xs n i d e l s = at_any xs i d e (omega (arith, length-take n xs)) ∙ 
 abbrev pub Place : ℕ → ℕ → Type 0
 Place count s = (s < 2 ^ count) × (s < masks)
 
+-- before the first mask
+pub filling_start : {K count : ℕ} {ks : List Key} {bs ws us vs : List ℕ} → GoodKeys K ks → length ks ≡ count →
+    (length bs ≡ masks) × (length ws ≡ masks) × (length us ≡ masks) × (length vs ≡ masks) → Filling K count ks bs ws us vs 0 0 1 1
+filling_start {count = count} g e z =
+    let l : count ≤ most_fanins = omega (arith, g.count.1) in record {
+      fanins = omega arith;
+      bit = refl;
+      room = pow_pos count;
+      places = pow_mono l;
+      some = omega arith;
+      most = omega arith;
+      half = λ m. absurd (omega arith);
+      sizes = z;
+      entries = record { at = λ s p q. absurd (omega arith) };
+      volumes = record { at = λ s p q. absurd (omega arith) };
+    }
+
 module _ {K count : ℕ} {ks : List Key} where
   module _ (good : GoodKeys K ks) (size : length ks ≡ count) {bs ws us vs : List ℕ} {h top next s : ℕ}
       (f : Filling K count ks bs ws us vs h top next s) where
-    -- no mask is past the arrays
-    filling_room : 2 ^ count ≤ masks
-    filling_room = let l : count ≤ most_fanins = omega (arith, good.count.1) in pow_mono l
-
     sizes_set : (x y z v : ℕ) →
         (length (set bs s x) ≡ masks) × (length (set ws s y) ≡ masks) × (length (set us s z) ≡ masks) × (length (set vs s v) ≡ masks)
     sizes_set x y z v = simp length-set f.sizes
 
-    pub place_one : s ≡ next → ((h ≡ count) → ⊥) → Place count s × (h < count) × (count ≤ most_fanins)
+    pub place_one : s ≡ next → s < 2 ^ count → Place count s × (h < count) × (count ≤ most_fanins)
     place_one e n =
-        let l : h < count = by_cases (dec_lt h count) (λ l. l) (λ l. absurd (n (omega arith))) in
-        let p = pow-lt l in
-        let r = filling_room in
+        let l : h < count =
+        by_cases (dec_lt h count) (λ l. l) (λ l. let g : count ≤ h = omega arith in absurd (omega (arith, f.bit, pow_mono g))) in
+        let r = f.places in
         (omega arith, l, omega (arith, good.count.1))
 
     more : s < 2 ^ count → {a : Key} {u : ℕ} → Entered K ks bs ws s a u →
         Entries K ks (set bs s a.below) (set ws s a.width) (set us s u) (s + 1)
     more l e =
-        let r = filling_room in
+        let r = f.places in
         let z = f.sizes in
         entries_more (omega arith) (omega arith) (omega arith) f.entries e
 
     more_volumes : s < 2 ^ count → {v : ℕ} → v ≡ sum (volume K) (select s ks) → Volumes K ks (set vs s v) (s + 1)
     more_volumes l e =
-        let r = filling_room in
+        let r = f.places in
         let z = f.sizes in
         volumes_more (omega arith) f.volumes e
 
@@ -94,6 +108,7 @@ module _ {K count : ℕ} {ks : List Key} where
           fanins = omega arith;
           bit = rw add-one (omega arith);
           room = omega arith;
+          places = f.places;
           some = omega arith;
           most = omega arith;
           half = λ l. (h, refl, b, omega arith);
@@ -112,7 +127,7 @@ module _ {K count : ℕ} {ks : List Key} where
           let l = within in
           let g = f.half l in
           let t = g.3 in
-          let r = filling_room in
+          let r = f.places in
           (omega arith, omega arith)
 
       rest_below : s - top < top
@@ -157,7 +172,7 @@ module _ {K count : ℕ} {ks : List Key} where
           let l = within in
           let g = f.half l in
           let t = g.3 in
-          let r = filling_room in
+          let r = f.places in
           let e : top + (s - top) ≡ s = omega arith in record {
             table = good.table;
             some = omega arith;
@@ -184,6 +199,7 @@ module _ {K count : ℕ} {ks : List Key} where
             fanins = omega arith;
             bit = f.bit;
             room = f.room;
+            places = f.places;
             some = omega arith;
             most = omega arith;
             half = λ l. (g.0, g.1, g.2, omega arith);

@@ -101,12 +101,9 @@ fn fill(
     let mut h: usize = 0;
     let mut top: usize = 0;
     let mut next: usize = 1;
-    let mut s: usize = 1;
-    loop {
+    let end = 1 << count;
+    for s in 1..end {
         if s == next {
-            if h == count {
-                return s;
-            }
             let key = keys[h];
             below[s] = key.below;
             width[s] = key.width;
@@ -115,7 +112,6 @@ fn fill(
             h += 1;
             top = s;
             next = s + s;
-            s += 1;
         } else {
             let least = volumes[top] + volumes[s - top];
             volumes[s] = least;
@@ -124,9 +120,9 @@ fn fill(
             below[s] = key.below;
             width[s] = key.width;
             split[s] = c.sub;
-            s += 1;
         }
     }
+    end
 }
 
 // The number of a mask's only bit.
@@ -134,13 +130,7 @@ pub fn bit_number(s: usize) -> u8
     requires { OneBit s }
     ensures { (2 ^ result ≡ s) × (result < most_fanins) }
 {
-    let mut h: u8 = 0;
-    let mut b: usize = 1;
-    while b < s {
-        b += b;
-        h += 1;
-    }
-    h
+    s.trailing_zeros() as u8
 }
 
 // The plan with one step more.
@@ -207,13 +197,11 @@ fn with_steps<'a>(
 }
 
 // Whether a fanin has such a key: from 1 to k inputs.
+#[tactic(auto, unfolding(plan::specs::PlanOf::fanin_test))]
 fn is_fanin(k: u8, a: Key) -> bool
     ensures { result ≡ fanin_test k a }
 {
-    if a.width < 1 {
-        return false;
-    }
-    a.width <= k
+    (1..=k).contains(&a.width)
 }
 
 // Whether each of the first count keys is a fanin's.
@@ -221,35 +209,18 @@ fn are_fanins(k: u8, count: usize, keys: [Key; MOST_FANINS]) -> bool
     requires { count ≤ most_fanins }
     ensures { result ≡ all (fanin_test k) (take count keys) }
 {
-    let mut i: usize = 0;
-    while i < count {
-        let a = keys[i];
-        if !is_fanin(k, a) {
-            return false;
-        }
-        i += 1;
-    }
-    true
+    keys[..count].iter().all(|a| is_fanin(k, *a))
 }
 
 // Whether a plan can be sought: tables and gates within their limits, and keys of fanins.
+#[tactic(auto, unfolding(plan::specs::PlanOf::good_input))]
 fn is_good(k: u8, count: u8, keys: [Key; MOST_FANINS]) -> bool
     ensures { result ≡ good_input k count keys }
 {
-    if k < LEAST_INPUTS {
-        return false;
-    }
-    if MOST_INPUTS < k {
-        return false;
-    }
     let n = count as usize;
-    if n < FEWEST_FANINS {
-        return false;
-    }
-    if MOST_FANINS < n {
-        return false;
-    }
-    are_fanins(k, n, keys)
+    (LEAST_INPUTS..=MOST_INPUTS).contains(&k)
+        && (FEWEST_FANINS..=MOST_FANINS).contains(&n)
+        && are_fanins(k, n, keys)
 }
 
 // A plan of no steps.

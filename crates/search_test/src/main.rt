@@ -16,23 +16,8 @@ fn leaf() -> Key
     Key { below: 0, width: 1 }
 }
 
-fn show_number(rt: &impl Print, n: u64) -> io::Result<()> {
-    rt.print(n)
-}
-
 fn show(rt: &impl Print, p: Plan) -> io::Result<()> {
-    let key = p.key;
-    if p.ok {
-        rt.write_all(b"1 ")?;
-    } else {
-        rt.write_all(b"0 ")?;
-    }
-    show_number(rt, key.below as u64)?;
-    rt.write_all(b" ")?;
-    show_number(rt, key.width as u64)?;
-    rt.write_all(b" ")?;
-    show_number(rt, p.len as u64)?;
-    rt.write_all(b"\n")
+    println!(rt; "{} {} {} {}", p.ok as u8, p.key.below, p.key.width, p.len)
 }
 
 // The key of a gate of that many leaves, or of a leaf.
@@ -49,10 +34,8 @@ fn gate_of(k: u8, leaves: u8) -> Key
 // The root of an example: each fanin is a gate of that many leaves, or a leaf.
 fn example(rt: &impl Print, k: u8, count: u8, leaves: [u8; 10]) -> io::Result<()> {
     let mut keys = [leaf(); 10];
-    let mut i: usize = 0;
-    while i < 10 {
+    for i in 0..10 {
         keys[i] = gate_of(k, leaves[i]);
-        i += 1;
     }
     show(rt, search::best_plan(k, count, keys))
 }
@@ -136,10 +119,9 @@ fn key_from(k: u8, a: u64, b: u64) -> Key
 {
     let below = (a / 65536 % 4) as u8;
     let width = (1 + b / 65536 % 6) as u8;
-    if k < width {
-        Key { below, width: k }
-    } else {
-        Key { below, width }
+    Key {
+        below,
+        width: k.min(width),
     }
 }
 
@@ -153,13 +135,11 @@ fn draw(start: u64) -> Drawn
     let count = (2 + second / 65536 % 9) as u8;
     let mut keys = [leaf(); 10];
     let mut state = second;
-    let mut i: usize = 0;
-    while i < 10 {
+    for i in 0..10 {
         let a = next(state);
         let b = next(a);
         keys[i] = key_from(k, a, b);
         state = b;
-        i += 1;
     }
     Drawn {
         state,
@@ -171,13 +151,10 @@ fn draw(start: u64) -> Drawn
 
 fn generated(rt: &impl Print) -> io::Result<()> {
     let mut state: u64 = 1;
-    let mut i: usize = 0;
-    while i < 200 {
+    for _ in 0..200 {
         let d = draw(state);
-        let keys = d.keys;
-        show(rt, search::best_plan(d.k, d.count, keys))?;
+        show(rt, search::best_plan(d.k, d.count, d.keys))?;
         state = d.state;
-        i += 1;
     }
     Ok(())
 }

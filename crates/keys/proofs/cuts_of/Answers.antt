@@ -8,9 +8,9 @@ pub returns-then-a-b : goal.returns-then-a-b
 unfolding cuts
 returns-then-a-b c = simp (le-leb _ _ c.if-a-b.true)
 
-pub returns-then-lesser-k : goal.returns-then-lesser-k
+pub returns-then-min-k : goal.returns-then-min-k
 unfolding cuts
-returns-then-lesser-k c =
+returns-then-min-k c =
     let a = c.args in
     let h : a.k < a.a.width + a.b.width = omega arith in
     let i : a.k < 1 + min a.a.width a.b.width = omega arith in

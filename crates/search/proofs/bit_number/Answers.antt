@@ -1,19 +1,26 @@
-use Prim.Native.Nat.{ℕ, suc, ◌^◌, ◌≤◌, ◌<◌}
+use Prim.Native.Nat.{ℕ, ◌^◌, ◌≤◌, ◌<◌}
+use mathlib.Core.Path.{◌≡◌, sym, ap, ◌∙◌}
 use native.Mathlib.Omega.{arith}
-use native.Mathlib.Numerals.{add-one}
-use native.Mathlib.Decide.{dec_lt}
-use mathlib.Core.Logic.{by_cases}
-use lib.Pow.{pow_mono}
+use lib.Pow.{pow_mono, pow-lt}
+use mir.Syntax.{w64}
+use Rattle.std.specs.Int.{bit_at, trailing_zeros}
+use Rattle.std.proofs.lemmas.Nat.Bits.{bit_at-trailing_zeros, bit_at-pow_other}
+use Rattle.tree.specs.Trusted.Limits.{most_fanins}
 use Rattle.search.proofs.bit_number.Goals as goal
 
--- a bit below another, and the one after it
-next : (h g : ℕ) → 2 ^ h < 2 ^ g → (h < g) × (2 ^ suc h ≤ 2 ^ g)
-next h g l =
-    let k : h < g = by_cases (dec_lt h g) (λ k. k) (λ k. let j : g ≤ h = omega arith in absurd (omega (arith, pow_mono j))) in
-    (k, pow_mono k)
+-- the only bit of a mask
+only : (h t : ℕ) → bit_at (2 ^ h) t ≡ 1 → t ≡ h
+only h t e = grind (arith, bit_at-pow_other)
 
-pub loop-b-preserved : goal.loop-b-preserved
-loop-b-preserved c =
-    let n = next c.loop-b.h c.requires.0 (omega arith) in
-    let k = n.0 in
-    (rw add-one (omega arith), omega (arith, n.1), omega arith, omega arith)
+lowest : (h : ℕ) → h < most_fanins → trailing_zeros w64 (2 ^ h) ≡ h
+lowest h l =
+    let z : 0 ≤ h = omega arith in
+    let some : 0 < 2 ^ h = omega (arith, pow_mono z) in
+    let few : 2 ^ h < 2 ^ 64 = omega (arith, pow-lt l) in
+    only h _ (bit_at-trailing_zeros w64 (2 ^ h) some few).1
+
+pub returns : goal.returns
+returns c =
+    let q = c.requires in
+    let i = ap (trailing_zeros w64) q.2 ∙ lowest q.0 q.1 in
+    (ap (λ n. 2 ^ n) i ∙ sym q.2, omega (arith, i, q.1))

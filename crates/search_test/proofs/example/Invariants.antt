@@ -1,4 +1,3 @@
-use Prim.Native.Nat.{◌-◌, ◌≤◌}
 use mathlib.Core.Path.{◌≡◌}
 use lib.ListN.{length}
 use Rattle.lists.specs.Trusted.Lists.{Every}
@@ -6,7 +5,4 @@ use Rattle.search_test.proofs.Keys.{Light}
 use Rattle.search_test.proofs.example.Given as goal
 
 abbrev pub invariant-loop-i : goal.invariant-loop-i
-invariant-loop-i g l = (l.i ≤ 10) × (length l.keys ≡ 10) × Every (Light 25) l.keys
-
-abbrev pub decreases-loop-i : goal.decreases-loop-i
-decreases-loop-i g l = 10 - l.i
+invariant-loop-i g l = (length l.keys ≡ 10) × Every (Light 25) l.keys

@@ -1,8 +1,5 @@
-use Prim.Native.Nat.{◌-◌, ◌≤◌, ◌<◌}
+use Prim.Native.Nat.{◌<◌}
 use Rattle.search_test.proofs.generated.Given as goal
 
-abbrev pub invariant-loop-i : goal.invariant-loop-i
-invariant-loop-i g l = (l.state < 2147483648) × (l.i ≤ 200)
-
-abbrev pub decreases-loop-i : goal.decreases-loop-i
-decreases-loop-i g l = 200 - l.i
+abbrev pub invariant-loop : goal.invariant-loop
+invariant-loop g l = l.state < 2147483648
