@@ -83,7 +83,7 @@ pub record LinesSo (K g : ℕ) (f : Fans) (a : ℕ) (old store own earlier array
 
 module _ {K g : ℕ} {f : Fans} {a : ℕ} {old : List ℕ} where
   -- no bound is done
-  pub bounds_start : {own earlier array : List ℕ} → ((s : ℕ) → get_or own s big ≡ big) → ((s : ℕ) → get_or array s big ≡ big) → LinesSo K g f a old old own earlier array 0 0
+  bounds_start : {own earlier array : List ℕ} → ((s : ℕ) → get_or own s big ≡ big) → ((s : ℕ) → get_or array s big ≡ big) → LinesSo K g f a old old own earlier array 0 0
   bounds_start {array = array} p q = record {
     arrays = λ i. array;
     latest = refl;
@@ -95,6 +95,13 @@ module _ {K g : ℕ} {f : Fans} {a : ℕ} {old : List ℕ} where
     before = λ i l. refl;
     room = refl;
   }
+
+  pub bounds_first : {own earlier array : List ℕ} (bound : ℕ) → bound ≡ start_at f.count a → ((s : ℕ) → get_or own s big ≡ big) → ((s : ℕ) → get_or array s big ≡ big) →
+      LinesSo K g f a old old own earlier array (bound - start_at f.count a) (bound - a)
+  bounds_first bound e p q =
+      let y : bound - start_at f.count a ≡ 0 = omega (arith, e) in
+      let z : bound - a ≡ 0 = omega (arith, e) in
+      rw (y, z) (bounds_start p q)
 
   -- what is found at the next bound, alike masks have alike
   pub bounds_likened : FansGood K g f → {store own earlier array rows looked like : List ℕ} {i count : ℕ} (ℓ : ℕ) → LinesSo K g f a old store own earlier array i count →
@@ -178,13 +185,10 @@ module _ {K g : ℕ} {f : Fans} {a : ℕ} {old : List ℕ} where
 
 -- ---- the loop: the bound is the next one's, and `before` has the rows of `array`
 
-pub record Lining (K g : ℕ) (f : Fans) (a : ℕ) (old store rows own array before : List ℕ) (bound count : ℕ) : Type 0 where
-  pub from : start_at f.count a ≤ bound
-  pub ahead : count ≡ bound - a
-  pub few : count < 256
+pub record Lining (K g : ℕ) (f : Fans) (a : ℕ) (old store rows own array before : List ℕ) (bound : ℕ) : Type 0 where
   pub sizes : (length rows ≡ 80) × (length own ≡ masks) × (length array ≡ 8192) × (length before ≡ 8192)
   pub same : SameRows array before (2 ^ f.count * 8)
-  pub lines : (earlier : List ℕ) × LinesSo K g f a old store own earlier array (bound - start_at f.count a) count
+  pub lines : (earlier : List ℕ) × LinesSo K g f a old store own earlier array (bound - start_at f.count a) (bound - a)
 
 -- the rows change up to the greatest level at least
 pub change_above : {f : Fans} {a r : ℕ} → GreatestFan f a → ((h : ℕ) → h < f.count → get_or f.levels h 0 + (get_or f.lines h 0 - 1) ≤ r) → a ≤ r

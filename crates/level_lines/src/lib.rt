@@ -21,11 +21,7 @@ fn line_row(store: &[u8; STORE_ROOM], g: u16, j: u16) -> LevelRow
     let mut row = LevelRow {
         at: [NONE; ROW_ROOM],
     };
-    let mut w: usize = 0;
-    while w < 6 {
-        row.at[1 + w] = store[place + w];
-        w += 1;
-    }
+    row.at[1..7].copy_from_slice(&store[place..place + 6]);
     row
 }
 
@@ -47,9 +43,7 @@ pub fn look(f: Fans, h: usize, bound: u16, store: &[u8; STORE_ROOM]) -> LevelRow
         return row;
     }
     let over = bound - level;
-    let last = lines - 1;
-    let j = if over < last { over } else { last };
-    line_row(store, f.gates[h], j)
+    line_row(store, f.gates[h], over.min(lines - 1))
 }
 
 // The rows of all fanins at a bound.
@@ -57,11 +51,8 @@ pub fn look_rows(f: Fans, bound: u16, store: &[u8; STORE_ROOM], rows: &mut [u8; 
     requires { FansStored f × (length store.now ≡ store_room) × (length rows.old ≡ 80) }
     ensures { RowsLooked store.now f bound rows.old rows.new }
 {
-    let count = f.count as usize;
-    let mut h: usize = 0;
-    while h < count {
+    for h in 0..f.count as usize {
         put_row(rows, h * 8, look(f, h, bound, store));
-        h += 1;
     }
 }
 
@@ -71,11 +62,7 @@ fn keep_line(array: &[u8; ARRAY_ROOM], s: usize, g: usize, j: u16, store: &mut [
     ensures { RunWritten store.old store.new ((g * 256 + j) * 6) 6 (λ w. get_or array.now (s * 8 + (1 + w)) big) }
 {
     let place = (g * 256 + j as usize) * 6;
-    let mut w: usize = 0;
-    while w < 6 {
-        store[place + w] = array[s * 8 + (1 + w)];
-        w += 1;
-    }
+    store[place..place + 6].copy_from_slice(&array[s * 8 + 1..s * 8 + 7]);
 }
 
 // The bound from which on no fanin's row changes.
@@ -83,17 +70,9 @@ fn last_change(f: Fans) -> u16
     requires { (f.count ≤ 10) × (length f.levels ≡ 10) × (length f.lines ≡ 10) × ((h : ℕ) → h < f.count → (get_or f.levels h 0 ≤ 2000) × (get_or f.lines h 0 ≤ 256)) }
     ensures { ((h : ℕ) → h < f.count → get_or f.levels h 0 + (get_or f.lines h 0 - 1) ≤ result) × (result ≤ 2255) }
 {
-    let count = f.count as usize;
     let mut last: u16 = 0;
-    let mut h: usize = 0;
-    while h < count {
-        let lines = f.lines[h];
-        let over = if lines == 0 { 0 } else { lines - 1 };
-        let bound = f.levels[h] + over;
-        if bound > last {
-            last = bound;
-        }
-        h += 1;
+    for h in 0..f.count as usize {
+        last = last.max(f.levels[h] + f.lines[h].saturating_sub(1));
     }
     last
 }
@@ -103,15 +82,7 @@ fn same_rows(x: &[u8; ARRAY_ROOM], y: &[u8; ARRAY_ROOM], end: usize) -> bool
     requires { (end ≤ masks) × (length x.now ≡ 8192) × (length y.now ≡ 8192) }
     ensures { result ≡ true → SameRows x.now y.now (end * 8) }
 {
-    let places = end * 8;
-    let mut i: usize = 0;
-    while i < places {
-        if x[i] != y[i] {
-            return false;
-        }
-        i += 1;
-    }
-    true
+    x[..end * 8] == y[..end * 8]
 }
 
 // Copies the rows of the first masks.
@@ -119,12 +90,7 @@ fn copy_rows(array: &[u8; ARRAY_ROOM], end: usize, copy: &mut [u8; ARRAY_ROOM])
     requires { (end ≤ masks) × (length array.now ≡ 8192) × (length copy.old ≡ 8192) }
     ensures { RunWritten copy.old copy.new 0 (end * 8) (λ i. get_or array.now i big) }
 {
-    let places = end * 8;
-    let mut i: usize = 0;
-    while i < places {
-        copy[i] = array[i];
-        i += 1;
-    }
+    copy[..end * 8].copy_from_slice(&array[..end * 8]);
 }
 
 // Whether the search stands still at a bound: `one` is its entry for one input, x the array of the bound before and y its own.
@@ -139,13 +105,7 @@ fn stands_still(
     requires { (end ≤ masks) × (length x.now ≡ 8192) × (length y.now ≡ 8192) }
     ensures { result ≡ true → (one < big) × (change < bound) × SameRows x.now y.now (end * 8) }
 {
-    if one == NONE {
-        return false;
-    }
-    if bound <= change {
-        return false;
-    }
-    same_rows(x, y, end)
+    one != NONE && change < bound && same_rows(x, y, end)
 }
 
 // Finds the lines of gate g, whose fanins' nets have the greatest level a, and gives their number.
@@ -162,28 +122,19 @@ pub fn gate_lines(k: u8, f: Fans, a: u16, g: usize, store: &mut [u8; STORE_ROOM]
     like_masks(f, &mut like);
     let mut array = [NONE; ARRAY_ROOM];
     let mut before = [NONE; ARRAY_ROOM];
-    let mut bound = if a < steps { 0 } else { a - steps };
-    let mut count: u16 = 0;
-    loop {
+    for bound in a.saturating_sub(steps)..a + 256 {
         look_rows(f, bound, store, &mut rows);
         let end = fill_like(k, n, &rows, &own, &like, &mut array, 0);
         lift(k, end, &array, 0, &mut own);
         if bound >= a {
-            keep_line(&array, end - 1, g, count, store);
+            let line = bound - a;
+            keep_line(&array, end - 1, g, line, store);
             let one = array[(end - 1) * 8 + 1];
-            if one <= count as u8 {
-                return count + 1;
-            }
-            if stands_still(one, bound, change, &before, &array, end) {
-                return count + 1;
-            }
-            count += 1;
-            let full = count == 256;
-            if full {
-                return count;
+            if one <= line as u8 || stands_still(one, bound, change, &before, &array, end) {
+                return line + 1;
             }
         }
         copy_rows(&array, end, &mut before);
-        bound += 1;
     }
+    256
 }

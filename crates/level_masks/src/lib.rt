@@ -18,15 +18,9 @@ fn like_bit(f: Fans, h: usize, top: usize) -> usize
         return top;
     }
     let level = f.levels[h];
-    let mut bit = top;
-    let mut j = h;
-    while j > 0 {
-        j -= 1;
-        bit = bit / 2;
-        if f.lines[j] == 0 {
-            if f.levels[j] == level {
-                return bit;
-            }
+    for j in (0..h).rev() {
+        if f.lines[j] == 0 && f.levels[j] == level {
+            return 1 << j;
         }
     }
     top
@@ -52,11 +46,8 @@ fn put_masks(top: usize, bit: usize, like: &mut [u16; MASKS])
     requires { (bit ≤ top) × (top ≤ 512) × (length like.old ≡ masks) }
     ensures { LikesPut top bit like.old like.new top }
 {
-    let mut r: usize = 0;
-    while r < top {
-        let t = like_mask(top, bit, r, like[r]);
-        like[top + r] = t as u16;
-        r += 1;
+    for r in 0..top {
+        like[top + r] = like_mask(top, bit, r, like[r]) as u16;
     }
 }
 
@@ -66,12 +57,9 @@ pub fn like_masks(f: Fans, like: &mut [u16; MASKS]) -> usize
     ensures { LikeMasks (fan_labels f) like.new (2 ^ f.count) × (length like.new ≡ masks) × (result ≡ 2 ^ f.count) }
 {
     let count = f.count as usize;
-    let mut h: usize = 0;
-    let mut top: usize = 1;
-    while h < count {
+    for h in 0..count {
+        let top = 1 << h;
         put_masks(top, like_bit(f, h, top), like);
-        top += top;
-        h += 1;
     }
-    top
+    1 << count
 }

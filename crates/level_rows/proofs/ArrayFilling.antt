@@ -7,7 +7,7 @@ use mathlib.Core.Logic.{inl, inr, ⊎_elim, by_cases}
 use mathlib.Core.Path.{◌≡◌, refl, sym, ap, ◌∙◌, subst}
 use mathlib.Core.List.{List}
 use lib.ListN.{length, get_or}
-use lib.Pow.{pow_pos, pow-lt, pow_mono}
+use lib.Pow.{pow_pos, pow_mono}
 use Rattle.cover.specs.Trusted.Cover.{pick}
 use Rattle.plan.specs.Limits.{masks}
 use Rattle.plan.specs.MaskLaws.{within_le}
@@ -109,6 +109,7 @@ like_cell {K} {n} {like = like} {s = s} y f h r l p b e m t w k =
 pub record ArrayFilling (K n : ℕ) (rows : ℕ → ℕ → ℕ) (own : ℕ → ℕ) (a b : List ℕ) (at h top next s : ℕ) : Type 0 where
   pub fanins : h ≤ n
   pub bit : next ≡ 2 ^ h
+  pub places : 2 ^ n ≤ masks
   pub most : s ≤ next
   pub some : 1 ≤ s
   pub half : s < next → (g : ℕ) × (h ≡ g + 1) × (top ≡ 2 ^ g) × (top < s)
@@ -117,10 +118,11 @@ pub record ArrayFilling (K n : ℕ) (rows : ℕ → ℕ → ℕ) (own : ℕ → 
   pub filled : ArrayFilled K n rows own b at s
 
 module _ {K n : ℕ} {rows : ℕ → ℕ → ℕ} {own : ℕ → ℕ} {a : List ℕ} {at : ℕ} where
-  pub array_first : ArrayFilling K n rows own a a at 0 0 1 1
-  array_first = record {
+  pub array_first : Searchable K n → ArrayFilling K n rows own a a at 0 0 1 1
+  array_first good = record {
     fanins = omega arith;
     bit = refl;
+    places = pow_mono good.fanins.1;
     most = omega arith;
     some = omega arith;
     half = λ l. absurd (omega arith);
@@ -134,16 +136,10 @@ module _ {K n : ℕ} {rows : ℕ → ℕ → ℕ} {own : ℕ → ℕ} {a : List 
   }
 
   module _ (good : Searchable K n) {b : List ℕ} {h top next s : ℕ} (f : ArrayFilling K n rows own a b at h top next s) where
-    array_room_lem : 2 ^ n ≤ masks
-    array_room_lem = pow_mono good.fanins.1
-
     -- the bit of a fanin that has not come
-    pub array_place_one : s ≡ next → ((h ≡ n) → ⊥) → (h < n) × (s < 2 ^ n) × (s < masks)
+    pub array_place_one : s ≡ next → s < 2 ^ n → h < n
     array_place_one e d =
-        let l : h < n = by_cases (dec_lt h n) (λ l. l) (λ l. absurd (d (omega (arith, f.fanins)))) in
-        let p = pow-lt l in
-        let r = array_room_lem in
-        (l, omega (arith, f.bit), omega (arith, f.bit))
+        by_cases (dec_lt h n) (λ l. l) (λ l. let g : n ≤ h = omega arith in absurd (omega (arith, f.bit, pow_mono g)))
 
     pub array_one : {c : List ℕ} {row : ℕ → ℕ} → s ≡ next → h < n → RunWritten b c (at + s * 8) 8 row → ((w : ℕ) → w ≤ K → row w ≡ rows h w) →
         ArrayFilling K n rows own a c at (h + 1) s (s + s) (s + 1)
@@ -151,6 +147,7 @@ module _ {K n : ℕ} {rows : ℕ → ℕ → ℕ} {own : ℕ → ℕ} {a : List 
         let t : s ≡ 2 ^ h = omega (arith, f.bit) in record {
           fanins = omega arith;
           bit = rw add-one (omega arith);
+          places = f.places;
           most = omega (arith, f.some);
           some = omega arith;
           half = λ _. (h, refl, t, omega arith);
@@ -164,14 +161,11 @@ module _ {K n : ℕ} {rows : ℕ → ℕ → ℕ} {own : ℕ → ℕ} {a : List 
       within : s < next
       within = by_cases (dec_lt s next) (λ l. l) (λ l. absurd (d (omega (arith, f.most))))
 
-      pub array_place_more : (s < 2 ^ n) × (s < masks) × (top < s) × (top + (s - top) ≡ s)
+      pub array_place_more : (s < 2 ^ n) × (top < s)
       array_place_more =
           let l = within in
-          let g = f.half l in
-          let t = g.3 in
           let m : 2 ^ h ≤ 2 ^ n = pow_mono f.fanins in
-          let r = array_room_lem in
-          (omega (arith, f.bit), omega (arith, f.bit), t, omega arith)
+          (omega (arith, f.bit), (f.half l).3)
 
       pub array_more : {c : List ℕ} (row : List ℕ) → RunWritten b c (at + s * 8) 8 (λ w. get_or row w big) → RowOfMask K b at top (s - top) (own s) row →
           ArrayFilling K n rows own a c at h top next (s + 1)
@@ -183,6 +177,7 @@ module _ {K n : ℕ} {rows : ℕ → ℕ → ℕ} {own : ℕ → ℕ} {a : List 
           let e : s ≡ 2 ^ g.0 + (s - top) = omega (arith, g.2) in record {
             fanins = f.fanins;
             bit = f.bit;
+            places = f.places;
             most = omega arith;
             some = omega arith;
             half = λ _. (g.0, g.1, g.2, omega arith);

@@ -17,32 +17,23 @@ fn least_sum(w: usize, most: u8, arrays: &[u8], x: usize, y: usize) -> u8
     requires { (2 ≤ w) × (w ≤ 6) × (x + 8 ≤ length arrays.now) × (y + 8 ≤ length arrays.now) }
     ensures { LeastSum arrays.now x y w w most result }
 {
+    // NONE is the greatest byte: a sum past it is no less
     let mut least = most;
-    let mut i: usize = 1;
-    while i < w {
-        let sum = arrays[x + i] as u16 + arrays[y + (w - i)] as u16;
-        if sum < least as u16 {
-            least = sum as u8;
-        }
-        i += 1;
+    for i in 1..w {
+        least = least.min(arrays[x + i].saturating_add(arrays[y + (w - i)]));
     }
     least
 }
 
 // The row, lowered to the sums of the rows at two places.
-fn lowered(k: u8, row: LevelRow, arrays: &[u8], x: usize, y: usize) -> LevelRow
+fn lowered(k: u8, mut row: LevelRow, arrays: &[u8], x: usize, y: usize) -> LevelRow
     requires { (k ≤ 6) × (x + 8 ≤ length arrays.now) × (y + 8 ≤ length arrays.now) }
     ensures { (w : ℕ) → w ≤ k → LeastSum arrays.now x y w w (get_or row.at w big) (get_or result.at w big) }
 {
-    let most = k as usize;
-    let mut r = row;
-    let mut w: usize = 2;
-    while w <= most {
-        let least = least_sum(w, r.at[w], arrays, x, y);
-        r.at[w] = least;
-        w += 1;
+    for w in 2..k as usize + 1 {
+        row.at[w] = least_sum(w, row.at[w], arrays, x, y);
     }
-    r
+    row
 }
 
 // The row of the mask top + r, top being its highest bit: the least of own, that of a table of its own, and of the sums over the submasks of r.
@@ -68,27 +59,7 @@ pub fn put_row(arrays: &mut [u8], place: usize, row: LevelRow)
     requires { place + 8 ≤ length arrays.old }
     ensures { RunWritten arrays.old arrays.new place 8 (λ w. get_or row.at w big) }
 {
-    let mut w: usize = 0;
-    while w < 8 {
-        arrays[place + w] = row.at[w];
-        w += 1;
-    }
-}
-
-// The row of fanin h.
-fn fanin_row(rows: &[u8; FANIN_ROOM], h: usize) -> LevelRow
-    requires { (h < 10) × (length rows.now ≡ 80) }
-    ensures { (w : ℕ) → w < 8 → get_or result.at w big ≡ get_or rows.now (h * 8 + w) big }
-{
-    let mut row = LevelRow {
-        at: [NONE; ROW_ROOM],
-    };
-    let mut w: usize = 0;
-    while w < 8 {
-        row.at[w] = rows[h * 8 + w];
-        w += 1;
-    }
-    row
+    arrays[place..place + ROW_ROOM].copy_from_slice(&row.at);
 }
 
 // Fills the array that starts at a place, at every mask of n fanins, in rising order, from the fanins' rows and from the entries of a table of its own for
@@ -107,23 +78,19 @@ pub fn fill(
     let mut h: usize = 0;
     let mut top: usize = 0;
     let mut next: usize = 1;
-    let mut s: usize = 1;
-    loop {
+    let end = 1 << n;
+    for s in 1..end {
         if s == next {
-            if h == n {
-                return s;
-            }
-            put_row(arrays, at + s * 8, fanin_row(rows, h));
+            put_row(arrays, at + s * 8, row_at(rows, h * 8));
             h += 1;
             top = s;
             next = s + s;
-            s += 1;
         } else {
             let row = best_row(k, top, s - top, own[s], arrays, at);
             put_row(arrays, at + s * 8, row);
-            s += 1;
         }
     }
+    end
 }
 
 // The row at a place.
@@ -134,11 +101,7 @@ fn row_at(arrays: &[u8], place: usize) -> LevelRow
     let mut row = LevelRow {
         at: [NONE; ROW_ROOM],
     };
-    let mut w: usize = 0;
-    while w < 8 {
-        row.at[w] = arrays[place + w];
-        w += 1;
-    }
+    row.at.copy_from_slice(&arrays[place..place + ROW_ROOM]);
     row
 }
 
@@ -171,23 +134,19 @@ pub fn fill_like(
     let mut h: usize = 0;
     let mut top: usize = 0;
     let mut next: usize = 1;
-    let mut s: usize = 1;
-    loop {
+    let end = 1 << n;
+    for s in 1..end {
         if s == next {
-            if h == n {
-                return s;
-            }
             put_row(arrays, at + s * 8, row_at(rows, h * 8));
             h += 1;
             top = s;
             next = s + s;
-            s += 1;
         } else {
             let row = mask_row(k, top, s - top, like[s], own[s], arrays, at);
             put_row(arrays, at + s * 8, row);
-            s += 1;
         }
     }
+    end
 }
 
 // The entries of a table of its own for each mask below end, one bound higher than the array at a place.
@@ -195,10 +154,8 @@ pub fn lift(k: u8, end: usize, arrays: &[u8], at: usize, own: &mut [u8; MASKS])
     requires { (k ≤ 6) × (end ≤ masks) × (length own.old ≡ masks) × (at + 8192 ≤ length arrays.now) }
     ensures { (length own.new ≡ masks) × ((s : ℕ) → s < end → get_or own.new s big ≡ own_above k arrays.now at s) }
 {
-    let mut s: usize = 0;
-    while s < end {
-        let below = arrays[at + s * 8 + k as usize];
-        own[s] = if below < NONE { below + 1 } else { NONE };
-        s += 1;
+    // NONE is the greatest byte, and stays
+    for s in 0..end {
+        own[s] = arrays[at + s * 8 + k as usize].saturating_add(1);
     }
 }

@@ -1,4 +1,4 @@
-use Prim.Native.Nat.{ℕ, suc, ◌+◌, ◌-◌, ◌*◌, ◌^◌, ◌≤◌, ◌<◌}
+use Prim.Native.Nat.{ℕ, suc, ◌+◌, ◌-◌, ◌*◌, ◌^◌, ◌≤◌}
 use native.Mathlib.Omega.{arith}
 use mathlib.Core.Path.{◌≡◌, refl, ◌∙◌}
 use mathlib.Core.Logic.{◌⊎◌, inl, inr}
@@ -9,9 +9,9 @@ use Rattle.plan.specs.Limits.{masks}
 use Rattle.lists.specs.ListLaws.{get_d_any}
 use Rattle.level_arrays.specs.Arrays.{big, line_at, start_at, SearchStill, LinesKept}
 use Rattle.level_rows.specs.Runs.{RunWritten}
-use Rattle.level_lines.proofs.Lining.{all_big, LinesSo, bounds_start, bounds_likened, bounds_turn, bounds_keep, bounds_done, Lining, change_above}
+use Rattle.level_lines.proofs.Lining.{all_big, LinesSo, bounds_first, bounds_likened, bounds_turn, bounds_keep, bounds_done, Lining, change_above}
 use Rattle.level_lines.proofs.gate_lines.Goals as goal
-use Rattle.level_lines.proofs.gate_lines.Goals.{After-fill_like-end, After-keep_line, After-lift, then-a-steps, else-a-steps, then-bound-a+else-one-count+else-stands_still+else-full, else-bound-a}
+use Rattle.level_lines.proofs.gate_lines.Goals.{After-fill_like-end, After-keep_line, After-lift, then-one-line-via-then-one-line, then-one-line-via-else-one-line+then-stands_still, then-bound-a+else-one-line+else-stands_still, else-bound-a}
 
 -- the masks end within their room
 ended : (c : After-fill_like-end) → (1 ≤ c.fill_like-end.result) × (c.fill_like-end.result ≤ masks)
@@ -25,10 +25,10 @@ turned : (c : After-lift) →
     let l = c.loop-bound in
     let a = c.args in
     LinesSo a.k a.g a.f a.a a.store.now l.store c.lift.new.own l.array
-    c.fill_like-end.new.arrays (suc (l.bound - start_at a.f.count a.a)) l.count
+    c.fill_like-end.new.arrays (suc (l.bound - start_at a.f.count a.a)) (l.bound - a.a)
 turned c =
     let l = c.loop-bound in
-    bounds_turn c.requires.0 l.bound (omega (arith, l.invariant.from)) l.invariant.lines.1 c.look_rows.ensures c.fill_like-end.ensures.1
+    bounds_turn c.requires.0 l.bound (omega arith) l.invariant.lines.1 c.look_rows.ensures c.fill_like-end.ensures.1
     (λ m h. c.lift.ensures.1 m (omega (arith, c.fill_like-end.ensures.0)))
 
 -- and one line more
@@ -36,12 +36,11 @@ kept_line : (c : After-lift) {next : List ℕ} →
     let l = c.loop-bound in
     let a = c.args in
     a.a ≤ l.bound →
-    RunWritten l.store next ((a.g * 256 + l.count) * 6) 6 (λ w. get_or c.fill_like-end.new.arrays ((c.fill_like-end.result - 1) * 8 + (1 + w)) big) →
+    RunWritten l.store next ((a.g * 256 + (l.bound - a.a)) * 6) 6 (λ w. get_or c.fill_like-end.new.arrays ((c.fill_like-end.result - 1) * 8 + (1 + w)) big) →
     LinesSo a.k a.g a.f a.a a.store.now next c.lift.new.own l.array
-    c.fill_like-end.new.arrays (suc (l.bound - start_at a.f.count a.a)) (l.count + 1)
+    c.fill_like-end.new.arrays (suc (l.bound - start_at a.f.count a.a)) (l.bound - a.a + 1)
 kept_line c t q =
-    let l = c.loop-bound in
-    bounds_keep c.fill_like-end.result c.fill_like-end.ensures.0 c.requires.0.some.table.1 (turned c) (omega (arith, l.invariant.ahead)) q
+    bounds_keep c.fill_like-end.result c.fill_like-end.ensures.0 c.requires.0.some.table.1 (turned c) (omega arith) q
 
 -- the next turn, where the bound is one more
 again : (c : After-lift) (store copy : List ℕ) (count : ℕ) →
@@ -50,48 +49,37 @@ again : (c : After-lift) (store copy : List ℕ) (count : ℕ) →
     let own = c.lift.new.own in
     let array = c.fill_like-end.new.arrays in
     LinesSo a.k a.g a.f a.a a.store.now store own l.array array (suc (l.bound - start_at a.f.count a.a)) count →
-    count ≡ l.bound + 1 - a.a → count < 256 → RunWritten l.before copy 0 (c.fill_like-end.result * 8) (λ i. get_or array i big) →
-    Lining a.k a.g a.f a.a a.store.now store c.look_rows.new.rows own array copy (l.bound + 1) count
-again c store copy count p ahead few q =
+    count ≡ l.bound + 1 - a.a → RunWritten l.before copy 0 (c.fill_like-end.result * 8) (λ i. get_or array i big) →
+    Lining a.k a.g a.f a.a a.store.now store c.look_rows.new.rows own array copy (l.bound + 1)
+again c store copy count p ahead q =
     let l = c.loop-bound in
     let a = c.args in
     let i = l.invariant in
-    let z : l.bound + 1 - start_at a.f.count a.a ≡ suc (l.bound - start_at a.f.count a.a) = omega (arith, i.from) in
+    let z : l.bound + 1 - start_at a.f.count a.a ≡ suc (l.bound - start_at a.f.count a.a) = omega arith in
     record {
-      from = omega (arith, i.from);
-      ahead = ahead;
-      few = few;
       sizes = (c.look_rows.ensures.room ∙ i.sizes.0, c.lift.ensures.0, c.fill_like-end.ensures.2 ∙ i.sizes.2, q.room ∙ i.sizes.3);
       same = λ j b. let z : 0 + j ≡ j = omega arith in rw z at (q.is j (omega (arith, c.fill_like-end.ensures.0)));
-      lines = (l.array, rw z p);
+      lines = (l.array, rw (z, ← ahead) p);
     }
 
+-- the line is the last one
 done : (c : After-keep_line) →
     let a = c.args in
-    let n = c.loop-bound.count + 1 in
+    let n = c.loop-bound.bound - a.a + 1 in
     let store = c.keep_line.new.store in
     LinesSo a.k a.g a.f a.a a.store.now store c.lift.new.own c.loop-bound.array c.fill_like-end.new.arrays
     (suc (c.loop-bound.bound - start_at a.f.count a.a)) n →
     (line_at store a.g (n - 1) 1 ≤ n - 1)
     ⊎ ((n ≡ 256) ⊎ SearchStill a.k a.f a.a n c.loop-bound.array c.fill_like-end.new.arrays) →
     LinesKept a.k a.g a.f a.store.now store a.a n
-done c kept last =
-    let t = c.if-bound-a.true in
-    bounds_done c.requires.2 kept (omega (arith, c.loop-bound.invariant.ahead))
-    (omega arith, omega (arith, c.loop-bound.invariant.few)) last
+done c kept last = bounds_done c.requires.2 kept (omega (arith, c.if-bound-a.true)) (omega arith, omega arith) last
 
 pub loop-bound-init : goal.loop-bound-init
-loop-bound-init c =
-    let b : c.if-a-steps.bound ≡ start_at c.args.f.count c.args.a = elim c.if-a-steps.branch [ then-a-steps w ↦ omega arith | else-a-steps w ↦ omega arith ] in
-    let z : c.if-a-steps.bound - start_at c.args.f.count c.args.a ≡ 0 = omega arith in
-    record {
-      from = omega arith;
-      ahead = omega arith;
-      few = omega arith;
-      sizes = (refl, refl, refl, refl);
-      same = λ i l. refl;
-      lines = ([], rw z (bounds_start (all_big 1024) (all_big 8192)));
-    }
+loop-bound-init c = record {
+  sizes = (refl, refl, refl, refl);
+  same = λ i l. refl;
+  lines = ([], bounds_first _ (omega arith) (all_big 1024) (all_big 8192));
+}
 
 pub fill_like-end-requires : goal.fill_like-end-requires
 fill_like-end-requires c =
@@ -110,52 +98,46 @@ pub keep_line-requires : goal.keep_line-requires
 keep_line-requires c =
     let i = c.loop-bound.invariant in
     let p = c.requires in
-    (omega (arith, ended (goal.at.keep_line-requires c).After-fill_like-end), p.1, i.few, c.fill_like-end.ensures.2 ∙ i.sizes.2, i.lines.1.room ∙ p.3)
+    (omega (arith, ended (goal.at.keep_line-requires c).After-fill_like-end), p.1, omega arith, c.fill_like-end.ensures.2 ∙ i.sizes.2, i.lines.1.room ∙ p.3)
 
 pub bounds-array-end : goal.bounds-array-end
 bounds-array-end c = omega (arith, ended (goal.at.bounds-array-end c).After-fill_like-end)
 
-pub returns-then-one-count : goal.returns-then-one-count
-returns-then-one-count c =
+pub returns-then-one-line : goal.returns-then-one-line
+returns-then-one-line c =
     let l = c.loop-bound in
-    let z : l.count + 1 - 1 ≡ l.count = omega arith in
+    let at = goal.at.returns-then-one-line c in
     let array = c.fill_like-end.new.arrays in
-    let r = get_d_any array ((c.fill_like-end.result - 1) * 8 + 1) 0 big (omega (arith, ended (goal.at.returns-then-one-count c).After-fill_like-end, c.fill_like-end.ensures.2, l.invariant.sizes.2)) in
-    done (goal.at.returns-then-one-count c).After-keep_line (kept_line (goal.at.returns-then-one-count c).After-lift c.if-bound-a.true c.keep_line.ensures) (inl (rw z (omega (arith, c.keep_line.ensures.is 0 (omega arith), r, c.if-one-count.true))))
+    let r = get_d_any array ((c.fill_like-end.result - 1) * 8 + 1) 0 big (omega (arith, ended at.After-fill_like-end, c.fill_like-end.ensures.2, l.invariant.sizes.2)) in
+    done at.After-keep_line (kept_line at.After-lift c.if-bound-a.true c.keep_line.ensures)
+    (elim c.then-one-line.branch [
+      | then-one-line-via-then-one-line w ↦
+          let z : l.bound - c.args.a + 1 - 1 ≡ l.bound - c.args.a = omega arith in
+          inl (rw z (omega (arith, c.keep_line.ensures.is 0 (omega arith), r, w.if-one-line.true)))
+      | then-one-line-via-else-one-line+then-stands_still w ↦
+          let (one, higher, same) = w.stands_still.ensures w.if-stands_still.true in
+          let z : 0 + (2 ^ c.args.f.count - 1) * 8 + 1 ≡ (c.fill_like-end.result - 1) * 8 + 1 = omega (arith, c.fill_like-end.ensures.0) in
+          inr
+          (inr record {
+            two = omega (arith, higher, change_above c.requires.2 c.last_change-change.ensures.0);
+            one = rw z (omega (arith, one, r));
+            fans = λ h b. omega (arith, higher, c.last_change-change.ensures.0 h b);
+            same = λ m w b k.
+                same (0 + m * 8 + w) (omega (arith, c.fill_like-end.ensures.0, c.requires.0.some.table.1))
+                ∙ c.loop-bound.invariant.same (0 + m * 8 + w) (omega (arith, c.requires.0.some.table.1));
+          })
+    ])
 
 pub copy_rows-requires : goal.copy_rows-requires
 copy_rows-requires c =
     let z = c.loop-bound.invariant.sizes in
     ((ended (goal.at.copy_rows-requires c).After-fill_like-end).1, c.fill_like-end.ensures.2 ∙ z.2, z.3)
 
-pub returns-then-stands_still : goal.returns-then-stands_still
-returns-then-stands_still c =
-    let (one, higher, same) = c.stands_still.ensures c.if-stands_still.true in
-    let array = c.fill_like-end.new.arrays in
-    let r = get_d_any array ((c.fill_like-end.result - 1) * 8 + 1) 0 big (omega (arith, ended (goal.at.returns-then-stands_still c).After-fill_like-end, c.fill_like-end.ensures.2, c.loop-bound.invariant.sizes.2)) in
-    let z : 0 + (2 ^ c.args.f.count - 1) * 8 + 1 ≡ (c.fill_like-end.result - 1) * 8 + 1 = omega (arith, c.fill_like-end.ensures.0) in
-    done (goal.at.returns-then-stands_still c).After-keep_line (kept_line (goal.at.returns-then-stands_still c).After-lift c.if-bound-a.true c.keep_line.ensures)
-    (inr
-    (inr record {
-      two = omega (arith, c.loop-bound.invariant.ahead, higher, change_above c.requires.2 c.last_change-change.ensures.0);
-      one = rw z (omega (arith, one, r));
-      fans = λ h b. omega (arith, c.loop-bound.invariant.ahead, higher, c.last_change-change.ensures.0 h b);
-      same = λ m w b k.
-          same (0 + m * 8 + w) (omega (arith, c.fill_like-end.ensures.0, c.requires.0.some.table.1))
-          ∙ c.loop-bound.invariant.same (0 + m * 8 + w) (omega (arith, c.requires.0.some.table.1));
-    }))
-
-pub returns-then-full : goal.returns-then-full
-returns-then-full c = done (goal.at.returns-then-full c).After-keep_line (kept_line (goal.at.returns-then-full c).After-lift c.if-bound-a.true c.keep_line.ensures) (inr (inl c.if-full.true))
-
 pub loop-bound-preserved : goal.loop-bound-preserved
 loop-bound-preserved c =
-    let i = c.loop-bound.invariant in
     let here = (goal.at.loop-bound-preserved c).After-lift in
     elim c.if-bound-a.branch [
-      | then-bound-a+else-one-count+else-stands_still+else-full w ↦
-          rw (w.store-is, w.count-is)
-          (again here _ _ _ (kept_line here w.if-bound-a.true w.keep_line.ensures) (omega arith) (omega (arith, i.few, w.if-full.false)) c.copy_rows.ensures)
-      | else-bound-a w ↦
-          rw (w.store-is, w.count-is) (again here _ _ _ (turned here) (omega arith) i.few c.copy_rows.ensures)
+      | then-bound-a+else-one-line+else-stands_still w ↦
+          rw w.store-is (again here _ _ _ (kept_line here w.if-bound-a.true w.keep_line.ensures) (omega arith) c.copy_rows.ensures)
+      | else-bound-a w ↦ rw w.store-is (again here _ _ _ (turned here) (omega arith) c.copy_rows.ensures)
     ]

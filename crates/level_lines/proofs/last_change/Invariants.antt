@@ -5,7 +5,4 @@ use Rattle.level_lines.proofs.last_change.Given as goal
 
 abbrev pub invariant-loop-h : goal.invariant-loop-h
 invariant-loop-h l =
-    (l.h ≤ l.f.count) × ((h : ℕ) → h < l.h → get_or l.f.levels h 0 + (get_or l.f.lines h 0 - 1) ≤ l.last) × (l.last ≤ 2255)
-
-abbrev pub decreases-loop-h : goal.decreases-loop-h
-decreases-loop-h l = l.count - l.h
+    ((h : ℕ) → h < l.h → get_or l.f.levels h 0 + (get_or l.f.lines h 0 - 1) ≤ l.last) × (l.last ≤ 2255)

@@ -1,12 +1,10 @@
-use Prim.Native.Nat.{◌-◌, min}
 use native.Mathlib.Omega.{arith}
-use mathlib.Core.Path.{◌≡◌, sym, ◌∙◌}
-use lib.ListN.{get_or, get_or-replicate}
+use mathlib.Core.Path.{sym, ◌∙◌}
+use lib.ListN.{get_or-replicate}
 use Rattle.level_rows.specs.Rows.{even_row}
 use Rattle.level_lines.proofs.Looking.{fan_below, look_net, fan_line_lem}
 use Rattle.level_arrays.specs.Arrays.{big}
 use Rattle.level_lines.proofs.look.Goals as goal
-use Rattle.level_lines.proofs.look.Goals.{then-over-last, else-over-last}
 
 pub returns-then-bound-level : goal.returns-then-bound-level
 returns-then-bound-level c w l =
@@ -21,7 +19,4 @@ returns-then-lines-eq0 c w l =
 pub returns : goal.returns
 returns c w l =
     let a = c.args in
-    let j = c.if-over-last.j in
-    let e : j ≡ min (a.bound - get_or a.f.levels a.h 0) (get_or a.f.lines a.h 0 - 1) =
-    elim c.if-over-last.branch [ then-over-last w ↦ omega arith | else-over-last w ↦ omega arith ] in
-    c.line_row.ensures w l ∙ sym (fan_line_lem a.store.now a.f a.bound a.h w j (omega arith) (omega arith) e)
+    c.line_row.ensures w l ∙ sym (fan_line_lem a.store.now a.f a.bound a.h w _ (omega arith) (omega arith) c.min.ensures)

@@ -1,5 +1,5 @@
--- The invariant: the first h fanins have their rows. The measure is what is left of the fanins.
-use Prim.Native.Nat.{ℕ, ◌+◌, ◌-◌, ◌*◌, ◌≤◌, ◌<◌}
+-- The invariant: the first h fanins have their rows.
+use Prim.Native.Nat.{ℕ, ◌+◌, ◌*◌, ◌≤◌, ◌<◌}
 use mathlib.Core.Path.{◌≡◌}
 use lib.ListN.{length, get_or}
 use Rattle.level_arrays.specs.Arrays.{big, fan_row}
@@ -7,6 +7,3 @@ use Rattle.level_lines.proofs.look_rows.Given as goal
 
 abbrev pub invariant-loop-h : goal.invariant-loop-h
 invariant-loop-h l = (length l.rows ≡ length l.initial.rows) × ((g w : ℕ) → g < l.h → w ≤ 6 → get_or l.rows (g * 8 + w) big ≡ fan_row l.store l.f l.bound g w)
-
-abbrev pub decreases-loop-h : goal.decreases-loop-h
-decreases-loop-h l = l.count - l.h

@@ -1,4 +1,4 @@
-use Prim.Native.Nat.{◌-◌, ◌^◌, ◌≤◌}
+use Prim.Native.Nat.{◌^◌}
 use mathlib.Core.Path.{◌≡◌}
 use lib.ListN.{length}
 use Rattle.plan.specs.Limits.{masks}
@@ -6,7 +6,4 @@ use Rattle.level_arrays.specs.Alike.{fan_labels, LikeMasks}
 use Rattle.level_masks.proofs.like_masks.Given as goal
 
 abbrev pub invariant-loop-h : goal.invariant-loop-h
-invariant-loop-h l = (l.h ≤ l.f.count) × (l.top ≡ 2 ^ l.h) × LikeMasks (fan_labels l.f) l.like (2 ^ l.h) × (length l.like ≡ masks)
-
-abbrev pub decreases-loop-h : goal.decreases-loop-h
-decreases-loop-h l = l.count - l.h
+invariant-loop-h l = LikeMasks (fan_labels l.f) l.like (2 ^ l.h) × (length l.like ≡ masks)

@@ -1,4 +1,4 @@
-use Prim.Native.Nat.{◌+◌, ◌-◌, ◌*◌, ◌^◌}
+use Prim.Native.Nat.{◌+◌, ◌*◌}
 use lib.ListN.{get_or}
 use Rattle.level_arrays.specs.Arrays.{big}
 use Rattle.level_rows.proofs.ArrayFilling.{ArrayFilling}
@@ -6,6 +6,3 @@ use Rattle.level_rows.proofs.fill.Given as goal
 
 abbrev pub invariant-loop-s : goal.invariant-loop-s
 invariant-loop-s l = ArrayFilling l.k l.n (λ f w. get_or l.rows (f * 8 + w) big) (λ m. get_or l.own m big) l.initial.arrays l.arrays l.at l.h l.top l.next l.s
-
-abbrev pub decreases-loop-s : goal.decreases-loop-s
-decreases-loop-s l = 2 ^ l.n - l.s

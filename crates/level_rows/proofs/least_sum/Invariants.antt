@@ -1,9 +1,5 @@
-use Prim.Native.Nat.{◌-◌, ◌≤◌}
 use Rattle.level_rows.specs.Sums.{LeastSum}
 use Rattle.level_rows.proofs.least_sum.Given as goal
 
 abbrev pub invariant-loop-i : goal.invariant-loop-i
-invariant-loop-i l = (1 ≤ l.i) × (l.i ≤ l.w) × LeastSum l.arrays l.x l.y l.w l.i l.most l.least
-
-abbrev pub decreases-loop-i : goal.decreases-loop-i
-decreases-loop-i l = l.w - l.i
+invariant-loop-i l = LeastSum l.arrays l.x l.y l.w l.i l.most l.least

@@ -1,10 +1,6 @@
-use Prim.Native.Nat.{◌-◌, ◌≤◌}
 use Rattle.level_arrays.specs.Arrays.{own_above}
 use Rattle.level_rows.specs.Runs.{RunWritten}
 use Rattle.level_rows.proofs.lift.Given as goal
 
 abbrev pub invariant-loop-s : goal.invariant-loop-s
-invariant-loop-s l = (l.s ≤ l.end) × RunWritten l.initial.own l.own 0 l.s (own_above l.k l.arrays l.at)
-
-abbrev pub decreases-loop-s : goal.decreases-loop-s
-decreases-loop-s l = l.end - l.s
+invariant-loop-s l = RunWritten l.initial.own l.own 0 l.s (own_above l.k l.arrays l.at)
