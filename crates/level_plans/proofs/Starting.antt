@@ -4,8 +4,9 @@ use native.Mathlib.Omega.{arith}
 use native.Mathlib.Decide.{dec_lt}
 use mathlib.Core.Path.{◌≡◌, ap, ◌∙◌}
 use mathlib.Core.Logic.{by_cases}
-use mathlib.Core.List.{List}
-use lib.ListN.{length, get_or}
+use mathlib.Core.List.{List, ◌++◌}
+use lib.ListN.{length, get_or, take, drop, replicate, length-append, length-replicate, get_or-replicate}
+use Rattle.std.proofs.lemmas.List.{get_or_append_left, get_or-append_right, get_or-drop, length-drop, length-take-le}
 use lib.Pow.{pow_mono, pow-lt}
 use Rattle.plan.specs.Limits.{masks}
 use Rattle.level_arrays.specs.declared.Fans.{Fans}
@@ -33,6 +34,19 @@ module _ {store : List ℕ} {f : Fans} {bound : ℕ} {a : List ℕ} where
   }
 
 -- ---- an array that is cleared
+
+pub cleared : {a b rest : List ℕ} → length a ≡ arrays_room → b ≡ replicate (length (take array_room a)) big → rest ≡ drop array_room a →
+    RunWritten a (b ++ rest) 0 array_room (λ i. big)
+cleared {a} {b} {rest} l e d =
+    let n : length (take array_room a) ≡ array_room = length-take-le array_room a (omega arith) in
+    let m : length b ≡ array_room = ap length e ∙ length-replicate _ big ∙ n in record {
+      is = λ w k. let z : 0 + w ≡ w = omega arith in rw z (get_or_append_left b rest big w (omega arith) ∙ ap (λ x. get_or x w big) e ∙ get_or-replicate _ w big big (omega arith));
+      before = λ i k. absurd (omega arith);
+      after = λ i k.
+          let j : array_room + (i - array_room) ≡ i = omega arith in
+          get_or-append_right b rest array_room i big m k ∙ rw d (get_or-drop array_room a (i - array_room) big ∙ ap (λ x. get_or a x big) j);
+      room = length-append b rest ∙ rw (m, d, length-drop) (omega arith);
+    }
 
 module _ {a b : List ℕ} (q : RunWritten a b 0 array_room (λ i. big)) (room : length a ≡ arrays_room) where
   clear_entry : (s w : ℕ) → s < masks → w ≤ 6 → entry_at b 0 s w ≡ big

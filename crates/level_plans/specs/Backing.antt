@@ -1,5 +1,5 @@
 -- Reading a plan back from the arrays of a search: what each function takes and gives. Internal definitions.
-use Rattle.std.specs.Prelude.{ℕ, suc, ◌+◌, ◌-◌, ◌*◌, ◌^◌, ◌≤◌, ◌<◌, ◌≡◌, ◌≢◌, Bool, true, false, List, length, get_or, set}
+use Rattle.std.specs.Prelude.{ℕ, suc, ◌+◌, ◌-◌, ◌*◌, ◌^◌, ◌≤◌, ◌<◌, ◌≡◌, ◌≢◌, Bool, true, false, Option, Some, None, List, length, get_or, set}
 use Rattle.plan.specs.declared.Token.{Token}
 use Rattle.plan.specs.declared.Token.TheVariants.{Push as push}
 use Rattle.plan.specs.Limits.{masks}
@@ -31,10 +31,10 @@ pub record RowPair (a : List ℕ) (w x y : ℕ) : Type 0 where
 abbrev pub row_sum : List ℕ → (w x y i : ℕ) → ℕ
 row_sum a w x y i = get_or a (x + i) big + get_or a (y + (w - i)) big
 
--- that sum is e; or i is 0, and no such sum is e
-pub record InputsOf (a : List ℕ) (w e x y i : ℕ) : Type 0 where
-  pub found : 0 < i → (i < w) × (row_sum a w x y i ≡ e)
-  pub none : i ≡ 0 → (j : ℕ) → 0 < j → j < w → row_sum a w x y j ≢ e
+-- that sum is e; or no such sum is e
+abbrev pub InputsOf : List ℕ → (w e x y : ℕ) → Option ℕ → Type 0
+InputsOf a w e x y (Some i) = (0 < i) × (i < w) × (row_sum a w x y i ≡ e)
+InputsOf a w e x y None = (j : ℕ) → 0 < j → j < w → row_sum a w x y j ≢ e
 
 -- the entry for w inputs at the mask top + r is the sum of those for i inputs at the mask without a submask u of r, and for the other inputs at u
 pub record SumOf (a : List ℕ) (at top r w u i : ℕ) : Type 0 where

@@ -24,18 +24,7 @@ fn top_bit(s: usize) -> usize
     requires { (0 < s) × (s < masks) }
     ensures { HighestBit s result }
 {
-    let mut b: usize = 1;
-    while b <= s - b {
-        b += b;
-    }
-    b
-}
-
-// A byte as a wider number.
-fn widened(x: u8) -> u16
-    ensures { (result ≡ x) × (result ≤ big) }
-{
-    x as u16
+    1 << (63 - s.leading_zeros())
 }
 
 // The entry at a place of the arrays.
@@ -43,22 +32,20 @@ fn entry_at(arrays: &[u8; ARRAYS_ROOM], place: usize) -> u16
     requires { (length arrays.now ≡ arrays_room) × (place < arrays_room) }
     ensures { (result ≡ get_or arrays.now place big) × (result ≤ big) }
 {
-    widened(arrays[place])
+    arrays[place] as u16
 }
 
-// The inputs of the first of two rows, with those of the second w in all, by which their entries have the sum e; or 0.
-fn split_inputs(w: usize, e: u16, arrays: &[u8; ARRAYS_ROOM], x: usize, y: usize) -> usize
+// The inputs of the first of two rows, with those of the second w in all, by which their entries have the sum e, if there are such.
+fn split_inputs(w: usize, e: u16, arrays: &[u8; ARRAYS_ROOM], x: usize, y: usize) -> Option<usize>
     requires { RowPair arrays.now w x y }
     ensures { InputsOf arrays.now w e x y result }
 {
-    let mut i: usize = 1;
-    while i < w {
+    for i in 1..w {
         if entry_at(arrays, x + i) + entry_at(arrays, y + (w - i)) == e {
-            return i;
+            return Some(i);
         }
-        i += 1;
     }
-    0
+    None
 }
 
 // How a mask's entry is made: the submask that is one operand, and the inputs that the other one, the rest, gives at most.
@@ -77,13 +64,12 @@ fn halves_of(top: usize, r: usize, w: usize, arrays: &[u8; ARRAYS_ROOM], at: usi
     let e = entry_at(arrays, at + s * 8 + w);
     let mut u = r;
     while u > 0 {
-        let i = split_inputs(w, e, arrays, at + (s - u) * 8, at + u * 8);
-        if i > 0 {
+        if let Some(i) = split_inputs(w, e, arrays, at + (s - u) * 8, at + u * 8) {
             return Halves { sub: u, inputs: i };
         }
         u = (u - 1) & r;
     }
-    Halves { sub: 0, inputs: 0 }
+    unreachable!()
 }
 
 // From where an operand is read back: the number of an array and of inputs, and whether it is placed.
@@ -99,8 +85,8 @@ fn seek_back(k: u8, s: usize, slot: usize, w: usize, arrays: &[u8; ARRAYS_ROOM])
     requires { Seekable k arrays.now slot s w }
     ensures { Sought k arrays.now slot s w result.slot result.inputs result.placed }
 {
-    let e = entry_at(arrays, slot * 8192 + s * 8 + w);
     let most = k as usize;
+    let e = entry_at(arrays, slot * 8192 + s * 8 + w);
     let before = entry_at(arrays, (slot - 1) * 8192 + s * 8 + most);
     if e == before + 1 {
         Seek {
@@ -178,11 +164,7 @@ fn start_bound(count: u8, bound: u16) -> u16
     requires { 1 ≤ count }
     ensures { result ≡ start_at count bound }
 {
-    let steps = count as u16 - 1;
-    if bound < steps {
-        return 0;
-    }
-    bound - steps
+    bound.saturating_sub(count as u16 - 1)
 }
 
 // Clears the first array.
@@ -190,11 +172,7 @@ fn clear_first(arrays: &mut [u8; ARRAYS_ROOM])
     requires { length arrays.old ≡ arrays_room }
     ensures { RunWritten arrays.old arrays.new 0 array_room (λ i. big) }
 {
-    let mut i: usize = 0;
-    while i < ARRAY_ROOM {
-        arrays[i] = NONE;
-        i += 1;
-    }
+    arrays[..ARRAY_ROOM].fill(NONE);
 }
 
 // Puts the rows of the fanins at a bound into the first array.
@@ -202,13 +180,8 @@ fn put_singles(f: Fans, bound: u16, store: &[u8; STORE_ROOM], arrays: &mut [u8; 
     requires { FansStored f × (length store.now ≡ store_room) × (length arrays.old ≡ arrays_room) }
     ensures { SinglesPut store.now f bound arrays.old arrays.new f.count }
 {
-    let count = f.count as usize;
-    let mut b: usize = 1;
-    let mut h: usize = 0;
-    while h < count {
-        put_row(arrays, b * 8, look(f, h, bound, store));
-        b += b;
-        h += 1;
+    for h in 0..f.count as usize {
+        put_row(arrays, (1 << h) * 8, look(f, h, bound, store));
     }
 }
 
@@ -240,12 +213,10 @@ fn fill_arrays(
     let mut own = [NONE; MASKS];
     let mut like: [u16; MASKS] = [0; MASKS];
     let end = like_masks(f, &mut like);
-    let mut i: usize = 0;
-    while i < top {
+    for i in 0..top {
         lift(k, end, arrays, i * 8192, &mut own);
         look_rows(f, from + i as u16, store, &mut rows);
         fill_like(k, n, &rows, &own, &like, arrays, (i + 1) * 8192);
-        i += 1;
     }
     end
 }

@@ -19,7 +19,7 @@ pub lift-requires : goal.lift-requires
 lift-requires c =
     let p = c.requires in
     let v = c.loop-i.invariant in
-    (p.some.table.1, ended (goal.at.lift-requires c).At-loop-i, v.3, omega (arith, v.0.room, p.few.1))
+    (p.some.table.1, ended (goal.at.lift-requires c).At-loop-i, v.2, omega (arith, v.0.room, p.few.1))
 
 pub fill_like-requires : goal.fill_like-requires
 fill_like-requires c =
@@ -28,7 +28,7 @@ fill_like-requires c =
     let looked = c.look_rows.ensures in
     let m = c.like_masks-end.ensures in (
       p.some,
-      looked.room ∙ c.loop-i.invariant.2,
+      looked.room ∙ c.loop-i.invariant.1,
       c.lift.ensures.0,
       omega (arith, c.loop-i.invariant.0.room, p.few.1, c.loop-i-test.true),
       m.1,
@@ -47,7 +47,6 @@ loop-i-preserved c =
             (λ h w j n. c.look_rows.ensures.is h w j (omega (arith, p.some.table.1))) (λ s j. c.lift.ensures.1 s (omega (arith, c.like_masks-end.ensures.2)));
         room = e.2 ∙ v.0.room;
       }),
-      omega arith,
-      c.look_rows.ensures.room ∙ v.2,
+      c.look_rows.ensures.room ∙ v.1,
       c.lift.ensures.0,
     )

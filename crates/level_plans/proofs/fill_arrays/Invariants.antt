@@ -1,5 +1,4 @@
--- The invariant: i arrays are filled. The measure is how many are left.
-use Prim.Native.Nat.{◌-◌, ◌≤◌}
+-- The invariant: i arrays are filled.
 use mathlib.Core.Path.{◌≡◌}
 use lib.ListN.{length}
 use Rattle.plan.specs.Limits.{masks}
@@ -8,7 +7,4 @@ use Rattle.level_plans.proofs.fill_arrays.Given as goal
 
 abbrev pub invariant-loop-i : goal.invariant-loop-i
 invariant-loop-i l =
-    RangeFilled l.k l.from l.i l.f l.store l.arrays × (l.i ≤ l.top) × (length l.rows ≡ 80) × (length l.own ≡ masks)
-
-abbrev pub decreases-loop-i : goal.decreases-loop-i
-decreases-loop-i l = l.top - l.i
+    RangeFilled l.k l.from l.i l.f l.store l.arrays × (length l.rows ≡ 80) × (length l.own ≡ masks)
