@@ -1,45 +1,20 @@
 -- Alike masks, put from one bit to the next. Assumes nothing.
-use Prim.Native.Nat.{ℕ, zero, suc, ◌+◌, ◌-◌, ◌/◌, ◌^◌, ◌≤◌, ◌<◌}
+use Prim.Native.Nat.{ℕ, ◌+◌, ◌-◌, ◌^◌, ◌≤◌, ◌<◌}
 use native.Mathlib.Omega.{arith}
 use native.Mathlib.Decide.{dec_lt}
 use native.Mathlib.Numerals.{add-one}
-use mathlib.Core.Path.{◌≡◌, refl, sym, ◌∙◌}
+use mathlib.Core.Path.{◌≡◌, sym, ◌∙◌}
 use mathlib.Core.Logic.{⊎_elim, by_cases}
 use mathlib.Core.List.{List}
 use lib.Bits.{bit_and}
-use lib.ListN.{length, get_or, set, length-set}
-use lib.Seq.{get_or-set_same, get_or-set_other}
+use lib.ListN.{length, get_or}
 use Rattle.lists.specs.Trusted.Lists.{here, more}
 use Rattle.lists.specs.ListLaws.{permuted_refl, permuted_sym, permuted_trans}
 use Rattle.plan.specs.MaskLaws.{select_bit}
 use Rattle.level_arrays.specs.declared.Fans.{Fans}
-use Rattle.level_arrays.specs.Alike.{Label, no_label, fan_label, fan_labels, MasksAlike, LikeMasks}
+use Rattle.level_arrays.specs.Alike.{Label, no_label, fan_labels, MasksAlike, LikeMasks}
 use Rattle.level_arrays.specs.AlikeLaws.{top_labels, labels_count, label_at}
-use Rattle.level_masks.specs.Like.{LikeBit, LikeMask, LikesPut}
-
-pub half_bit : (bit j : ℕ) → bit ≡ 2 ^ j → 0 < j → bit / 2 ≡ 2 ^ (j - 1)
-half_bit bit zero e l = absurd (omega arith)
-half_bit bit (suc j) e l = let d : suc j - 1 ≡ j = omega arith in rw d (omega arith)
-
--- two nets of one level
-pub nets_alike : (f : Fans) (j h : ℕ) → get_or f.lines j 0 ≡ 0 → get_or f.lines h 0 ≡ 0 → get_or f.levels j 0 ≡ get_or f.levels h 0 → fan_label f j ≡ fan_label f h
-nets_alike f j h a b c = rw (a, b, c) refl
-
--- ---- the masks from one bit on
-
-pub likes_none : {top bit : ℕ} {a : List ℕ} → LikesPut top bit a a 0
-likes_none = record { is = λ r l. absurd (omega arith); before = λ s l. refl; room = refl }
-
-pub likes_more : {top bit n t : ℕ} {a b : List ℕ} → LikesPut top bit a b n → n < top → top + n < length a → LikeMask top bit n (get_or b n 0) t →
-    LikesPut top bit a (set b (top + n) t) (n + 1)
-likes_more {top} {n = n} {t = t} {b = b} p l room q = record {
-  is = λ r k.
-      by_cases (dec_lt r n) (λ d. rw (get_or-set_other b (top + n) (top + r) t 0 (λ e. omega arith)) (p.is r d)) λ d.
-      let e : r ≡ n = omega arith in
-      rw (e, get_or-set_same b (top + n) t 0 (omega (arith, p.room)), sym (p.before n l)) q;
-  before = λ s k. get_or-set_other b (top + n) s t 0 (λ e. omega arith) ∙ p.before s k;
-  room = length-set b (top + n) t ∙ p.room;
-}
+use Rattle.level_masks.specs.Like.{LikeBit, LikesPut}
 
 -- ---- from one bit to the next
 

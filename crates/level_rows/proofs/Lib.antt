@@ -1,2 +1,3 @@
 pub mod Lowering
 pub mod ArrayFilling
+pub mod Itself

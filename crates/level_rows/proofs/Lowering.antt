@@ -7,8 +7,7 @@ use mathlib.Core.Path.{◌≡◌, refl, ◌∙◌}
 use mathlib.Core.Logic.{◌⊎◌, inl, inr, ⊎_elim, by_cases}
 use mathlib.Core.List.{List}
 use lib.Bits.{bit_and}
-use lib.ListN.{length, get_or, set, length-set}
-use lib.Seq.{get_or-set_same, get_or-set_other}
+use lib.ListN.{length, get_or}
 use Rattle.cover.specs.Trusted.Cover.{pick}
 use Rattle.plan.specs.Masks.{MaskWithin}
 use Rattle.plan.specs.MaskLaws.{within_le, next_greatest}
@@ -45,27 +44,6 @@ pub record Lowered (a : List ℕ) (x y : ℕ) (row low : List ℕ) (w : ℕ) : T
   pub room : length low ≡ 8
   pub done : (v : ℕ) → v < w → LeastSum a x y v v (get_or row v big) (get_or low v big)
   pub left : (v : ℕ) → w ≤ v → get_or low v big ≡ get_or row v big
-
-module _ {a : List ℕ} {x y : ℕ} {row : List ℕ} where
-  pub lowered_none : length row ≡ 8 → Lowered a x y row row 2
-  lowered_none l = record {
-    some = omega arith;
-    room = l;
-    done = λ v h. least_none v (get_or row v big) (omega arith);
-    left = λ v h. refl;
-  }
-
-  pub lowered_more : {low : List ℕ} {w e : ℕ} → Lowered a x y row low w → w < 8 → LeastSum a x y w w (get_or low w big) e →
-      Lowered a x y row (set low w e) (w + 1)
-  lowered_more {low} {w} {e} p l s = record {
-    some = omega (arith, p.some);
-    room = length-set low w e ∙ p.room;
-    done = λ v h.
-        by_cases (dec_lt v w) (λ g. rw (get_or-set_other low w v e big (λ q. omega arith)) (p.done v g)) λ g.
-        let q : v ≡ w = omega arith in
-        rw (q, get_or-set_same low w e big (omega (arith, p.room)), ← p.left w (omega arith)) s;
-    left = λ v h. get_or-set_other low w v e big (λ q. omega arith) ∙ p.left v (omega arith);
-  }
 
 -- ---- over the submasks of r: those above u are passed
 

@@ -75,22 +75,11 @@ pub fn fill(
     requires { Searchable k n × (length rows.now ≡ 80) × (length own.now ≡ masks) × (at + 8192 ≤ length arrays.old) }
     ensures { (result ≡ 2 ^ n) × ArrayFilled k n (λ h w. get_or rows.now (h * 8 + w) big) (λ s. get_or own.now s big) arrays.new at (2 ^ n) × (length arrays.new ≡ length arrays.old) × ((i : ℕ) → i < at → get_or arrays.new i big ≡ get_or arrays.old i big) }
 {
-    let mut h: usize = 0;
-    let mut top: usize = 0;
-    let mut next: usize = 1;
-    let end = 1 << n;
-    for s in 1..end {
-        if s == next {
-            put_row(arrays, at + s * 8, row_at(rows, h * 8));
-            h += 1;
-            top = s;
-            next = s + s;
-        } else {
-            let row = best_row(k, top, s - top, own[s], arrays, at);
-            put_row(arrays, at + s * 8, row);
-        }
+    let mut like: [u16; MASKS] = [0; MASKS];
+    for s in 0..MASKS {
+        like[s] = s as u16;
     }
-    end
+    fill_like(k, n, rows, own, &like, arrays, at)
 }
 
 // The row at a place.
