@@ -13,13 +13,8 @@ use sheet::{FANIN_ROOM, Gate, Source};
 pub fn fanin_count(gate: Gate) -> usize
     ensures { FaninsCounted gate result }
 {
-    let first = gate.first as usize;
-    if FANIN_ROOM < first {
-        return 0;
-    }
-    let room = FANIN_ROOM - first;
-    let count = gate.count as usize;
-    if count <= room { count } else { room }
+    let room = FANIN_ROOM.saturating_sub(gate.first as usize);
+    room.min(gate.count as usize)
 }
 
 // The place of the gate that a fanin reads among the gates; 0 for a net.

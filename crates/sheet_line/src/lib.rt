@@ -45,7 +45,11 @@ pub struct Fields {
 pub fn read_fields(line: &[u8]) -> Option<Fields>
     ensures { FieldsRead line.now result }
 {
-    if line.len() == 0 {
+    if line.len() % decimal::COLUMNS != 0 {
+        return None;
+    }
+    let count = line.len() / decimal::COLUMNS;
+    if count == 0 || MOST_FIELDS < count {
         return None;
     }
     let zero = FieldValue {
@@ -53,23 +57,13 @@ pub fn read_fields(line: &[u8]) -> Option<Fields>
         magnitude: 0,
     };
     let mut numbers = [zero; MOST_FIELDS];
-    let mut count: usize = 0;
-    let mut at: usize = 0;
-    while at < line.len() {
-        if MOST_FIELDS <= count {
-            return None;
-        }
-        if line.len() - at < decimal::COLUMNS {
-            return None;
-        }
-        let end = at + decimal::COLUMNS;
-        let v = decimal_reader::read(&line[at..end])?;
-        numbers[count] = FieldValue {
+    for i in 0..count {
+        let at = i * decimal::COLUMNS;
+        let v = decimal_reader::read(&line[at..at + decimal::COLUMNS])?;
+        numbers[i] = FieldValue {
             sign: decimal::negative(v) as u32,
             magnitude: decimal::magnitude(v),
         };
-        count += 1;
-        at = end;
     }
     Some(Fields { count, numbers })
 }

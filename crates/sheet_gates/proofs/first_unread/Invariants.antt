@@ -1,10 +1,6 @@
 -- Each gate passed was read.
-use Prim.Native.Nat.{◌-◌}
 use Rattle.sheet_gates.proofs.UnreadLaws.{Passed}
 use Rattle.sheet_gates.proofs.first_unread.Given as goal
 
 abbrev pub invariant-loop-g : goal.invariant-loop-g
 invariant-loop-g l = Passed l.seen l.count l.g
-
-abbrev pub decreases-loop-g : goal.decreases-loop-g
-decreases-loop-g l = l.count - l.g

@@ -1,5 +1,4 @@
 -- What is left to read, with what was read put before it, is the same at each line (`AtLine`) and at each fanin (`AtFanin`).
-use Prim.Native.Nat.{◌-◌}
 use Rattle.sheet_gates.proofs.LinesLaws.{AtLine, AtFanin}
 use Rattle.sheet_gates.proofs.gate_lines.Given as goal
 
@@ -7,14 +6,6 @@ abbrev pub invariant-loop-i : goal.invariant-loop-i
 invariant-loop-i l =
     AtFanin l.text l.start l.out l.count l.gates l.fanins l.used l.seen l.leaves l.g l.line l.i
 
-abbrev pub decreases-loop-i : goal.decreases-loop-i
-decreases-loop-i l =
-    l.line.count - l.i
-
 abbrev pub invariant-loop-g : goal.invariant-loop-g
 invariant-loop-g l =
     AtLine l.text l.start l.out l.count l.gates l.fanins l.used l.seen l.leaves l.end l.g
-
-abbrev pub decreases-loop-g : goal.decreases-loop-g
-decreases-loop-g l =
-    l.count - l.g
