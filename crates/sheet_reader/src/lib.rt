@@ -12,8 +12,8 @@ use sheet_gates::{Lines, first_unread, gate_lines};
 use sheet_line::{Head, line_end, read_fields, read_head};
 
 // What comes after the gates: bytes beyond the last line, and gates that are never read.
-fn read_end(text: &[u8], lines: Lines, head: Head, last: bool) -> Result<Next, SheetError>
-    ensures { EndRead text.now lines head last result }
+fn read_end(text: &[u8], lines: &Lines, head: Head, last: bool) -> Result<Next, SheetError>
+    ensures { EndRead text.now lines.now head last result }
 {
     let more = last && lines.end < text.len();
     if more {
@@ -22,8 +22,7 @@ fn read_end(text: &[u8], lines: Lines, head: Head, last: bool) -> Result<Next, S
             line: head.count as u16 + 2,
         });
     }
-    let seen = lines.seen;
-    if let Some(line) = first_unread(&seen, head.count) {
+    if let Some(line) = first_unread(&lines.seen, head.count) {
         return Err(SheetError {
             why: Refusal::GateUnread,
             line,
@@ -60,7 +59,7 @@ fn read_front(text: &[u8], start: usize, last: bool) -> Result<Next, SheetError>
     };
     let head = at_line(read_head(fields), 1)?;
     let lines = gate_lines(text, end + 1, head.out, head.count)?;
-    read_end(text, lines, head, last)
+    read_end(text, &lines, head, last)
 }
 
 // The sheet that a text is.

@@ -12,17 +12,17 @@ use Rattle.sheet_reader.proofs.read_end.Goals.{Start, Then-more, Else-more}
 abbrev head_of : Start → Head
 head_of s = let h = s.args.head in record { out = h.out; inverted = h.inverted; count = h.count }
 
-some_more : (c : Then-more) → (c.args.last && ltb c.args.lines.end (length c.args.text.now)) ≡ true
+some_more : (c : Then-more) → (c.args.last && ltb c.args.lines.now.end (length c.args.text.now)) ≡ true
 some_more c = search rules
 
-no_more : (c : Else-more) → (c.args.last && ltb c.args.lines.end (length c.args.text.now)) ≡ false
+no_more : (c : Else-more) → (c.args.last && ltb c.args.lines.now.end (length c.args.text.now)) ≡ false
 no_more c = search rules
 
 pub returns-then-more : goal.returns-then-more
 returns-then-more c =
     let a = c.args in
     λ m h. record {
-      same = end_more a.text.now a.lines (head_of (goal.at.returns-then-more c).Start) a.last m h (some_more (goal.at.returns-then-more c).Then-more);
+      same = end_more a.text.now a.lines.now (head_of (goal.at.returns-then-more c).Start) a.last m h (some_more (goal.at.returns-then-more c).Then-more);
       within = tt;
     }
 
@@ -30,7 +30,7 @@ pub returns-in-Some : goal.returns-in-Some
 returns-in-Some c =
     let a = c.args in
     λ m h. record {
-      same = end_unread a.text.now a.lines (head_of (goal.at.returns-in-Some c).Start) a.last m h (no_more (goal.at.returns-in-Some c).Else-more)
+      same = end_unread a.text.now a.lines.now (head_of (goal.at.returns-in-Some c).Start) a.last m h (no_more (goal.at.returns-in-Some c).Else-more)
           (c.in-Some.ensures m.1.gates h.marked);
       within = tt;
     }
@@ -39,7 +39,7 @@ pub returns : goal.returns
 returns c =
     let a = c.args in
     λ m h. record {
-      same = end_passed a.text.now a.lines (head_of (goal.at.returns c).Start) a.last m h (no_more (goal.at.returns c).Else-more) (c.in_default.ensures m.1.gates h.marked)
+      same = end_passed a.text.now a.lines.now (head_of (goal.at.returns c).Start) a.last m h (no_more (goal.at.returns c).Else-more) (c.in_default.ensures m.1.gates h.marked)
           ∙ ap₂ (λ gs rest. passed (record { out = a.head.out; inverted = a.head.inverted; gates = gs }, rest)) h.gates h.rest;
       within = h.within;
     }
