@@ -58,13 +58,13 @@ number_from bs =
 pub number_none : (bs : List ℕ) → position (λ b. not (b == 32)) bs ≡ None → number bs ≡ none
 number_none bs e = MatchOption-at_none (number bs ≡ none) (λ i. (i < length bs) × (number bs ≡ signed (drop i bs))) e (number_from bs)
 
-pub number_there : (bs : List ℕ) {i : ℕ} → position (λ b. not (b == 32)) bs ≡ Some i → number bs ≡ signed (take (length bs - i) (drop i bs))
-number_there bs {i} e =
+pub number_after_blanks : (bs : List ℕ) {i : ℕ} → position (λ b. not (b == 32)) bs ≡ Some i → number bs ≡ signed (take (length bs - i) (drop i bs))
+number_after_blanks bs {i} e =
     let h = MatchOption-at_some (number bs ≡ none) (λ i. (i < length bs) × (number bs ≡ signed (drop i bs))) i e (number_from bs) in
     h.1 ∙ ap signed (sym (rest_is bs i))
 
 pub word_there : (bs : List ℕ) {i : ℕ} → position (λ b. not (b == 32)) bs ≡ Some i → word_number bs ≡ in_word (natural (take (length bs - i) (drop i bs)))
-word_there bs {i} e = ap (λ o. in_word (upright o)) (number_there bs e) ∙ ap in_word (signed_upright (take (length bs - i) (drop i bs)))
+word_there bs {i} e = ap (λ o. in_word (upright o)) (number_after_blanks bs e) ∙ ap in_word (signed_upright (take (length bs - i) (drop i bs)))
 
 -- ---- digits
 

@@ -18,7 +18,7 @@ const TRUTH: usize = 21;
 pub fn has_room(len: usize, at: usize, count: usize) -> bool
     ensures { result ≡ leb (at + count) len }
 {
-    if at <= len { count <= len - at } else { false }
+    at <= len && count <= len - at
 }
 
 // A number of a field, from the place on.
@@ -50,10 +50,8 @@ fn put_inputs(buf: &mut [u8], at: usize, inputs: [u16; 6], n: usize)
     requires { (n ≤ 6) × (at + 6 * n ≤ length buf.old) }
     ensures { buf.new ≡ pasted buf.old at (fields_of (take n inputs)) }
 {
-    let mut i = 0;
-    while i < n {
+    for i in 0..n {
         put_field(buf, at + FIELD * i, inputs[i]);
-        i += 1;
     }
 }
 
