@@ -235,7 +235,7 @@ module _ (w : Way) (p : Part) (shape : Shaped p) (text : List ℕ) where
         ap (λ n. p.used + n) (number_unique w p s (chosen_number w p s t.new t.chosen) (number_is w p h.k_range.0 s (reading_right w text s e)));
     reservation = ap (λ q. q.reservation) t.part;
     sound = reflects_true (sound_reflects q)
-        (subst Sound (sym t.part) (extended_sound p shape h t.new s (reading_right w text s e).legal new_tables_lem f room));
+        (subst Sound (sym t.part) (extended_sound p shape.records h t.new s (reading_right w text s e).legal new_tables_lem f room));
     driven = λ n l. reflects_same (driven_reflects n (tables_of q)) (reflects_or (driven_reflects n (tables_of p)) (reflects_eq s.out n))
         (λ d. drives_after code_base p.k (tables_of p) t.new s new_tables_lem n l.0 (subst (λ ts. Driven n ts) grown d))
         (λ d. subst (λ ts. Driven n ts) (sym grown) (drives_still code_base p.k (tables_of p) t.new s new_tables_lem n d));
@@ -249,7 +249,7 @@ module _ (w : Way) (p : Part) (shape : Shaped p) (text : List ℕ) where
       new_tables_lem = chosen_added w p s t.new t.chosen
 
       grown : tables_of q ≡ tables_of p ++ t.new
-      grown = ap tables_of t.part ∙ extended_tables p shape h t.new
+      grown = ap tables_of t.part ∙ extended_tables p shape.records h t.new
 
   stays_or_takes : {q : Part} {a : Answer} → AddCase w p text q a → Stays p q a ⊎ Takes w p text q a
   stays_or_takes (unsound n r) = inl (20, 0, r)

@@ -1,9 +1,9 @@
 -- THE THREE DEMANDS HOLD: `demand_1`, `demand_2` and `demand_3`; and what else is proved of lists of calls. `Part::add` ensures, of every
--- part p and text, `Add least p text r.part (adding_answer r.answer)` of its result r, and `Part::add_set`, `reserve` and `commit` likewise
--- `AddSet`, `Reserve` and `Commit`, for some tries, and `withdraw` gives `withdrawn`; so calls of the code, each given the part that the one
--- before handed back, are a `Chain` (`called`, `set_called`, `reserve_called`, `commit_called`, `withdraw_called`). `Shaped` says of a
+-- part p and text, `Add least p text q (adding_answer r)` of the part q that it leaves and its result r, and `Part::add_set`, `reserve` and
+-- `commit` likewise `AddSet`, `Reserve` and `Commit`, for some tries, and `withdraw` gives `withdrawn`; so calls of the code, each given the
+-- part that the one before left, are a `Chain` (`called`, `set_called`, `reserve_called`, `commit_called`, `withdraw_called`). `Shaped` says of a
 -- part what its type does.
-use Rattle.std.specs.Prelude.{ℕ, ◌≤◌, ◌≡◌, refl, ◌≢◌, List, [], ◌∷◌, map, length}
+use Rattle.std.specs.Prelude.{ℕ, ◌≤◌, ◌≡◌, refl, ◌≢◌, List, [], ◌∷◌, map, length, Result, Ok, Err}
 use Rattle.std.proofs.Common.{arith, sym, ap, ◌∙◌, subst}
 use Rattle.lists.specs.Trusted.Lists.{Every}
 use Rattle.lists.specs.ListLaws.{every_none, every_cons}
@@ -21,9 +21,9 @@ use Rattle.part.specs.Trusted.Sets.{AddSet}
 use Rattle.part.specs.Trusted.Reservations.{Reserve, Commit, withdrawn}
 use Rattle.part.specs.Trusted.SetAnswers.{set_result}
 use Rattle.part.specs.declared.Part.{Part}
-use Rattle.part.specs.declared.Added.{Added}
-use Rattle.part.specs.declared.Adding.TheVariants.{Accepted, Full}
-use Rattle.part.specs.declared.SetAdded.{SetAdded}
+use Rattle.part.specs.declared.AddError.{AddError}
+use Rattle.part.specs.declared.AddError.TheVariants.{Full}
+use Rattle.part.specs.declared.SetError.{SetError}
 use Rattle.demands.specs.Trusted.Calls.{Call, add, add_set, reserve, commit, withdraw, one_sheet, Chain, done, call, final, accepted_in}
 use Rattle.demands.specs.Trusted.Demands.{Demand1, last_part, Demand2, Total, Demand3, StillOpen, Guaranteed}
 use Rattle.part.proofs.OpenLaws.{opened_empty, opened_shaped, opened_sound}
@@ -79,38 +79,39 @@ demand_3 = counted
 
 -- ---- more of lists of calls
 
--- an add of the code is the first call of a list that goes on with the part that it handed back
-pub called : (p : Part) (text : List ℕ) (r : Added) → Add least p text r.part (adding_answer r.answer) → {cs : List Call} {rs : List CallResult} →
-    Chain r.part cs rs → Chain p (add least text ∷ cs) (one_sheet least text p r.part (adding_answer r.answer) ∷ rs)
-called p text r h t = call {c = add least text} (h, refl) t
+-- an add of the code, which left the part q, is the first call of a list that goes on with that part
+pub called : (p : Part) (text : List ℕ) (q : Part) (r : Result (Unit {0}) AddError) → Add least p text q (adding_answer r) → {cs : List Call} {rs : List CallResult} →
+    Chain q cs rs → Chain p (add least text ∷ cs) (one_sheet least text p q (adding_answer r) ∷ rs)
+called p text q r h t = call {c = add least text} (h, refl) t
 
 -- and so is a set
-pub set_called : (p : Part) (lengths text : List ℕ) (r : SetAdded) (ts : List Try) → AddSet p lengths text (set_result r ts) → {cs : List Call} {rs : List CallResult} →
-    Chain r.part cs rs → Chain p (add_set lengths text ∷ cs) (set_result r ts ∷ rs)
-set_called p lengths text r ts h t = call h t
+pub set_called : (p : Part) (lengths text : List ℕ) (q : Part) (r : Result (Unit {0}) SetError) (ts : List Try) → AddSet p lengths text (set_result q r ts) →
+    {cs : List Call} {rs : List CallResult} → Chain q cs rs → Chain p (add_set lengths text ∷ cs) (set_result q r ts ∷ rs)
+set_called p lengths text q r ts h t = call h t
 
 -- and so are a reservation, a commit and a withdrawal
-pub reserve_called : (p : Part) (text : List ℕ) (r : Added) (ts : List Try) → Reserve p text (adding_result r ts) → {cs : List Call} {rs : List CallResult} →
-    Chain r.part cs rs → Chain p (reserve text ∷ cs) (adding_result r ts ∷ rs)
-reserve_called p text r ts h t = call h t
+pub reserve_called : (p : Part) (text : List ℕ) (q : Part) (r : Result (Unit {0}) AddError) (ts : List Try) → Reserve p text (adding_result q r ts) →
+    {cs : List Call} {rs : List CallResult} → Chain q cs rs → Chain p (reserve text ∷ cs) (adding_result q r ts ∷ rs)
+reserve_called p text q r ts h t = call h t
 
-pub commit_called : (p : Part) (text : List ℕ) (r : Added) (ts : List Try) → Commit p text (adding_result r ts) → {cs : List Call} {rs : List CallResult} →
-    Chain r.part cs rs → Chain p (commit text ∷ cs) (adding_result r ts ∷ rs)
-commit_called p text r ts h t = call h t
+pub commit_called : (p : Part) (text : List ℕ) (q : Part) (r : Result (Unit {0}) AddError) (ts : List Try) → Commit p text (adding_result q r ts) →
+    {cs : List Call} {rs : List CallResult} → Chain q cs rs → Chain p (commit text ∷ cs) (adding_result q r ts ∷ rs)
+commit_called p text q r ts h t = call h t
 
-pub withdraw_called : (p : Part) (r : Added) → adding_result r [] ≡ withdrawn p → {cs : List Call} {rs : List CallResult} → Chain r.part cs rs →
-    Chain p (withdraw ∷ cs) (adding_result r [] ∷ rs)
-withdraw_called p r h t = call h t
+pub withdraw_called : (p q : Part) (r : Result (Unit {0}) AddError) → adding_result q r [] ≡ withdrawn p → {cs : List Call} {rs : List CallResult} → Chain q cs rs →
+    Chain p (withdraw ∷ cs) (adding_result q r [] ∷ rs)
+withdraw_called p q r h t = call h t
 
--- THE GUARANTEE OF A RESERVATION, and the same at the code's calls: `Part::reserve` gave h, and `Part::commit` on the last part r
+-- THE GUARANTEE OF A RESERVATION, and the same at the code's calls: `Part::reserve` left the part q and gave h, and `Part::commit` on the
+-- last part left the part o and gave r
 pub guaranteed : (p : Part) → Shaped p → (text : List ℕ) → Guaranteed p text
 guaranteed = reservation_fits
 
-pub reserved_commit : (p : Part) → Shaped p → (text : List ℕ) (h : Added) (ts : List Try) → Reserve p text (adding_result h ts) → h.answer ≡ Accepted →
-    (cs : List Call) (rs : List CallResult) → Chain h.part cs rs → StillOpen cs rs → (r : Added) (us : List Try) →
-    Commit (final h.part rs) text (adding_result r us) → r.answer ≢ Full
-reserved_commit p shape text h ts promise a cs rs chain still r us committed e =
-    guaranteed p shape text (adding_result h ts) promise (ap adding_answer a) cs rs chain still (adding_result r us) committed 0 (ap adding_answer e)
+pub reserved_commit : (p : Part) → Shaped p → (text : List ℕ) (q : Part) (h : Result (Unit {0}) AddError) (ts : List Try) → Reserve p text (adding_result q h ts) →
+    h ≡ Ok tt → (cs : List Call) (rs : List CallResult) → Chain q cs rs → StillOpen cs rs → (o : Part) (r : Result (Unit {0}) AddError) (us : List Try) →
+    Commit (final q rs) text (adding_result o r us) → r ≢ Err Full
+reserved_commit p shape text q h ts promise a cs rs chain still o r us committed e =
+    guaranteed p shape text (adding_result q h ts) promise (ap adding_answer a) cs rs chain still (adding_result o r us) committed 0 (ap adding_answer e)
 
 -- from an opening, the used count is the sum of the least numbers of the accepted sheets
 pub opened_used : (k capacity : ℕ) → (opened k capacity).answer ≡ accepted → (cs : List Call) (rs : List CallResult) →

@@ -10,7 +10,7 @@ ghost use Rattle.fast_opening.specs.Trusted.FastOpening.{fast_numbers, unopened,
 ghost use Rattle.fast_opening.specs.Promises.{fast_start};
 
 use opening::Told;
-use part::{Opening, Part};
+use part::{OpenError, Part};
 
 // The bytes of the opening line with its line feed.
 pub const FAST_OPENING: usize = 19;
@@ -70,21 +70,10 @@ fn want(part: Part, v: i32) -> FastOpening
 fn open(k: u32, capacity: u32, v: i32) -> FastOpening
     ensures { fast_start result ≡ wanted_after (opened k capacity).answer (opened k capacity).part (number_of_int v) }
 {
-    let o = Part::open(k, capacity);
-    let part = o.part;
-    let answer = o.answer;
-    match answer {
-        Opening::Accepted => want(part, v),
-        Opening::KOutOfRange => FastOpening {
-            part,
-            told: Told { number: 2, line: 0 },
-            wanted: 0,
-        },
-        Opening::CapacityOutOfRange => FastOpening {
-            part,
-            told: Told { number: 3, line: 0 },
-            wanted: 0,
-        },
+    match Part::open(k, capacity) {
+        Ok(part) => want(part, v),
+        Err(OpenError::KOutOfRange) => refuse(2),
+        Err(OpenError::CapacityOutOfRange) => refuse(3),
     }
 }
 

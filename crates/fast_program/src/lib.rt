@@ -65,14 +65,11 @@ pub fn run(input: &[u8], output: &mut [u8]) -> Printed
     if told.number != 0 {
         return printing::print_refusal(output, told.number, 0, told.line);
     }
-    let part = start.part;
-    let end = fast_sheets::add_sheets_fast(part, input, FAST_OPENING);
-    let told = end.told;
-    if told.number != 0 {
-        return printing::print_refusal(output, told.number, end.sheet, told.line);
+    let mut part = start.part;
+    match fast_sheets::add_sheets_fast(&mut part, input, FAST_OPENING) {
+        Ok(()) => print_fast_list(output, part, start.wanted),
+        Err(why) => printing::print_refusal(output, why.number, why.sheet, why.line),
     }
-    let part = end.part;
-    print_fast_list(output, part, start.wanted)
 }
 
 // Maps the input and prints into the buffer, which has room for all that can be printed, and gives how many bytes it printed.

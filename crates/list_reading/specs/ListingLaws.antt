@@ -133,7 +133,7 @@ small p shape h r m = record {
 -- record t, of the records in use
 small_at : (p : Part) → Shaped p → Sound p → (t : ℕ) → t < p.used → Small (get_or p.tables t blank)
 small_at p shape h t l =
-    let i : t < length (in_use p) = omega (arith, l, used_count p shape h) in
+    let i : t < length (in_use p) = omega (arith, l, used_count p shape.records h) in
     rw (get_or-take p.used p.tables t blank l) at (every_at {P = Small} (in_use p) t blank (small p shape h) i)
 
 -- EVERY LINE OF A SOUND PART FITS ITS COLUMNS: line 0, and the line of table t + 1
@@ -163,11 +163,11 @@ module _ (p q : Part) (fp : Shaped p) (fq : Shaped q) (hp : Sound p) (hq : Sound
   same_part a b c d = λ i. record { k = a i; capacity = b i; used = c i; reservation = unreserved; tables = tables i }
     where
       count : length (in_use p) ≡ length (in_use q)
-      count = used_count p fp hp ∙ c ∙ sym (used_count q fq hq)
+      count = used_count p fp.records hp ∙ c ∙ sym (used_count q fq.records hq)
 
       same_at : (i : ℕ) → i < length (in_use p) → SameBut (get_or (in_use p) i blank) (get_or (in_use q) i blank)
       same_at i l =
-          let m : i < p.used = omega (arith, l, used_count p fp hp) in
+          let m : i < p.used = omega (arith, l, used_count p fp.records hp) in
           let n : i < q.used = omega (arith, m, c) in
           ap (at_level 0) (get_or-take p.used p.tables i blank m) ∙ d i m ∙ ap (at_level 0) (sym (get_or-take q.used q.tables i blank n))
 

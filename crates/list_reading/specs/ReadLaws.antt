@@ -61,7 +61,7 @@ module _ (p : Part) (shape : Shaped p) (h : Sound p) where
       q = record { k = p.k; capacity = p.capacity; used = p.used; reservation = unreserved; tables = in_use p ++ drop p.used blanks }
 
       e : read_list (list_of p) ≡ passed q
-      e = ap read_list (sym (append-nil (list_of p))) ∙ good_read (list_of p ++ []) (in_use p) [] (list_good []) 0 (omega (arith, used_count p shape h))
+      e = ap read_list (sym (append-nil (list_of p))) ∙ good_read (list_of p ++ []) (in_use p) [] (list_good []) 0 (omega (arith, used_count p shape.records h))
 
       w : Shaped q × Sound q × (q.reservation ≡ unreserved) × (list_of p ≡ list_of q)
       w = read_says (list_of p) e
@@ -70,7 +70,7 @@ module _ (p : Part) (shape : Shaped p) (h : Sound p) where
   longer_refused : (rest : List ℕ) → rest ≢ [] → read_list (list_of p ++ rest) ≡ refused 31 (suc (length (in_use p)))
   longer_refused rest n =
       condition_read (list_of p ++ rest)
-      (left_over p.k (in_use p) rest (subst (λ u. GoodLines (list_of p ++ rest) p.k u (in_use p) rest) (sym (used_count p shape h)) (list_good rest)) n)
+      (left_over p.k (in_use p) rest (subst (λ u. GoodLines (list_of p ++ rest) p.k u (in_use p) rest) (sym (used_count p shape.records h)) (list_good rest)) n)
 
 -- A READING ACCEPTS EXACTLY THE LISTS OF SOUND PARTS, and the part read is the part written, with nothing reserved
 pub list_exactly : (text : List ℕ) (p : Part) → Shaped p → (read_list text ≡ passed p) ↔ (Sound p × (p.reservation ≡ unreserved) × (text ≡ list_of p))

@@ -9,21 +9,19 @@ ghost use Rattle.list_reservations.specs.Trusted.ListReservations.{outcome_code,
 
 use list_numbers::answer_code;
 use list_sets::{put_outcome, read_reserved, tell_sheet};
-use part::Added;
+use part::{AddError, Part};
 
 // The code of a reservation is so many times the number of tables set aside, and the net.
 const RESERVED: u64 = 281474976710656;
 
 // The code of what reserving or withdrawing gave: of its refusal, or of the reservation that the part has then, 0 where that is none.
-fn outcome_code(added: Added) -> u64
-    ensures { result ≡ outcome_code (adding_answer added.answer) added.part }
+fn outcome_code(answer: Result<(), AddError>, part: &Part) -> u64
+    ensures { result ≡ outcome_code (adding_answer answer) part.now }
 {
-    let answer = added.answer;
     let told = tell_sheet(answer, 0);
     if !told.accepted {
         return told.code;
     }
-    let part = added.part;
     let reservation = part.reservation;
     RESERVED * reservation.count as u64 + reservation.net as u64
 }
@@ -39,7 +37,9 @@ pub fn reserve_on_list(list: &[u8], reserved: u16, net: u16, text: &[u8]) -> u64
     if code != 0 {
         return code as u64;
     }
-    outcome_code(read.part.reserve(text))
+    let mut part = read.part;
+    let answered = part.reserve(text);
+    outcome_code(answered, &part)
 }
 
 // Adds the sheet that tables of a list's part are set aside for, and closes the reservation. The new list stands at the front of the buffer,
@@ -54,10 +54,10 @@ pub fn commit_to_list(list: &[u8], reserved: u16, net: u16, text: &[u8], output:
     if code != 0 {
         return code as u64;
     }
-    let committed = read.part.commit(text);
-    let answer = committed.answer;
-    let told = tell_sheet(answer, 0);
-    put_outcome(told, committed.part, output)
+    let mut part = read.part;
+    let committed = part.commit(text);
+    let told = tell_sheet(committed, 0);
+    put_outcome(told, part, output)
 }
 
 // Closes the reservation. The result is 0, or the refusal's code: the list's come first, then 20, and 36 where no reservation is open.
@@ -70,5 +70,7 @@ pub fn withdraw_from_list(list: &[u8], reserved: u16, net: u16) -> u64
     if code != 0 {
         return code as u64;
     }
-    outcome_code(read.part.withdraw())
+    let mut part = read.part;
+    let answered = part.withdraw();
+    outcome_code(answered, &part)
 }

@@ -16,7 +16,7 @@ ghost use Rattle.list_sets.specs.Told.{ReadBeside, told_of, PutOutcome};
 use list_numbers::answer_code;
 use list_reader::read_list;
 use list_reading::ListRead;
-use part::{Adding, Part, SetAdding};
+use part::{AddError, Part, SetError};
 use printing::{Printed, print_list};
 
 // A refusal's code is so many times the sheet's position in the set, so many times its number, and the place.
@@ -62,36 +62,33 @@ fn refused(position: u8, number: u8, place: u16) -> CallOutcome
 }
 
 // What the answer for a sheet says, with its position in the set, 0 where it is in none.
-pub fn tell_sheet(a: Adding, position: u8) -> CallOutcome
-    ensures { result ≡ told_of position (adding_answer a) }
+pub fn tell_sheet(answer: Result<(), AddError>, position: u8) -> CallOutcome
+    ensures { result ≡ told_of position (adding_answer answer) }
 {
-    match a {
-        Adding::Accepted => CallOutcome {
+    match answer {
+        Ok(()) => CallOutcome {
             accepted: true,
             code: 0,
         },
-        Adding::Unsound => refused(position, 20, 0),
-        Adding::Misread(why, line) => refused(position, sheet::number(why), line),
-        Adding::OutputDriven => refused(position, 21, 0),
-        Adding::OutputRead => refused(position, 22, 0),
-        Adding::Full => refused(position, 23, 0),
-        Adding::AlreadyReserved => refused(position, 35, 0),
-        Adding::NotReserved => refused(position, 36, 0),
+        Err(why) => {
+            let told = why.numbered(0);
+            refused(position, told.number, told.line)
+        }
     }
 }
 
 // What the answer for a set says.
-fn tell_set(a: SetAdding) -> CallOutcome
-    ensures { result ≡ told_of (set_position a) (set_answer a) }
+fn tell_set(answer: Result<(), SetError>) -> CallOutcome
+    ensures { result ≡ told_of (set_position answer) (set_answer answer) }
 {
-    match a {
-        SetAdding::Accepted => CallOutcome {
+    match answer {
+        Ok(()) => CallOutcome {
             accepted: true,
             code: 0,
         },
-        SetAdding::Unsound => refused(0, 20, 0),
-        SetAdding::LengthsUnfit => refused(0, 33, 0),
-        SetAdding::SheetRefused(why, position) => tell_sheet(why, position),
+        Err(SetError::Unsound) => refused(0, 20, 0),
+        Err(SetError::LengthsUnfit) => refused(0, 33, 0),
+        Err(SetError::SheetRefused(why, position)) => tell_sheet(Err(why), position),
     }
 }
 
@@ -138,8 +135,8 @@ pub fn add_to_list(
     if code != 0 {
         return code as u64;
     }
-    let added = read.part.add_set(text, lengths);
-    let answer = added.answer;
-    let told = tell_set(answer);
-    put_outcome(told, added.part, output)
+    let mut part = read.part;
+    let added = part.add_set(text, lengths);
+    let told = tell_set(added);
+    put_outcome(told, part, output)
 }

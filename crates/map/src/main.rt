@@ -3,68 +3,28 @@
 // printed.
 #![tactic(auto)]
 
-ghost use Rattle.std.specs.Prelude.{◌≡◌, ◌≤◌, length};
+ghost use Rattle.std.specs.Prelude.{◌≡◌, length};
+ghost use Rattle.std.specs.Io.{ReadsAtMost};
 ghost use Rattle.program_laws.specs.Front.{front_bytes};
 
+use input_reader::read_full;
 use program::LONGEST;
+use std::io;
 use std::io::Read;
 
 // So many bytes of an input decide what is printed for it: `front_decides` in program_laws/proofs/FrontLaws. No more are read.
 const ROOM: usize = 131072;
 
-// How many bytes were read, and whether a read failed.
-#[derive(Clone, Copy)]
-struct Got {
-    count: usize,
-    failed: bool,
-}
-
 fn say(rt: &impl Eprint, s: &str) {
     let _ = rt.eprint(s);
 }
 
-// One read.
-fn read_some(from: &mut impl Read, part: &mut [u8]) -> Got
-    ensures { result.count ≤ length part.new }
-{
-    match from.read(part) {
-        Ok(count) => Got {
-            count,
-            failed: false,
-        },
-        Err(_) => Got {
-            count: 0,
-            failed: true,
-        },
-    }
-}
-
 // Reads until the buffer, which has room for all the bytes that decide, is full or the input ends.
-fn read_all(from: &mut impl Read, buf: &mut [u8]) -> Got
+fn read_deciding(from: &mut impl Read, buf: &mut [u8]) -> io::Result<usize>
     requires { length buf.old ≡ front_bytes }
-    ensures { result.count ≤ length buf.new }
+    ensures { ReadsAtMost result buf.new }
 {
-    let mut done: usize = 0;
-    while done < buf.len() {
-        let got = read_some(from, &mut buf[done..]);
-        if got.failed {
-            return Got {
-                count: done,
-                failed: true,
-            };
-        }
-        if got.count == 0 {
-            return Got {
-                count: done,
-                failed: false,
-            };
-        }
-        done += got.count;
-    }
-    Got {
-        count: done,
-        failed: false,
-    }
+    read_full(from, buf)
 }
 
 fn print(rt: &(impl Print + Eprint), input: &[u8]) {
@@ -77,11 +37,8 @@ fn print(rt: &(impl Print + Eprint), input: &[u8]) {
 
 fn main(rt: HostRuntime) {
     let mut input = [0u8; ROOM];
-    let got = read_all(&mut rt.stdin(), &mut input);
-    if got.failed {
-        say(&rt, "map: standard input cannot be read\n");
-        return;
+    match read_deciding(&mut rt.stdin(), &mut input) {
+        Ok(n) => print(&rt, &input[..n]),
+        Err(_) => say(&rt, "map: standard input cannot be read\n"),
     }
-    let n = got.count;
-    print(&rt, &input[..n]);
 }

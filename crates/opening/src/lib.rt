@@ -4,11 +4,11 @@
 ghost use Rattle.std.specs.Prelude.{◌≡◌};
 ghost use Rattle.std.proofs.Math.Option.{none};
 ghost use Rattle.part.specs.Trusted.Add.{opened};
-ghost use Rattle.part.specs.Trusted.OpenAnswers.{opening_answer};
+ghost use Rattle.part.specs.Trusted.OpenAnswers.{open_refusal};
 ghost use Rattle.opening.specs.Trusted.Opening.{count as count_of, opening_numbers, opened_by};
 ghost use Rattle.opening.specs.Promises.{told as told_answer, start_result};
 
-use part::{Opening, Part};
+use part::{OpenError, Part};
 
 // The bytes of the opening line with its line feed.
 pub const OPENING: usize = 13;
@@ -27,13 +27,12 @@ pub struct Start {
     pub told: Told,
 }
 
-fn tell_opening(a: Opening) -> Told
-    ensures { told_answer result ≡ opening_answer a }
+fn tell_opening(why: OpenError) -> Told
+    ensures { told_answer result ≡ open_refusal why }
 {
-    match a {
-        Opening::Accepted => Told { number: 0, line: 0 },
-        Opening::KOutOfRange => Told { number: 2, line: 0 },
-        Opening::CapacityOutOfRange => Told { number: 3, line: 0 },
+    match why {
+        OpenError::KOutOfRange => Told { number: 2, line: 0 },
+        OpenError::CapacityOutOfRange => Told { number: 3, line: 0 },
     }
 }
 
@@ -50,21 +49,24 @@ fn count(negative: bool, magnitude: u32) -> u32
 fn open(k: u32, capacity: u32) -> Start
     ensures { start_result result ≡ opened k capacity }
 {
-    let o = Part::open(k, capacity);
-    let part = o.part;
-    let answer = o.answer;
-    let told = tell_opening(answer);
-    Start { part, told }
+    match Part::open(k, capacity) {
+        Ok(part) => Start {
+            part,
+            told: Told { number: 0, line: 0 },
+        },
+        Err(why) => Start {
+            part: part::empty(0, 0),
+            told: tell_opening(why),
+        },
+    }
 }
 
 // An opening line that is not laid out as such.
 fn no_opening() -> Start
     ensures { start_result result ≡ opened_by none }
 {
-    let o = Part::open(0, 0);
-    let part = o.part;
     Start {
-        part,
+        part: part::empty(0, 0),
         told: Told { number: 1, line: 0 },
     }
 }

@@ -1,6 +1,6 @@
 -- The cases of an add; and that it keeps soundness, the shape, K and the capacity.
 use Rattle.std.specs.Prelude.{ℕ, ◌+◌, ◌≤◌, ◌<◌, ◌≡◌, refl, List, eqb}
-use Rattle.std.proofs.Common.{arith, sym, ◌∙◌, subst}
+use Rattle.std.proofs.Common.{arith, sym, ap, ◌∙◌, subst}
 use Rattle.std.proofs.Math.ListN.{length}
 use Rattle.lists.specs.Trusted.Lists.{Every}
 use Rattle.lists.specs.Trusted.Tests.{elem}
@@ -12,7 +12,7 @@ use Rattle.cover.specs.Eval.{every_numbered}
 use Rattle.cover.specs.Trusted.Tables.{LookupTable}
 use Rattle.cover.specs.Trusted.CoverTables.{Circuit, CoverTables, Fresh}
 use Rattle.cover.proofs.CoverTableLaws.{added_sized}
-use Rattle.table.specs.Trusted.Limits.{input_room}
+use Rattle.table.specs.Trusted.Limits.{input_room, table_room}
 use Rattle.part.specs.Trusted.Parts.{tables_of, available, Shaped}
 use Rattle.part.specs.Trusted.Sound.{Sound}
 use Rattle.part.specs.SoundLaws.{sound_reflects}
@@ -21,7 +21,7 @@ use Rattle.part.proofs.WayLaws.{reading_right, number_unique, chosen_added, chos
 use Rattle.part.specs.Trusted.Answers.{Answer, accepted, refused}
 use Rattle.part.specs.Trusted.Add.{is_driven, net_read, Refused, Accepted, Take, Add}
 use Rattle.part.specs.Trusted.Nets.{Driven, Read}
-use Rattle.part.specs.ExtendLaws.{extended_shaped, extended_sound}
+use Rattle.part.specs.ExtendLaws.{extended_records, extended_shaped, extended_sound}
 use Rattle.part.specs.declared.Part.{Part}
 
 -- ---- adding
@@ -80,6 +80,25 @@ module _ (w : Way) (p : Part) (text : List ℕ) (q : Part) (a : Answer) where
           (λ l t. taken s h e (fresh s (tables_of p) d r) t (room h s o.0 o.1 l t))
           (λ l. full s o.0 h e (fresh s (tables_of p) d r) o.1 (omega arith)) o.2))
 
+-- an add keeps soundness, and how many records there are
+module _ (p : Part) (records : length p.tables ≡ table_room) where
+  pub add_sound : {w : Way} {text : List ℕ} {q : Part} {a : Answer} → AddCase w p text q a → Sound p → Sound q
+  add_sound (unsound n r) g = subst Sound (sym r.0) g
+  add_sound (misread number place h e r) g = subst Sound (sym r.0) g
+  add_sound (driven s h e d r) g = subst Sound (sym r.0) g
+  add_sound (read s h e d i r) g = subst Sound (sym r.0) g
+  add_sound (full s n h e f l m r) g = subst Sound (sym r.0) g
+  add_sound {w} {text} (taken s h e f t room) g =
+      subst Sound (sym t.part) (extended_sound p records h t.new s (reading_right w text s e).legal (chosen_added w p s t.new t.chosen) f room)
+
+  pub add_records : {w : Way} {text : List ℕ} {q : Part} {a : Answer} → AddCase w p text q a → length q.tables ≡ table_room
+  add_records (unsound n r) = ap (λ q. length q.tables) r.0 ∙ records
+  add_records (misread number place h e r) = ap (λ q. length q.tables) r.0 ∙ records
+  add_records (driven s h e d r) = ap (λ q. length q.tables) r.0 ∙ records
+  add_records (read s h e d i r) = ap (λ q. length q.tables) r.0 ∙ records
+  add_records (full s n h e f l m r) = ap (λ q. length q.tables) r.0 ∙ records
+  add_records (taken s h e f t room) = ap (λ q. length q.tables) t.part ∙ extended_records p records h t.new (omega (arith, room))
+
 module _ (p : Part) (shape : Shaped p) where
   pub same_kept : (q : Part) → q ≡ p → Kept p q
   same_kept q e = subst (λ q. Kept p q) (sym e) (record { same_k = refl; same_capacity = refl; shaped = shape; sound = λ h. h })
@@ -93,8 +112,8 @@ module _ (p : Part) (shape : Shaped p) where
   kept {w} {text} (taken s h e f t room) = subst (λ q. Kept p q) (sym t.part) (record {
     same_k = refl;
     same_capacity = refl;
-    shaped = extended_shaped p shape h t.new (omega (arith, room)) narrow;
-    sound = λ g. extended_sound p shape h t.new s (reading_right w text s e).legal added f room;
+    shaped = extended_shaped p shape.records h t.new shape (omega (arith, room)) narrow;
+    sound = λ g. extended_sound p shape.records h t.new s (reading_right w text s e).legal added f room;
   })
     where
       added : CoverTables code_base p.k (tables_of p) t.new s

@@ -1,5 +1,5 @@
 -- Reserving, committing and withdrawing: what the functions hand over keeps the promise.
-use Rattle.std.specs.Prelude.{ℕ, ◌+◌, ◌-◌, ◌≤◌, ◌≡◌, ◌≢◌, true, false, List, [], ◌∷◌, eqb, length}
+use Rattle.std.specs.Prelude.{ℕ, ◌+◌, ◌-◌, ◌≤◌, ◌≡◌, ◌≢◌, true, false, List, [], ◌∷◌, length}
 use Rattle.std.proofs.Common.{arith, sym, ap, subst, ne_eqb}
 use Rattle.std.proofs.Math.Path.{refl}
 use Rattle.std.proofs.Math.Bool.{not}
@@ -30,12 +30,6 @@ use Rattle.part.specs.declared.Part.{Part}
 
 pub open_reflects : (p : Part) → Reflects (reservation_open p) (p.reservation.count ≢ 0)
 open_reflects p = reflects_not (reflects_eq p.reservation.count 0)
-
-pub not_open : (p : Part) → p.reservation.count ≡ 0 → reservation_open p ≡ false
-not_open p e = ap (λ n. not (eqb n 0)) e
-
-pub is_open : (p : Part) → p.reservation.count ≢ 0 → reservation_open p ≡ true
-is_open p n = ap not (ne_eqb p.reservation.count 0 n)
 
 -- ---- a part with its reservation closed
 
@@ -87,13 +81,13 @@ module _ (p : Part) (text : List ℕ) where
   reserve_unsound e = rw e refl
 
   module _ (h : sound p ≡ true) where
-    pub reserve_open : p.reservation.count ≢ 0 → Reserve p text (turned_away p 35)
+    pub reserve_open : reservation_open p ≡ true → Reserve p text (turned_away p 35)
     unfolding Reserve
-    reserve_open n = rw h (rw (is_open p n) refl)
+    reserve_open e = rw h (rw e refl)
 
-    pub reserve_tried : p.reservation.count ≡ 0 → (q : Part) (a : Answer) → Reserves least p text q a → Reserve p text (reserving_sheet least text p q a)
+    pub reserve_tried : reservation_open p ≡ false → (q : Part) (a : Answer) → Reserves least p text q a → Reserve p text (reserving_sheet least text p q a)
     unfolding Reserve
-    reserve_tried e q a g = rw h (rw (not_open p e) (g, refl))
+    reserve_tried e q a g = rw h (rw e (g, refl))
 
 -- ---- committing
 
@@ -103,13 +97,13 @@ module _ (p : Part) (text : List ℕ) where
   commit_unsound e = rw e refl
 
   module _ (h : sound p ≡ true) where
-    pub commit_closed : p.reservation.count ≡ 0 → Commit p text (turned_away p 36)
+    pub commit_closed : reservation_open p ≡ false → Commit p text (turned_away p 36)
     unfolding Commit
-    commit_closed e = rw h (rw (not_open p e) refl)
+    commit_closed e = rw h (rw e refl)
 
-    pub commit_tried : p.reservation.count ≢ 0 → (r : CallResult) → Committed p text r → Commit p text r
+    pub commit_tried : reservation_open p ≡ true → (r : CallResult) → Committed p text r → Commit p text r
     unfolding Commit
-    commit_tried n r c = rw h (rw (is_open p n) c)
+    commit_tried e r c = rw h (rw e c)
 
   -- the result of one sheet on the part with its reservation closed
   abbrev pub commit_sheet : Part → Part → Answer → CallResult
@@ -145,10 +139,10 @@ module _ (p : Part) where
   withdraw_unsound e = rw e
 
   module _ (h : sound p ≡ true) where
-    pub withdraw_closed : p.reservation.count ≡ 0 → turned_away p 36 ≡ withdrawn p
+    pub withdraw_closed : reservation_open p ≡ false → turned_away p 36 ≡ withdrawn p
     unfolding withdrawn
-    withdraw_closed e = rw (h, not_open p e)
+    withdraw_closed e = rw (h, e)
 
-    pub withdraw_open : p.reservation.count ≢ 0 → record { part = released p; answer = accepted; position = 0; tries = [] } ≡ withdrawn p
+    pub withdraw_open : reservation_open p ≡ true → record { part = released p; answer = accepted; position = 0; tries = [] } ≡ withdrawn p
     unfolding withdrawn
-    withdraw_open n = rw (h, is_open p n)
+    withdraw_open e = rw (h, e)

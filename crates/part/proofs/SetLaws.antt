@@ -1,6 +1,6 @@
 -- Adding the sheets of a set in turn: what is known before each, and at the end; and that adding a set keeps soundness, the shape, K and the
 -- capacity.
-use Rattle.std.specs.Prelude.{ℕ, ◌+◌, ◌≤◌, ◌<◌, ◌≡◌, true, false, List, [], ◌∷◌, length, get_or, take, drop}
+use Rattle.std.specs.Prelude.{ℕ, ◌+◌, ◌≤◌, ◌<◌, ◌≡◌, true, false, List, [], ◌∷◌, length, get_or, take, drop, Result, Ok, Err}
 use Rattle.std.proofs.Common.{add-one, arith, ap, ◌∙◌, subst, drop-drop}
 use Rattle.std.proofs.Math.Path.{refl}
 use Rattle.lists.specs.ListLaws.{drop_past}
@@ -9,6 +9,7 @@ use Rattle.lists.specs.TestLaws.{by_either}
 use Rattle.sheet.specs.Trusted.Answers.{number_of}
 use Rattle.set_lengths.specs.Trusted.Lengths.{Whole, is_whole, cut}
 use Rattle.set_lengths.specs.LengthLaws.{whole_reflects, lengths_next, sum_next}
+use Rattle.table.specs.Trusted.Limits.{table_room}
 use Rattle.part.specs.Trusted.Parts.{Shaped}
 use Rattle.part.specs.Trusted.Sound.{Sound}
 use Rattle.part.specs.Trusted.SoundTest.{sound}
@@ -16,16 +17,16 @@ use Rattle.part.specs.SoundLaws.{sound_reflects}
 use Rattle.part.specs.Trusted.Ways.{least}
 use Rattle.part.specs.Trusted.Answers.{accepted, refused}
 use Rattle.part.specs.Trusted.Add.{Add}
-use Rattle.part.specs.Trusted.AddAnswers.{adding_answer}
+use Rattle.part.specs.Trusted.AddAnswers.{add_refusal}
 use Rattle.part.specs.Trusted.Tries.{Try, CallResult}
 use Rattle.part.specs.Trusted.Sets.{member, InTurn, all, next, stop, turned_away, AddSet}
 use Rattle.part.specs.Trusted.SetAnswers.{set_result, Positioned}
-use Rattle.part.proofs.AddLaws.{add_case, Kept, kept_trans, same_kept, kept}
+use Rattle.part.proofs.AddLaws.{add_case, add_sound, add_records, Kept, kept_trans, same_kept, kept}
 use Rattle.part.specs.declared.Part.{Part}
-use Rattle.part.specs.declared.Adding.{Adding}
-use Rattle.part.specs.declared.Adding.TheVariants.{Accepted as Added, Unsound, Misread, OutputDriven, OutputRead, Full, AlreadyReserved, NotReserved}
-use Rattle.part.specs.declared.SetAdded.{SetAdded}
-use Rattle.part.specs.declared.SetAdding.TheVariants.{Accepted, SheetRefused}
+use Rattle.part.specs.declared.AddError.{AddError}
+use Rattle.part.specs.declared.AddError.TheVariants.{Unsound, Misread, OutputDriven, OutputRead, Full, AlreadyReserved, NotReserved}
+use Rattle.part.specs.declared.SetError.{SetError}
+use Rattle.part.specs.declared.SetError.TheVariants.{SheetRefused}
 
 -- ---- the texts from one on
 
@@ -37,38 +38,34 @@ cut_next lengths i l text at =
 
 -- ---- the sheets in turn
 
--- an answer other than that the sheet was added is a refusal
-pub refusal : (a : Adding) → (a ≡ Added → ⊥) → (number : ℕ) × (place : ℕ) × (adding_answer a ≡ refused number place)
-refusal Added d = absurd (d refl)
-refusal Unsound d = (20, 0, refl)
-refusal (Misread why line) d = (number_of why, line, refl)
-refusal OutputDriven d = (21, 0, refl)
-refusal OutputRead d = (22, 0, refl)
-refusal Full d = (23, 0, refl)
-refusal AlreadyReserved d = (35, 0, refl)
-refusal NotReserved d = (36, 0, refl)
+-- each refusal has a number and a place
+pub refusal : (why : AddError) → (number : ℕ) × (place : ℕ) × (add_refusal why ≡ refused number place)
+refusal Unsound = (20, 0, refl)
+refusal (Misread error) = (number_of error.why, error.line, refl)
+refusal OutputDriven = (21, 0, refl)
+refusal OutputRead = (22, 0, refl)
+refusal Full = (23, 0, refl)
+refusal AlreadyReserved = (35, 0, refl)
+refusal NotReserved = (36, 0, refl)
 
--- what the code hands back is what comes of the sheets from position i on, the first on the part p, for some sheets that were tried
-abbrev Turns : (o : Part) (i : ℕ) (texts : List (List ℕ)) (p : Part) → SetAdded → Type 0
-Turns o i texts p r = (ts : List Try) × InTurn o i texts p (set_result r ts)
+-- what the code leaves and answers is what comes of the sheets from position i on, the first on the part p, for some sheets that were tried
+abbrev Turns : (o : Part) (i : ℕ) (texts : List (List ℕ)) (p : Part) → Part → Result (Unit {0}) SetError → Type 0
+Turns o i texts p q r = (ts : List Try) × InTurn o i texts p (set_result q r ts)
 
--- what it hands back at the end
-abbrev pub SetEnded : (o : Part) (lengths text : List ℕ) → SetAdded → Type 0
-SetEnded o lengths text r = (ts : List Try) × InTurn o 1 (cut lengths text) o (set_result r ts) × Positioned r.answer
+-- what it leaves and answers at the end
+abbrev pub SetEnded : (o : Part) (lengths text : List ℕ) → Part → Result (Unit {0}) SetError → Type 0
+SetEnded o lengths text q r = (ts : List Try) × InTurn o 1 (cut lengths text) o (set_result q r ts) × Positioned r
 
 -- the first i sheets were added, up to the place of the text: what comes of the rest is what comes of all
 pub record SetSoFar (o : Part) (lengths text : List ℕ) (p : Part) (i at : ℕ) : Type 0 where
-  pub shaped : Shaped p
+  pub records : length p.tables ≡ table_room
   pub sound : Sound p
   pub left : at + sum (λ n. n) (drop i lengths) ≡ length text
-  pub whole : (r : SetAdded) → Turns o (i + 1) (cut (drop i lengths) (drop at text)) p r → Turns o 1 (cut lengths text) o r
-
-pub set_start : (o : Part) (lengths text : List ℕ) → Shaped o → Sound o → Whole lengths (length text) → SetSoFar o lengths text o 0 0
-set_start o lengths text shape s w = record { shaped = shape; sound = s; left = omega (arith, w.add_up); whole = λ r t. t }
+  pub whole : (q : Part) (r : Result (Unit {0}) SetError) → Turns o (i + 1) (cut (drop i lengths) (drop at text)) p q r → Turns o 1 (cut lengths text) o q r
 
 module _ {o : Part} {lengths text : List ℕ} {p : Part} {i at : ℕ} (h : SetSoFar o lengths text p i at) where
-  pub set_all : length lengths ≤ i → SetEnded o lengths text (record { part = p; answer = Accepted })
-  set_all l = let t = h.whole (record { part = p; answer = Accepted }) ([], rw (drop_past i lengths l) all) in (t.0, t.1, tt)
+  pub set_all : length lengths ≤ i → SetEnded o lengths text p (Ok tt)
+  set_all l = let t = h.whole p (Ok tt) ([], rw (drop_past i lengths l) all) in (t.0, t.1, tt)
 
   module _ (l : i < length lengths) where
     pub set_room : at + get_or lengths i 0 ≤ length text
@@ -77,26 +74,25 @@ module _ {o : Part} {lengths text : List ℕ} {p : Part} {i at : ℕ} (h : SetSo
     abbrev sheet : List ℕ
     sheet = take (get_or lengths i 0) (drop at text)
 
-    module _ (q : Part) (a : Adding) (g : Add least p sheet q (adding_answer a)) where
-      pub set_stop : (a ≡ Added → ⊥) → SetEnded o lengths text (record { part = o; answer = SheetRefused a (i + 1) })
-      set_stop d =
-          let (number, place, e) = refusal a d in
-          let t = h.whole (record { part = o; answer = SheetRefused a (i + 1) })
-          (member sheet p q (refused number place) ∷ [], rw (cut_next lengths i l text at, e) (stop (subst (Add least p sheet q) e g))) in
-          (t.0, t.1, omega arith)
+    pub set_stop : (q : Part) (why : AddError) → Add least p sheet q (add_refusal why) → SetEnded o lengths text o (Err (SheetRefused why (i + 1)))
+    set_stop q why g =
+        let (number, place, e) = refusal why in
+        let t = h.whole o (Err (SheetRefused why (i + 1)))
+        (member sheet p q (refused number place) ∷ [], rw (cut_next lengths i l text at, e) (stop (subst (Add least p sheet q) e g))) in
+        (t.0, t.1, omega arith)
 
-      pub set_more : a ≡ Added → SetSoFar o lengths text q (i + 1) (at + get_or lengths i 0)
-      set_more e =
-          let k = kept p h.shaped (add_case least p sheet q (adding_answer a) g) in
-          record {
-            shaped = k.shaped;
-            sound = k.sound h.sound;
-            left = omega (arith, h.left, sum_next lengths i l);
-            whole = λ r t. h.whole r (
-              member sheet p q accepted ∷ t.0,
-              rw (cut_next lengths i l text at) (next (subst (λ b. Add least p sheet q (adding_answer b)) e g) (rw (add-one (i + 1)) at t.1)),
-            );
-          }
+    pub set_more : (q : Part) → Add least p sheet q accepted → SetSoFar o lengths text q (i + 1) (at + get_or lengths i 0)
+    set_more q g =
+        let f = add_case least p sheet q accepted g in
+        record {
+          records = add_records p h.records f;
+          sound = add_sound p h.records f h.sound;
+          left = omega (arith, h.left, sum_next lengths i l);
+          whole = λ s r t. h.whole s r (
+            member sheet p q accepted ∷ t.0,
+            rw (cut_next lengths i l text at) (next g (rw (add-one (i + 1)) at t.1)),
+          );
+        }
 
 -- ---- 20, 33, and the sheets
 

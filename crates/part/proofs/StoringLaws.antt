@@ -1,5 +1,5 @@
 -- The tests of an output net over the records in use; and the mapping's records as a sheet's tables.
-use Rattle.std.specs.Prelude.{ℕ, ◌+◌, ◌≤◌, ◌<◌, ◌≡◌, refl, Bool, true, false, ◌||◌, List, [], ◌∷◌, ◌++◌, map, eqb, length, get_or, take, drop, replicate, Result}
+use Rattle.std.specs.Prelude.{ℕ, ◌+◌, ◌≤◌, ◌<◌, ◌≡◌, refl, Bool, true, false, ◌||◌, List, [], ◌∷◌, ◌++◌, map, eqb, length, get_or, take, drop, replicate, Option, Some, None, Ok, Err, ok_or, MatchOption}
 use Rattle.std.proofs.Common.{arith, add-one, sym, ap, ap₂, ◌∙◌, subst, ⊎_elim, append_assoc, le-leb, length-append, take-suc, length-take-le, get_or-take}
 use Rattle.std.proofs.Math.Bool.{or_assoc, or-false}
 use Rattle.std.proofs.lemmas.Bool.{lt-leb}
@@ -21,17 +21,16 @@ use Rattle.levels.specs.Trusted.LevelTables.{FastestCoverTables}
 use Rattle.levels.proofs.SameLaws.{split_level, fastest_same}
 use Rattle.sheet.specs.Trusted.Sheet.{DrawnSheet}
 use Rattle.sheet.specs.declared.Sheet.{Sheet as CodeSheet}
-use Rattle.sheet.specs.declared.SheetError.{SheetError}
 use Rattle.sheet.specs.Trusted.Read.{read_sheet}
-use Rattle.sheet.specs.Trusted.Answers.{drawn_sheet, outcome}
+use Rattle.sheet.specs.Trusted.Answers.{drawn_sheet}
 use Rattle.sheet.specs.Trusted.Formed.{WellFormed}
-use Rattle.sheet.specs.Trusted.Promise.{SheetRead}
 use Rattle.joined.specs.Trusted.Covered.{covered}
 use Rattle.table.specs.declared.Table.{Table}
 use Rattle.table.specs.Trusted.Limits.{table_room}
 use Rattle.table.specs.Trusted.Records.{reads, table_of, record_of, blank}
 use Rattle.table.specs.RecordLaws.{after_length, after_at}
 use Rattle.table.specs.Trusted.Rules.{Padded}
+use Rattle.table.specs.ResultLaws.{says_true}
 use Rattle.table.specs.LevelTest.{level_in, noted, LevelsStand}
 use Rattle.table.specs.LevelTestLaws.{level_stands, levels_next}
 use Rattle.table.specs.LoopLaws.{take_next, take_none}
@@ -45,7 +44,7 @@ use Rattle.level_sheets.specs.Lined.{net_level}
 use Rattle.level_mapping.specs.FastMapping.{LevelsLow}
 use Rattle.joined_mapper.specs.JoinedMap.{circuit_of, JoinedMapped}
 use Rattle.joined_level_mapper.specs.JoinedFast.{JoinedFast}
-use Rattle.part.specs.Trusted.Parts.{in_use, tables_of, available, Shaped}
+use Rattle.part.specs.Trusted.Parts.{in_use, tables_of, available}
 use Rattle.part.specs.Trusted.Sound.{Sound}
 use Rattle.part.specs.Trusted.SoundTest.{sound}
 use Rattle.part.specs.SoundLaws.{sound_reflects, used_count}
@@ -54,12 +53,9 @@ use Rattle.part.specs.Trusted.Answers.{Answer, accepted, refused}
 use Rattle.part.specs.Trusted.Ways.{Way, least, fastest, reading, NumberBy}
 use Rattle.part.proofs.WayLaws.{chosen_number}
 use Rattle.part.specs.Trusted.Add.{extended, is_driven, net_read, Fill, Offer, Add}
-use Rattle.part.specs.Trusted.AddAnswers.{adding_answer}
 use Rattle.part.specs.ExtendedLaws.{extended_tables}
-use Rattle.part.specs.Storing.{new_tables, new_records, stored, Storable, Offered}
+use Rattle.part.specs.Storing.{new_tables, new_records, stored, Storable, Offered, MappedBy}
 use Rattle.part.specs.declared.Part.{Part}
-use Rattle.part.specs.declared.Adding.{Adding}
-use Rattle.part.specs.declared.Added.{Added}
 use Rattle.part_records.specs.declared.Uses.{Uses}
 use Rattle.part_records.specs.Uses.{with_table}
 
@@ -98,18 +94,9 @@ module _ {p : Part} {n i : ℕ} {u : Uses} (h : Looked p n i u) (room : p.used �
       none : (b : Bool) (f : Table → Bool) → (b || any f (drop i (in_use p))) ≡ b
       none b f = ap (λ rs. b || any f rs) (take_none p.tables p.used i room l) ∙ or-false b
 
--- ---- 21 and 22
-
-module _ (p : Part) (out : ℕ) (m : Mapping) where
-  pub offer_driven : is_driven out (tables_of p) ≡ true → Offered p out m p (refused 21 0)
-  offer_driven d w s o c = rw (ap (λ n. is_driven n (tables_of p)) o ∙ d) (refl, refl)
-
-  pub offer_read : is_driven out (tables_of p) ≡ false → net_read out (tables_of p) ≡ true → Offered p out m p (refused 22 0)
-  offer_read d r w s o c = rw (ap (λ n. is_driven n (tables_of p)) o ∙ d) (rw (ap (λ n. net_read n (tables_of p)) o ∙ r) (refl, refl))
-
 -- ---- 23, and the mapping's records stored
 
-module _ (p : Part) (shape : Shaped p) (h : Sound p) (out : ℕ) (m : Mapping) (g : Storable out m) where
+module _ (p : Part) (records : length p.tables ≡ table_room) (h : Sound p) (out : ℕ) (m : Mapping) (g : Storable out m) where
   abbrev new : List LookupTable
   new = new_tables m
 
@@ -123,7 +110,7 @@ module _ (p : Part) (shape : Shaped p) (h : Sound p) (out : ℕ) (m : Mapping) (
   new_room = after_length (tables_of p) new ∙ new_count
 
   old_count : length (tables_of p) ≡ p.used
-  old_count = length-map (in_use p) table_of ∙ used_count p shape h
+  old_count = length-map (in_use p) table_of ∙ used_count p records h
 
   -- ONE MORE RECORD is stored: the levels of the codes before it give its level
   module _ (levels : List ℕ) (n : ℕ) (l : n < m.count) (st : LevelsStand levels (tables_of p ++ take n new)) where
@@ -176,7 +163,7 @@ module _ (p : Part) (shape : Shaped p) (h : Sound p) (out : ℕ) (m : Mapping) (
   -- the levels stand for the tables of the part that is stored
   pub levels_stored : (levels : List ℕ) → LevelsStand levels (tables_of p ++ take m.count new) → LevelsStand levels (tables_of (stored p m))
   levels_stored levels st =
-      subst (LevelsStand levels) (sym (ap tables_of stored_extended ∙ extended_tables p shape h new))
+      subst (LevelsStand levels) (sym (ap tables_of stored_extended ∙ extended_tables p records h new))
       (subst (λ ts. LevelsStand levels (tables_of p ++ ts)) (ap (λ n. take n new) (sym new_count) ∙ take-length new) st)
 
   module _ (d : is_driven out (tables_of p) ≡ false) (r : net_read out (tables_of p) ≡ false) where
@@ -221,13 +208,11 @@ module _ (K used : ℕ) (s : CodeSheet) (m : Mapping) (j : JoinedMapped K used s
   mapped_least : (old : List LookupTable) → length old ≡ used → LeastCoverTables code_base K old (new_tables m) (circuit_of s)
   mapped_least old e = subst (LeastCoverTables code_base K old (new_tables m)) j.covers (j.mapped.least old e)
 
-  pub mapped_storable : WellFormed (drawn_sheet s) → Storable s.out m
-  mapped_storable = cover_storable K used s m j.mapped.room j.mapped.few j.mapped.kept (λ old e. (mapped_least old e).added)
-
--- so an offer of it is one of the sheet
-pub mapped_offered : (p : Part) (s : CodeSheet) (m : Mapping) → JoinedMapped p.k p.used s m → (q : Part) (a : Answer) → Offered p s.out m q a →
-    Offer least p (circuit_of s) q a
-mapped_offered p s m j q a o = o least (circuit_of s) refl (mapped_least p.k p.used s m j (tables_of p))
+pub least_mapped : (p : Part) (s : CodeSheet) (m : Mapping) → WellFormed (drawn_sheet s) → JoinedMapped p.k p.used s m → MappedBy least p s m
+least_mapped p s m w j = record {
+  storable = cover_storable p.k p.used s m j.mapped.room j.mapped.few j.mapped.kept (λ old e. (mapped_least p.k p.used s m j old e).added) w;
+  chosen = mapped_least p.k p.used s m j (tables_of p);
+}
 
 -- in the way `fastest`: by the levels of the part's codes, none of which is high
 pub levels_low : {levels : List ℕ} {ts : List LookupTable} → LevelsStand levels ts → LevelsLow levels
@@ -239,9 +224,6 @@ module _ (K used : ℕ) (levels : List ℕ) (s : CodeSheet) (m : Mapping) (j : J
   fast_cover old e =
       subst (λ u. (c : CoverTables code_base K old (new_tables m) u) × Fastest (net_level levels) K u.tree m.count (coverLevel (net_level levels) c.cover)) j.covers
       (j.mapped.fastest old e)
-
-  pub fast_storable : WellFormed (drawn_sheet s) → Storable s.out m
-  fast_storable = cover_storable K used s m j.mapped.room j.mapped.few j.mapped.kept (λ old e. (fast_cover old e).0)
 
   -- its tables are those of a cover with the least root level, and of those one of the fewest tables
   fast_tables : (old : List LookupTable) → length old ≡ used → LevelsStand levels old → FastestCoverTables code_base K old (new_tables m) (circuit_of s)
@@ -256,18 +238,12 @@ module _ (K used : ℕ) (levels : List ℕ) (s : CodeSheet) (m : Mapping) (j : J
             (subst (Fastest (code_levels code_base old) K (circuit_of s).tree m.count) (split_level (net_level levels) (code_levels code_base old) c.covers.split (same _)) (fastest_same (same _) f));
       }
 
-pub fast_offered : (p : Part) (levels : List ℕ) → LevelsStand levels (tables_of p) → (s : CodeSheet) (m : Mapping) → JoinedFast p.k p.used (net_level levels) s m → (q : Part) (a : Answer) →
-    Offered p s.out m q a → Offer fastest p (circuit_of s) q a
-fast_offered p levels l s m j q a o = o fastest (circuit_of s) refl (λ e. fast_tables p.k p.used levels s m j (tables_of p) e l)
-
--- ---- a result as the part and the answer that it holds
-
-module _ (r : Added) (q : Part) (a : Adding) (e : r ≡ record { part = q; answer = a }) where
-  pub offer_same : (p : Part) (out : ℕ) (m : Mapping) → Offered p out m q (adding_answer a) → Offered p out m r.part (adding_answer r.answer)
-  offer_same p out m = subst (λ x. Offered p out m x.part (adding_answer x.answer)) (sym e)
-
-  pub add_same : (w : Way) (p : Part) (text : List ℕ) → Add w p text q (adding_answer a) → Add w p text r.part (adding_answer r.answer)
-  add_same w p text = subst (λ x. Add w p text x.part (adding_answer x.answer)) (sym e)
+pub fastest_mapped : (p : Part) (levels : List ℕ) → LevelsStand levels (tables_of p) → (s : CodeSheet) (m : Mapping) → WellFormed (drawn_sheet s) →
+    JoinedFast p.k p.used (net_level levels) s m → MappedBy fastest p s m
+fastest_mapped p levels l s m w j = record {
+  storable = cover_storable p.k p.used s m j.mapped.room j.mapped.few j.mapped.kept (λ old e. (fast_cover p.k p.used levels s m j old e).0) w;
+  chosen = λ e. fast_tables p.k p.used levels s m j (tables_of p) e l;
+}
 
 -- ---- 20, the sheet's refusals, and a sheet that was read
 
@@ -296,6 +272,21 @@ module _ (w : Way) (p : Part) (text : List ℕ) where
     unfolding Add
     add_offered s e q a o = rw (reflects_true (sound_reflects p) h, reading_passed w text s e) o
 
--- what the code read
-pub reading_is : (text : List ℕ) (r : Result CodeSheet SheetError) → SheetRead text r → {s : Result CodeSheet SheetError} → r ≡ s → read_sheet text ≡ outcome s
-reading_is text r h i = sym h ∙ ap outcome i
+-- ---- the levels of a part, where it is sound
+
+module _ {E : Type 0} (p : Part) (o : Option (List ℕ)) (h : MatchOption o (sound p ≡ false) (λ levels. (sound p ≡ true) × LevelsStand levels (tables_of p))) (e : E) where
+  pub levels_refused : (d : E) → ok_or o e ≡ Err d → (sound p ≡ false) × (d ≡ e)
+  levels_refused d i = of o h i
+    where
+      of : (o : Option (List ℕ)) → MatchOption o (sound p ≡ false) (λ levels. (sound p ≡ true) × LevelsStand levels (tables_of p)) → ok_or o e ≡ Err d →
+          (sound p ≡ false) × (d ≡ e)
+      of None g i = (g, cc)
+      of (Some levels) g i = let z : ◌≡◌ {A = ℕ} 0 1 = cc in absurd (omega arith)
+
+  pub levels_given : (levels : List ℕ) → ok_or o e ≡ Ok levels → (sound p ≡ true) × Sound p × LevelsStand levels (tables_of p)
+  levels_given levels i = of o h i
+    where
+      of : (o : Option (List ℕ)) → MatchOption o (sound p ≡ false) (λ levels. (sound p ≡ true) × LevelsStand levels (tables_of p)) → ok_or o e ≡ Ok levels →
+          (sound p ≡ true) × Sound p × LevelsStand levels (tables_of p)
+      of None g i = let z : ◌≡◌ {A = ℕ} 0 1 = cc in absurd (omega arith)
+      of (Some l) g i = let k : l ≡ levels = cc in (g.0, says_true (sound_reflects p) g.0, subst (λ l. LevelsStand l (tables_of p)) k g.1)

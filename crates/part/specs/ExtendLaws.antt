@@ -16,7 +16,7 @@ use Rattle.cover.specs.Trusted.Placed.{root_number}
 use Rattle.cover.specs.Trusted.CoverTables.{Circuit, CoverTables, Fresh}
 use Rattle.cover.specs.Legal.{Legal}
 use Rattle.cover.proofs.CoverTableLaws.{added_sized, added_rising, added_tidy, added_inputs, added_drives}
-use Rattle.table.specs.Trusted.Limits.{input_room}
+use Rattle.table.specs.Trusted.Limits.{input_room, table_room}
 use Rattle.table.specs.Trusted.Records.{table_of, record_of, records_after}
 use Rattle.table.specs.RecordLaws.{read_back, every_record, after_back, after_levels}
 use Rattle.table.specs.Trusted.Rules.{Padded, Coded, Sized, Sourced, DrivenOnce, ReadAfter, EveryTwo, places}
@@ -130,14 +130,19 @@ module _ (k : ℕ) (old : List Table) (new : List LookupTable) (s : Circuit) (le
 
 -- ---- the part
 
-module _ (p : Part) (shape : Shaped p) (h : Sound p) (new : List LookupTable) where
+module _ (p : Part) (records : length p.tables ≡ table_room) (h : Sound p) (new : List LookupTable) where
   extended_rest : drop (extended p new).used (extended p new).tables ≡ drop (p.used + length new) p.tables
-  extended_rest = drop_at (in_use p ++ records_after (tables_of p) new) (drop (p.used + length new) p.tables) (p.used + length new) (front_length p shape h new)
+  extended_rest = drop_at (in_use p ++ records_after (tables_of p) new) (drop (p.used + length new) p.tables) (p.used + length new) (front_length p records h new)
 
-  pub extended_shaped : p.used + length new ≤ p.capacity → Every (λ t. length t.inputs ≤ input_room) new → Shaped (extended p new)
-  extended_shaped room w = record {
-    records = length-append (in_use p ++ records_after (tables_of p) new) (drop (p.used + length new) p.tables)
-        ∙ omega (arith, front_length p shape h new, length-drop (p.used + length new) p.tables, shape.records, h.capacity_range.1, room);
+  -- it has as many records
+  pub extended_records : p.used + length new ≤ p.capacity → length (extended p new).tables ≡ table_room
+  extended_records room =
+      length-append (in_use p ++ records_after (tables_of p) new) (drop (p.used + length new) p.tables)
+      ∙ omega (arith, front_length p records h new, length-drop (p.used + length new) p.tables, records, h.capacity_range.1, room)
+
+  pub extended_shaped : Shaped p → p.used + length new ≤ p.capacity → Every (λ t. length t.inputs ≤ input_room) new → Shaped (extended p new)
+  extended_shaped shape room w = record {
+    records = extended_records room;
     inputs = every_append (in_use p ++ records_after (tables_of p) new) (drop (p.used + length new) p.tables)
         (every_append (in_use p) (records_after (tables_of p) new) (every_take p.used p.tables shape.inputs)
         (every_record (λ r. length r.inputs ≡ input_room) (levels_after code_base (tables_of p) new) new (λ t m l. record_room t l (w t m))))
@@ -151,6 +156,6 @@ module _ (p : Part) (shape : Shaped p) (h : Sound p) (new : List LookupTable) wh
     capacity_range = h.capacity_range;
     used_fits = omega (arith, room);
     rest_blank = rw extended_rest (rw drop-drop at (every_drop (length new) (drop p.used p.tables) h.rest_blank));
-    rules = rw (extended_in_use p shape h new) (rules_append p.k (in_use p) (records_after (tables_of p) new) h.rules (added_follows p.k (in_use p) new s l a f));
+    rules = rw (extended_in_use p records h new) (rules_append p.k (in_use p) (records_after (tables_of p) new) h.rules (added_follows p.k (in_use p) new s l a f));
     reservation = record { fits = omega (arith, room); both = h.reservation.both; range = h.reservation.range };
   }

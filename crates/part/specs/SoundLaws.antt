@@ -3,11 +3,12 @@ use Rattle.std.specs.Prelude.{◌-◌, ◌≤◌, ◌≡◌, length, drop}
 use Rattle.std.proofs.Common.{arith, length-take, length-take-le}
 use Rattle.lists.specs.TestLaws.{reflects_le, reflects_map, reflects_and, reflects_all}
 use Rattle.lists.specs.Trusted.Tests.{Reflects}
+use Rattle.table.specs.Trusted.Limits.{table_room}
 use Rattle.table.specs.Trusted.RecordTest.{is_blank}
 use Rattle.table.specs.TestedLaws.{blank_reflects, none_reflects}
 use Rattle.part_records.specs.ReservationLaws.{reservation_reflects}
 use Rattle.part.specs.declared.Part.{Part}
-use Rattle.part.specs.Trusted.Parts.{in_use, Shaped}
+use Rattle.part.specs.Trusted.Parts.{in_use}
 use Rattle.part.specs.Trusted.Sound.{Sound}
 use Rattle.part.specs.Trusted.SoundTest.{sound}
 
@@ -23,7 +24,7 @@ sound_reflects p =
     (reflects_and (reflects_all is_blank blank_reflects (drop p.used p.tables)) (reservation_reflects (p.capacity - p.used) p.reservation))))
 
 -- the used count of a sound part is the number of its records in use
-pub used_count : (p : Part) → Shaped p → Sound p → length (in_use p) ≡ p.used
-used_count p shape h =
-    let l : p.used ≤ length p.tables = omega (arith, h.used_fits, h.capacity_range.1, shape.records) in
+pub used_count : (p : Part) → length p.tables ≡ table_room → Sound p → length (in_use p) ≡ p.used
+used_count p room h =
+    let l : p.used ≤ length p.tables = omega (arith, h.used_fits, h.capacity_range.1, room) in
     length-take-le p.used p.tables l

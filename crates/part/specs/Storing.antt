@@ -5,6 +5,7 @@ use Rattle.lists.specs.Trusted.Lists.{Every}
 use Rattle.tree.specs.Trusted.Limits.{greatest_net}
 use Rattle.cover.specs.Trusted.Tables.{LookupTable}
 use Rattle.cover.specs.Trusted.CoverTables.{Circuit}
+use Rattle.sheet.specs.declared.Sheet.{Sheet}
 use Rattle.table.specs.declared.Table.{Table}
 use Rattle.table.specs.Trusted.Records.{records_after}
 use Rattle.table.specs.Trusted.Rules.{IsNet}
@@ -16,6 +17,7 @@ use Rattle.part.specs.Trusted.Ways.{Way, Chosen}
 use Rattle.part.specs.Trusted.Answers.{Answer}
 use Rattle.part.specs.Trusted.Add.{Offer}
 use Rattle.mapper_laws.specs.declared.Mapping.{Mapping}
+use Rattle.joined_mapper.specs.JoinedMap.{circuit_of}
 use Rattle.part.specs.declared.Part.{Part}
 
 -- the mapping's tables, and their records after those in use
@@ -41,3 +43,8 @@ pub record Storable (out : ℕ) (m : Mapping) : Type 0 where
 -- part, it is 21, 22 and 23 of an add
 abbrev pub Offered : Part → ℕ → Mapping → Part → Answer → Type 0
 Offered p out m q a = (w : Way) (s : Circuit) → s.out ≡ out → (length (tables_of p) ≡ p.used → Chosen w p s (new_tables m)) → Offer w p s q a
+
+-- THE PROMISE OF MAPPING a sheet for the part p: its tables can be offered, and are chosen in the way after those of the part
+pub record MappedBy (w : Way) (p : Part) (s : Sheet) (m : Mapping) : Type 0 where
+  pub storable : Storable s.out m
+  pub chosen : length (tables_of p) ≡ p.used → Chosen w p (circuit_of s) (new_tables m)

@@ -29,12 +29,12 @@
 //                                              the fewest levels
 #![tactic(auto)]
 
-ghost use Rattle.std.specs.Prelude.{◌≡◌, ◌≤◌, length};
+ghost use Rattle.std.specs.Prelude.{◌≡◌, ◌≤◌, ◌<◌, IfSome, length};
 ghost use Rattle.std.specs.Io.{ReadsAtMost};
 
 use input_reader::{read_file, read_full};
 use listing::WriteAnswer;
-use part::{Added, Adding, Opening, Part, SetAdded, SetAdding};
+use part::{AddError, NumberedRefusal, Part};
 use std::env::Env;
 use std::rt::{Files, Runtime};
 use std::{env, io};
@@ -92,63 +92,25 @@ fn say(rt: &impl Print, v: i32) -> io::Result<()> {
     rt.write_all(b"\n")
 }
 
-fn opening(a: Opening) -> i32 {
-    match a {
-        Opening::Accepted => 0,
-        Opening::KOutOfRange => -2,
-        Opening::CapacityOutOfRange => -3,
-    }
+// 0, or minus the refusal's number; the place, and in a set the position.
+#[derive(Clone, Copy)]
+struct Answer {
+    number: i32,
+    place: u16,
+    position: u16,
 }
 
-fn minus(number: u8) -> i32 {
-    -(number as i32)
-}
+const ACCEPTED: Answer = Answer {
+    number: 0,
+    place: 0,
+    position: 0,
+};
 
-// 0, or minus the refusal's number.
-fn adding(a: Adding) -> i32 {
-    match a {
-        Adding::Accepted => 0,
-        Adding::Unsound => -20,
-        Adding::Misread(why, _) => minus(sheet::number(why)),
-        Adding::OutputDriven => -21,
-        Adding::OutputRead => -22,
-        Adding::Full => -23,
-        Adding::AlreadyReserved => -35,
-        Adding::NotReserved => -36,
-    }
-}
-
-// The sheet's line of a refusal, 0 where there is none.
-fn place(a: Adding) -> u16 {
-    match a {
-        Adding::Misread(_, line) => line,
-        _ => 0,
-    }
-}
-
-// 0, or minus the refusal's number, of a set.
-fn set_number(a: SetAdding) -> i32 {
-    match a {
-        SetAdding::Accepted => 0,
-        SetAdding::Unsound => -20,
-        SetAdding::LengthsUnfit => -33,
-        SetAdding::SheetRefused(why, _) => adding(why),
-    }
-}
-
-// The line of the sheet of a set that is refused, 0 where there is none.
-fn set_place(a: SetAdding) -> u16 {
-    match a {
-        SetAdding::SheetRefused(why, _) => place(why),
-        _ => 0,
-    }
-}
-
-// Its position in the set, 0 where there is none.
-fn set_position(a: SetAdding) -> u8 {
-    match a {
-        SetAdding::SheetRefused(_, position) => position,
-        _ => 0,
+fn refused(why: NumberedRefusal) -> Answer {
+    Answer {
+        number: -(why.number as i32),
+        place: why.line,
+        position: why.sheet,
     }
 }
 
@@ -187,47 +149,38 @@ fn record(s: &[u8]) -> Table {
     }
 }
 
-// The part with the record t, from 1, set; unchanged where there is no such record.
-fn with_record(mut p: Part, t: u32, r: Table) -> Part {
-    if t < 1 {
-        return p;
+// The place of the record t, counted from 1, where there is such a record.
+fn place_of(t: u32) -> Option<usize>
+    ensures { IfSome result (λ at. at < 800) }
+{
+    if (1..=800).contains(&t) {
+        Some((t - 1) as usize)
+    } else {
+        None
     }
-    if t > 800 {
-        return p;
-    }
-    let at = (t - 1) as usize;
-    p.tables[at] = r;
-    p
 }
 
-fn with_full_truth(p: Part, t: u32) -> Part {
-    if t < 1 {
-        return p;
+// Sets the record t, where there is one.
+fn set_record(p: &mut Part, t: u32, r: Table) {
+    if let Some(at) = place_of(t) {
+        p.tables[at] = r;
     }
-    if t > 800 {
-        return p;
-    }
-    let at = (t - 1) as usize;
-    let mut r = p.tables[at];
-    r.truth = u64::MAX;
-    with_record(p, t, r)
 }
 
-fn with_level(p: Part, t: u32, level: u16) -> Part {
-    if t < 1 {
-        return p;
+fn set_full_truth(p: &mut Part, t: u32) {
+    if let Some(at) = place_of(t) {
+        p.tables[at].truth = u64::MAX;
     }
-    if t > 800 {
-        return p;
-    }
-    let at = (t - 1) as usize;
-    let mut r = p.tables[at];
-    r.level = level;
-    with_record(p, t, r)
 }
 
-// The part with its first n records set to the AND of the nets 1 and 2, which drive no net and have level 1.
-fn filled(mut p: Part, n: u32) -> Part {
+fn set_level(p: &mut Part, t: u32, level: u16) {
+    if let Some(at) = place_of(t) {
+        p.tables[at].level = level;
+    }
+}
+
+// Sets the part's first n records to the AND of the nets 1 and 2, which drive no net and have level 1.
+fn fill(p: &mut Part, n: u32) {
     let r = Table {
         net: 0,
         count: 2,
@@ -235,27 +188,19 @@ fn filled(mut p: Part, n: u32) -> Part {
         truth: 8,
         level: 1,
     };
-    let mut t: usize = 0;
-    let many = if n < 800 { n as usize } else { 800 };
-    while t < many {
-        p.tables[t] = r;
-        t += 1;
-    }
-    p
+    let many = room(n, 800);
+    p.tables[..many].fill(r);
 }
 
-// The part with the field set that a step names.
-fn with_field(mut p: Part, which: u32, x: u32) -> Part {
-    let mut r = p.reservation;
+// Sets the field that a step names.
+fn set_field(p: &mut Part, which: u32, x: u32) {
     match which {
         1 => p.k = low8(x),
         2 => p.capacity = low16(x),
         3 => p.used = low16(x),
-        15 => r.count = low16(x),
-        _ => r.net = low16(x),
+        15 => p.reservation.count = low16(x),
+        _ => p.reservation.net = low16(x),
     }
-    p.reservation = r;
-    p
 }
 
 // The answer, and the buffer's first bytes.
@@ -269,8 +214,7 @@ fn show(rt: &impl Print, a: WriteAnswer, buf: &[u8]) -> io::Result<()> {
 fn room(n: u32, len: usize) -> usize
     ensures { result ≤ len }
 {
-    let asked = n as usize;
-    if asked < len { asked } else { len }
+    len.min(n as usize)
 }
 
 fn line_into(rt: &impl Print, p: Part, s: &[u8], buf: &mut [u8]) -> io::Result<()> {
@@ -293,11 +237,18 @@ fn write_list(rt: &impl Print, p: Part, s: &[u8], buf: &mut [u8]) -> io::Result<
     list_into(rt, p, s, &mut buf[..n])
 }
 
+// Opens the part; where that is refused it is all zeros.
 fn open(rt: &impl Print, s: &[u8]) -> io::Result<Part> {
-    let o = Part::open(field(s, 1), field(s, 2));
-    let a = o.answer;
-    say(rt, opening(a))?;
-    Ok(o.part)
+    match Part::open(field(s, 1), field(s, 2)) {
+        Ok(part) => {
+            say(rt, 0)?;
+            Ok(part)
+        }
+        Err(why) => {
+            say(rt, refused(why.numbered()).number)?;
+            Ok(part::empty(0, 0))
+        }
+    }
 }
 
 // Reads the file that an argument names into the buffer, and gives its length. No argument names no file. An error is that of the arguments'
@@ -313,46 +264,34 @@ fn read_sheet(rt: &(impl Env + Files + Alloc), argument: usize, buf: &mut [u8]) 
 }
 
 // The list, where the part is sound.
-fn print_list(rt: &impl Print, p: Part) -> io::Result<()> {
+fn print_list(rt: &impl Print, p: &Part) -> io::Result<()> {
     let mut buf = [0u8; 65536];
-    let a = listing::write_list(p, &mut buf, 0);
+    let a = listing::write_list(*p, &mut buf, 0);
     let n = room(count(a), buf.len());
     rt.write_all(&buf[..n])
 }
 
-// How many records are in use, 800 at most.
-fn in_use(p: Part) -> usize {
-    let used = p.used as usize;
-    if used < 800 { used } else { 800 }
-}
-
-// The level of a record, counted from 0; 0 where there is no such record.
-fn level_at(p: Part, at: usize) -> u16 {
-    if at >= 800 {
-        return 0;
-    }
-    let r = p.tables[at];
-    r.level
-}
-
 // The levels of the records in use, on a line of their own.
-fn print_levels(rt: &impl Print, p: Part) -> io::Result<()> {
-    let many = in_use(p);
-    for at in 0..many {
-        put(rt, level_at(p, at) as i32)?;
+fn print_levels(rt: &impl Print, p: &Part) -> io::Result<()> {
+    let many = room(p.used as u32, 800);
+    for i in 0..many {
+        put(rt, p.tables[i].level as i32)?;
     }
     rt.write_all(b"\n")
 }
 
 // The number set aside and the net, on a line of their own.
-fn print_reservation(rt: &impl Print, p: Part) -> io::Result<()> {
-    let r = p.reservation;
-    put(rt, r.count as i32)?;
-    say(rt, r.net as i32)
+fn print_reservation(rt: &impl Print, p: &Part) -> io::Result<()> {
+    put(rt, p.reservation.count as i32)?;
+    say(rt, p.reservation.net as i32)
 }
 
 // The sheet in a file added, by the fewest tables or the fewest levels, reserved for or committed, by the step.
-fn offered(rt: &(impl Env + Files + Alloc), p: Part, s: &[u8]) -> io::Result<Added> {
+fn offer(
+    rt: &(impl Env + Files + Alloc),
+    p: &mut Part,
+    s: &[u8],
+) -> io::Result<Result<(), AddError>> {
     let mut text = [0u8; 65536];
     let n = read_sheet(rt, field(s, 1) as usize, &mut text)?;
     Ok(match field(s, 0) {
@@ -363,17 +302,23 @@ fn offered(rt: &(impl Env + Files + Alloc), p: Part, s: &[u8]) -> io::Result<Add
     })
 }
 
-// Prints what a call answers, the reservation where it is asked for, and the list, where the part is sound. Gives the part handed back.
-fn print_added(rt: &impl Print, added: Added, reserving: bool) -> io::Result<Part> {
-    let answer = added.answer;
-    let part = added.part;
-    put(rt, adding(answer))?;
-    say(rt, place(answer) as i32)?;
+// Prints what a call answered, the reservation where it is asked for, and the list, where the part is sound.
+fn print_answer(
+    rt: &impl Print,
+    p: &Part,
+    called: Result<(), AddError>,
+    reserving: bool,
+) -> io::Result<()> {
+    let answer = match called {
+        Ok(()) => ACCEPTED,
+        Err(why) => refused(why.numbered(0)),
+    };
+    put(rt, answer.number)?;
+    say(rt, answer.place as i32)?;
     if reserving {
-        print_reservation(rt, part)?;
+        print_reservation(rt, p)?;
     }
-    print_list(rt, part)?;
-    Ok(part)
+    print_list(rt, p)
 }
 
 // The length of step 13.
@@ -381,101 +326,91 @@ fn length(s: &[u8]) -> u32 {
     low16(field(s, 2)) as u32 + 65536 * low16(field(s, 3)) as u32
 }
 
-// The state with so many lengths more; those past its room are left out.
-fn collected(mut state: State, times: u32, length: u32) -> State {
-    let mut at = room(state.count, LENGTHS);
-    let mut i = 0;
-    while i < times {
-        if at < LENGTHS {
-            state.lengths[at] = length;
-            at += 1;
-        }
-        i += 1;
-    }
-    state.count = at as u32;
-    state
+// Collects so many lengths more; those past the room are left out.
+fn collect(state: &mut State, times: u32, length: u32) {
+    let from = room(state.count, LENGTHS);
+    let to = from + room(times, LENGTHS - from);
+    state.lengths[from..to].fill(length);
+    state.count = to as u32;
 }
 
-// The set of the text added, with the first so many lengths.
-fn set_added(p: Part, text: &[u8], lengths: [u32; 20], count: u32) -> SetAdded {
-    let many = room(count, LENGTHS);
-    p.add_set(text, &lengths[..many])
-}
-
-fn add_set(rt: &impl Runtime, state: State, s: &[u8]) -> io::Result<State> {
+// Adds the set in a file, with the lengths collected, and drops them.
+fn add_set(rt: &impl Runtime, state: &mut State, s: &[u8]) -> io::Result<()> {
     let mut text = [0u8; 65536];
     let n = read_sheet(rt, field(s, 1) as usize, &mut text)?;
-    let part = state.part;
-    let lengths = state.lengths;
-    let added = set_added(part, &text[..n], lengths, state.count);
-    let answer = added.answer;
-    let part = added.part;
-    put(rt, set_number(answer))?;
-    put(rt, set_place(answer) as i32)?;
-    say(rt, set_position(answer) as i32)?;
-    print_list(rt, part)?;
-    Ok(State {
-        part,
-        lengths,
-        count: 0,
-    })
+    let many = room(state.count, LENGTHS);
+    let answer = match state.part.add_set(&text[..n], &state.lengths[..many]) {
+        Ok(()) => ACCEPTED,
+        Err(why) => refused(why.numbered()),
+    };
+    state.count = 0;
+    put(rt, answer.number)?;
+    put(rt, answer.place as i32)?;
+    say(rt, answer.position as i32)?;
+    print_list(rt, &state.part)
 }
 
 // A step on the part alone.
-fn step(rt: &impl Runtime, p: Part, s: &[u8]) -> io::Result<Part> {
+fn step(rt: &impl Runtime, p: &mut Part, s: &[u8]) -> io::Result<()> {
     match field(s, 0) {
-        0 => open(rt, s),
-        1 | 2 | 3 | 15 | 16 => Ok(with_field(p, field(s, 0), field(s, 1))),
-        4 => Ok(with_record(p, field(s, 1), record(s))),
-        5 => Ok(with_full_truth(p, field(s, 1))),
-        6 => Ok(filled(p, field(s, 1))),
-        10 | 21 => print_added(rt, offered(rt, p, s)?, false),
-        12 => Ok(with_level(p, field(s, 1), low16(field(s, 2)))),
-        17 | 18 => print_added(rt, offered(rt, p, s)?, true),
-        19 => print_added(rt, p.withdraw(), true),
-        _ => shown(rt, p, s),
+        0 => *p = open(rt, s)?,
+        1 | 2 | 3 | 15 | 16 => set_field(p, field(s, 0), field(s, 1)),
+        4 => set_record(p, field(s, 1), record(s)),
+        5 => set_full_truth(p, field(s, 1)),
+        6 => fill(p, field(s, 1)),
+        10 | 21 => {
+            let called = offer(rt, p, s)?;
+            print_answer(rt, p, called, false)?;
+        }
+        12 => set_level(p, field(s, 1), low16(field(s, 2))),
+        17 | 18 => {
+            let called = offer(rt, p, s)?;
+            print_answer(rt, p, called, true)?;
+        }
+        19 => {
+            let called = p.withdraw();
+            print_answer(rt, p, called, true)?;
+        }
+        _ => show_part(rt, p, s)?,
     }
+    Ok(())
 }
 
 // A step that only prints.
-fn shown(rt: &impl Print, p: Part, s: &[u8]) -> io::Result<Part> {
+fn show_part(rt: &impl Print, p: &Part, s: &[u8]) -> io::Result<()> {
     let mut buf = [b'.'; 4096];
     match field(s, 0) {
-        7 => say(rt, if p.sound() { 1 } else { 0 })?,
-        8 => write_line(rt, p, s, &mut buf)?,
-        11 => print_levels(rt, p)?,
-        20 => print_reservation(rt, p)?,
-        _ => write_list(rt, p, s, &mut buf)?,
+        7 => say(rt, p.sound() as i32),
+        8 => write_line(rt, *p, s, &mut buf),
+        11 => print_levels(rt, p),
+        20 => print_reservation(rt, p),
+        _ => write_list(rt, *p, s, &mut buf),
     }
-    Ok(p)
 }
 
 // One step of the script.
-fn next(rt: &impl Runtime, mut state: State, s: &[u8]) -> io::Result<State> {
+fn next(rt: &impl Runtime, state: &mut State, s: &[u8]) -> io::Result<()> {
     match field(s, 0) {
-        13 => Ok(collected(state, field(s, 1), length(s))),
-        14 => add_set(rt, state, s),
-        _ => {
-            let part = state.part;
-            state.part = step(rt, part, s)?;
-            Ok(state)
+        13 => {
+            collect(state, field(s, 1), length(s));
+            Ok(())
         }
+        14 => add_set(rt, state, s),
+        _ => step(rt, &mut state.part, s),
     }
 }
 
 // The lines of the script, one after another, from a part of all zeros.
 fn run(rt: &impl Runtime, script: &[u8]) -> io::Result<()> {
-    let o = Part::open(0, 0);
-    let part = o.part;
     let mut state = State {
-        part,
+        part: part::empty(0, 0),
         lengths: [0; 20],
         count: 0,
     };
     let mut at: usize = 0;
     while LINE <= script.len() - at {
         let end = at + LINE;
-        state = next(rt, state, &script[at..end])?;
+        next(rt, &mut state, &script[at..end])?;
         at = end;
     }
     Ok(())

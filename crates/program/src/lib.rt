@@ -20,14 +20,11 @@ pub fn run(input: &[u8], output: &mut [u8]) -> Printed
     if told.number != 0 {
         return printing::print_refusal(output, told.number, 0, told.line);
     }
-    let part = start.part;
-    let end = sheets::add_sheets(part, input, OPENING);
-    let told = end.told;
-    if told.number != 0 {
-        return printing::print_refusal(output, told.number, end.sheet, told.line);
+    let mut part = start.part;
+    match sheets::add_sheets(&mut part, input, OPENING) {
+        Ok(()) => printing::print_list(output, part),
+        Err(why) => printing::print_refusal(output, why.number, why.sheet, why.line),
     }
-    let part = end.part;
-    printing::print_list(output, part)
 }
 
 // Maps the input and prints into the buffer, which has room for all that can be printed, and gives how many bytes it printed.

@@ -5,10 +5,10 @@ use Rattle.list_reservations.proofs.outcome_code.Goals as goal
 
 pub returns-then-not-told : goal.returns-then-not-told
 returns-then-not-told c =
-    let a = c.args.added in
-    outcome_refused c.tell_sheet-told.result (adding_answer a.answer) c.tell_sheet-told.ensures a.part (not-true _ c.if-not-told.true)
+    let a = c.args in
+    outcome_refused c.tell_sheet-told.result (adding_answer a.answer) c.tell_sheet-told.ensures a.part.now (not-true _ c.if-not-told.true)
 
 pub returns : goal.returns
 returns c =
-    let a = c.args.added in
-    outcome_accepted c.tell_sheet-told.result (adding_answer a.answer) c.tell_sheet-told.ensures a.part (not-false _ c.if-not-told.false)
+    let a = c.args in
+    outcome_accepted c.tell_sheet-told.result (adding_answer a.answer) c.tell_sheet-told.ensures a.part.now (not-false _ c.if-not-told.false)

@@ -2,6 +2,6 @@ use mathlib.Core.Path.{refl}
 use Rattle.program_laws.specs.Front.{front_bytes}
 use Rattle.map.proofs.main.Goals as goal
 
-pub read_all-got-requires : goal.read_all-got-requires
+pub read_deciding-requires : goal.read_deciding-requires
 unfolding front_bytes
-read_all-got-requires c = refl
+read_deciding-requires c = refl

@@ -1,9 +1,15 @@
 -- What the answer of an opening says: 01's number and place for each case. Definitions only.
-use Rattle.part.specs.Trusted.Answers.{Answer, accepted, refused}
-use Rattle.part.specs.declared.Opening.{Opening}
-use Rattle.part.specs.declared.Opening.TheVariants.{Accepted, KOutOfRange, CapacityOutOfRange}
+use Rattle.std.specs.Prelude.{Result as Outcome, Ok, Err}
+use Rattle.part.specs.Trusted.Answers.{Answer, accepted, refused, Result, empty}
+use Rattle.part.specs.declared.Part.{Part}
+use Rattle.part.specs.declared.OpenError.{OpenError}
+use Rattle.part.specs.declared.OpenError.TheVariants.{KOutOfRange, CapacityOutOfRange}
 
-abbrev pub opening_answer : Opening → Answer
-opening_answer Accepted = accepted
-opening_answer KOutOfRange = refused 2 0
-opening_answer CapacityOutOfRange = refused 3 0
+abbrev pub open_refusal : OpenError → Answer
+open_refusal KOutOfRange = refused 2 0
+open_refusal CapacityOutOfRange = refused 3 0
+
+-- an opening's part, all zeros where there is none, and its answer
+abbrev pub opening_result : Outcome Part OpenError → Result
+opening_result (Ok p) = record { part = p; answer = accepted }
+opening_result (Err why) = record { part = empty 0 0; answer = open_refusal why }

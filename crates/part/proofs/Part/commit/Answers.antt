@@ -1,50 +1,37 @@
-use Prim.Native.Nat.{ℕ}
-use mathlib.Core.Path.{◌≡◌, refl, sym, ◌∙◌, subst}
+use borrow.Author.Rules.{rules}
+use mathlib.Core.Path.{◌≡◌, sym, ap, ◌∙◌, subst}
 use mathlib.Core.List.{List, []}
-use mathlib.Core.Bool.{true}
-use Rattle.table.specs.ResultLaws.{says_true}
-use Rattle.table.specs.LevelTest.{no_levels}
-use Rattle.part.specs.Trusted.SoundTest.{sound}
-use Rattle.part.specs.SoundLaws.{sound_reflects}
+use Rattle.std.specs.Prelude.{Err}
 use Rattle.part.specs.Trusted.Tries.{Try}
 use Rattle.part.specs.Trusted.Reservations.{Commit}
 use Rattle.part.specs.Trusted.AddAnswers.{adding_result}
+use Rattle.part.specs.declared.AddError.TheVariants.{Unsound}
+use Rattle.part.proofs.StoringLaws.{levels_refused, levels_given}
 use Rattle.part.proofs.ReserveLaws.{commit_unsound, commit_closed, commit_tried}
-use Rattle.part.specs.declared.Part.{Part}
-use Rattle.part.specs.declared.Added.{Added}
 use Rattle.part.proofs.Part.commit.Goals as goal
-use Rattle.part.proofs.Part.commit.Goals.{Else-not-sound}
 
-self_sound : (c : Else-not-sound) → sound c.args.self ≡ true
-unfolding sound
-self_sound c = sym c.sound.ensures.0 ∙ c.if-not-sound.false
+pub returns-in_err-levels : goal.returns-in_err-levels
+returns-in_err-levels c =
+    let p = c.args.self.now in
+    let text = c.args.text.now in
+    let (unsound, e) = levels_refused p c.levels.result c.levels.ensures Unsound c.in_err-levels.field-0.0 (sym c.ok_or.ensures.value ∙ c.in_err-levels.was) in
+    let r : c.from_residual.result ≡ Err c.in_err-levels.field-0.0 = search rules in
+    subst (λ r. (ts : List Try) × Commit p text (adding_result p r ts)) (sym (r ∙ ap Err e)) ([], commit_unsound p text unsound)
 
--- what is handed back keeps the promise, for some tries
-abbrev Kept : Part → List ℕ → Added → Type 0
-Kept p text r = (ts : List Try) × Commit p text (adding_result r ts)
-
-pub sound-requires : goal.sound-requires
-unfolding no_levels
-sound-requires c = refl
-
-pub returns-then-not-sound : goal.returns-then-not-sound
-unfolding sound
-returns-then-not-sound c =
-    let a = c.args in
-    subst (Kept a.self a.text.now) (sym c.refused.ensures)
-    ([], commit_unsound a.self a.text.now (sym c.sound.ensures.0 ∙ c.if-not-sound.true))
-
-pub returns-then-reservation-eq0 : goal.returns-then-reservation-eq0
-returns-then-reservation-eq0 c =
-    let a = c.args in
-    subst (Kept a.self a.text.now) (sym c.refused-then-reservation-eq0.ensures) ([], commit_closed a.self a.text.now (self_sound (goal.at.returns-then-reservation-eq0 c).Else-not-sound) c.if-reservation-eq0.true)
+pub returns-then-not-is_reserved : goal.returns-then-not-is_reserved
+returns-then-not-is_reserved c =
+    let p = c.args.self.now in
+    let l = levels_given p c.levels.result c.levels.ensures Unsound c.in_ok-levels.levels (sym c.ok_or.ensures.value ∙ c.in_ok-levels.was) in
+    ([], commit_closed p c.args.text.now l.0 (sym c.is_reserved.ensures ∙ c.if-not-is_reserved.true))
 
 pub commit_sheet-requires : goal.commit_sheet-requires
 commit_sheet-requires c =
-    (says_true (sound_reflects c.args.self) (self_sound (goal.at.commit_sheet-requires c).Else-not-sound), c.sound.ensures.1 c.if-not-sound.false)
+    let l = levels_given c.args.self.now c.levels.result c.levels.ensures Unsound c.in_ok-levels.levels (sym c.ok_or.ensures.value ∙ c.in_ok-levels.was) in
+    (l.1, l.2)
 
 pub returns : goal.returns
 returns c =
+    let p = c.args.self.now in
+    let l = levels_given p c.levels.result c.levels.ensures Unsound c.in_ok-levels.levels (sym c.ok_or.ensures.value ∙ c.in_ok-levels.was) in
     let t = c.commit_sheet in
-    let a = c.args in
-    (t.ensures.0, commit_tried a.self a.text.now (self_sound (goal.at.returns c).Else-not-sound) c.if-reservation-eq0.false _ t.ensures.1)
+    (t.ensures.0, commit_tried p c.args.text.now l.0 (sym c.is_reserved.ensures ∙ c.if-not-is_reserved.false) _ t.ensures.1)

@@ -1,51 +1,37 @@
-use Prim.Native.Nat.{ℕ}
-use native.Mathlib.Omega.{arith}
-use mathlib.Core.Path.{◌≡◌, refl, sym, ◌∙◌, subst}
+use borrow.Author.Rules.{rules}
+use mathlib.Core.Path.{◌≡◌, sym, ap, ◌∙◌, subst}
 use mathlib.Core.List.{List, []}
-use mathlib.Core.Bool.{true}
-use Rattle.table.specs.ResultLaws.{says_true}
-use Rattle.table.specs.LevelTest.{no_levels}
-use Rattle.part.specs.Trusted.SoundTest.{sound}
-use Rattle.part.specs.SoundLaws.{sound_reflects}
+use Rattle.std.specs.Prelude.{Err}
 use Rattle.part.specs.Trusted.Tries.{Try}
 use Rattle.part.specs.Trusted.Reservations.{Reserve}
-use Rattle.part.specs.Trusted.AddAnswers.{adding_result}
+use Rattle.part.specs.Trusted.AddAnswers.{adding_answer, adding_result}
+use Rattle.part.specs.declared.AddError.TheVariants.{Unsound}
+use Rattle.part.proofs.StoringLaws.{levels_refused, levels_given}
 use Rattle.part.proofs.ReserveLaws.{reserve_unsound, reserve_open, reserve_tried}
-use Rattle.part.specs.declared.Part.{Part}
-use Rattle.part.specs.declared.Added.{Added}
 use Rattle.part.proofs.Part.reserve.Goals as goal
-use Rattle.part.proofs.Part.reserve.Goals.{Else-not-sound}
 
-self_sound : (c : Else-not-sound) → sound c.args.self ≡ true
-unfolding sound
-self_sound c = sym c.sound.ensures.0 ∙ c.if-not-sound.false
+pub returns-in_err-levels : goal.returns-in_err-levels
+returns-in_err-levels c =
+    let p = c.args.self.now in
+    let text = c.args.text.now in
+    let (unsound, e) = levels_refused p c.levels.result c.levels.ensures Unsound c.in_err-levels.field-0.0 (sym c.ok_or.ensures.value ∙ c.in_err-levels.was) in
+    let r : c.from_residual.result ≡ Err c.in_err-levels.field-0.0 = search rules in
+    subst (λ r. (ts : List Try) × Reserve p text (adding_result p r ts)) (sym (r ∙ ap Err e)) ([], reserve_unsound p text unsound)
 
--- what is handed back keeps the promise, for some tries
-abbrev Reservation : Part → List ℕ → Added → Type 0
-Reservation p text r = (ts : List Try) × Reserve p text (adding_result r ts)
-
-pub sound-requires : goal.sound-requires
-unfolding no_levels
-sound-requires c = refl
-
-pub returns-then-not-sound : goal.returns-then-not-sound
-unfolding sound
-returns-then-not-sound c =
-    let a = c.args in
-    subst (Reservation a.self a.text.now) (sym c.refused.ensures)
-    ([], reserve_unsound a.self a.text.now (sym c.sound.ensures.0 ∙ c.if-not-sound.true))
-
-pub returns-then-reservation-ne0 : goal.returns-then-reservation-ne0
-returns-then-reservation-ne0 c =
-    let a = c.args in
-    subst (Reservation a.self a.text.now) (sym c.refused-then-reservation-ne0.ensures) ([], reserve_open a.self a.text.now (self_sound (goal.at.returns-then-reservation-ne0 c).Else-not-sound) c.if-reservation-ne0.true)
+pub returns-then-is_reserved : goal.returns-then-is_reserved
+returns-then-is_reserved c =
+    let p = c.args.self.now in
+    let l = levels_given p c.levels.result c.levels.ensures Unsound c.in_ok-levels.levels (sym c.ok_or.ensures.value ∙ c.in_ok-levels.was) in
+    ([], reserve_open p c.args.text.now l.0 (sym c.is_reserved.ensures ∙ c.if-is_reserved.true))
 
 pub set_aside-requires : goal.set_aside-requires
 set_aside-requires c =
-    (says_true (sound_reflects c.args.self) (self_sound (goal.at.set_aside-requires c).Else-not-sound), c.sound.ensures.1 c.if-not-sound.false)
+    let l = levels_given c.args.self.now c.levels.result c.levels.ensures Unsound c.in_ok-levels.levels (sym c.ok_or.ensures.value ∙ c.in_ok-levels.was) in
+    (l.1, l.2)
 
 pub returns : goal.returns
 returns c =
+    let p = c.args.self.now in
+    let l = levels_given p c.levels.result c.levels.ensures Unsound c.in_ok-levels.levels (sym c.ok_or.ensures.value ∙ c.in_ok-levels.was) in
     let t = c.set_aside in
-    let a = c.args in
-    (_, reserve_tried a.self a.text.now (self_sound (goal.at.returns c).Else-not-sound) (omega arith) t.result.part _ t.ensures)
+    (_, reserve_tried p c.args.text.now l.0 (sym c.is_reserved.ensures ∙ c.if-is_reserved.false) t.new.self (adding_answer t.result) t.ensures)

@@ -1,48 +1,30 @@
+use borrow.Author.Rules.{rules}
 use mathlib.Core.Path.{◌≡◌, sym, subst}
-use Rattle.lists.specs.Trusted.Checked.{passed}
-use Rattle.sheet.specs.Trusted.Read.{read_sheet}
+use Rattle.std.specs.Prelude.{Err}
 use Rattle.sheet.specs.Trusted.Answers.{number_of, drawn_sheet}
-use Rattle.sheet.specs.Trusted.Formed.{WellFormed}
 use Rattle.sheet.specs.ReadLaws.{read_formed}
-use Rattle.table.specs.LevelTest.{LevelsStand}
-use Rattle.part.specs.Trusted.Parts.{tables_of}
-use Rattle.part.specs.Trusted.Ways.{least}
+use Rattle.part.specs.Trusted.Add.{Add}
 use Rattle.part.specs.Trusted.AddAnswers.{adding_answer}
-use Rattle.part.proofs.StoringLaws.{sheet_mappable, mapped_storable, mapped_offered, add_same, add_misread, add_offered, reading_is}
-use Rattle.part.specs.declared.Adding.TheVariants.{Misread}
+use Rattle.part.proofs.StoringLaws.{add_misread, add_offered}
+use Rattle.part.specs.declared.AddError.TheVariants.{Misread}
 use Rattle.part.proofs.Part.take.Goals as goal
-use Rattle.part.proofs.Part.take.Goals.{In-Ok}
 
-pub returns-in-Err : goal.returns-in-Err
-returns-in-Err c =
-    let a = c.args in (
-      add_same c.refused.result a.self (Misread c.in-Err.e.why c.in-Err.e.line) c.refused.ensures least a.self a.text.now
-          (add_misread least a.self a.text.now c.requires.0 (number_of c.in-Err.e.why) c.in-Err.e.line (reading_is a.text.now c.read.result c.read.ensures c.in-Err.is)),
-      subst (λ r. LevelsStand a.levels.now (tables_of r.part)) (sym c.refused.ensures) c.requires.1,
+pub returns-in_err-sheet : goal.returns-in_err-sheet
+returns-in_err-sheet g c =
+    let a = c.args in
+    let w = g.W.Choose.way in
+    let error = c.in_err-sheet.field-0.0 in
+    let r : c.from_residual.result ≡ Err (Misread error) = search rules in (
+      subst (λ r. Add w a.self.now a.text.now a.self.now (adding_answer r)) (sym r)
+          (add_misread w a.self.now a.text.now c.requires.0 (number_of error.why) error.line (sym c.in_err-sheet.ensures)),
+      c.requires.1,
     )
 
-sheet_read : (c : In-Ok) → read_sheet c.args.text.now ≡ passed (drawn_sheet c.in-Ok.sheet)
-sheet_read c =
-    reading_is c.args.text.now c.read.result c.read.ensures c.in-Ok.is
-
--- and it is well formed
-sheet_formed : (c : In-Ok) → WellFormed (drawn_sheet c.in-Ok.sheet)
-sheet_formed c =
-    read_formed c.args.text.now (drawn_sheet c.in-Ok.sheet) (sheet_read c)
-
-pub map_joined-mapping-requires : goal.map_joined-mapping-requires
-map_joined-mapping-requires c =
-    sheet_mappable c.args.self c.requires.0 c.in-Ok.sheet (sheet_formed (goal.at.map_joined-mapping-requires c).In-Ok)
-
-pub offer-requires : goal.offer-requires
-offer-requires c =
-    (c.requires.0, mapped_storable c.args.self.k c.args.self.used c.in-Ok.sheet c.map_joined-mapping.result c.map_joined-mapping.ensures (sheet_formed (goal.at.offer-requires c).In-Ok), c.requires.1)
+pub offer_sheet-requires : goal.offer_sheet-requires
+offer_sheet-requires g c = (c.requires.0, read_formed c.args.text.now (drawn_sheet c.in_ok-sheet.sheet) (sym c.in_ok-sheet.ensures), c.requires.1)
 
 pub returns : goal.returns
-returns c =
-    let o = c.offer in
-    let a = adding_answer o.result.answer in (
-      add_offered least c.args.self c.args.text.now c.requires.0 (drawn_sheet c.in-Ok.sheet) (sheet_read (goal.at.returns c).In-Ok) o.result.part a
-          (mapped_offered c.args.self c.in-Ok.sheet c.map_joined-mapping.result c.map_joined-mapping.ensures o.result.part a o.ensures.0),
-      o.ensures.1,
-    )
+returns g c =
+    let a = c.args in
+    let o = c.offer_sheet in
+    (add_offered g.W.Choose.way a.self.now a.text.now c.requires.0 (drawn_sheet c.in_ok-sheet.sheet) (sym c.in_ok-sheet.ensures) o.new.self (adding_answer o.result) o.ensures.0, o.ensures.1)

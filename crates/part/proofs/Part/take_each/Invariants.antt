@@ -1,4 +1,3 @@
-use Prim.Native.Nat.{◌-◌}
 use mathlib.Core.Path.{◌≡◌}
 use lib.ListN.{length}
 use Rattle.table.specs.LevelTest.{LevelsStand}
@@ -8,7 +7,4 @@ use Rattle.part.proofs.Part.take_each.Given as goal
 
 abbrev pub invariant-loop-i : goal.invariant-loop-i
 invariant-loop-i l =
-    SetSoFar l.self l.lengths l.text l.added.part l.i l.at × LevelsStand l.levels (tables_of l.added.part) × (length l.levels ≡ length l.initial.levels)
-
-abbrev pub decreases-loop-i : goal.decreases-loop-i
-decreases-loop-i l = length l.lengths - l.i
+    SetSoFar l.self l.lengths l.text l.part l.i l.at × LevelsStand l.levels (tables_of l.part) × (length l.levels ≡ length l.initial.levels)

@@ -1,17 +1,15 @@
-use Prim.Native.Nat.{ℕ, ◌-◌, ◌≤◌}
+use Prim.Native.Nat.{ℕ}
 use mathlib.Core.Path.{◌≡◌}
 use mathlib.Core.List.{List, ◌++◌}
 use lib.ListN.{length, take}
 use lib.Seq.{paste}
 use Rattle.table.specs.declared.Table.{Table}
-use Rattle.table.specs.Trusted.Limits.{table_room}
 use Rattle.table.specs.LevelTest.{LevelsStand}
 use Rattle.mapper_laws.specs.declared.Mapping.{Mapping}
 use Rattle.part.specs.Trusted.Parts.{tables_of}
 use Rattle.part.specs.Storing.{new_tables, new_records}
-use Rattle.part.proofs.StoringLaws.{Looked}
 use Rattle.part.specs.declared.Part.{Part}
-use Rattle.part.proofs.Part.offer.Given as goal
+use Rattle.part.proofs.Part.store.Given as goal
 
 -- the part with other records, and with the mapping's first n after those in use
 abbrev pub holding : Part → List Table → Part
@@ -20,16 +18,7 @@ holding p rs = record { k = p.k; capacity = p.capacity; used = p.used; reservati
 abbrev pub records_pasted : Part → Mapping → ℕ → List Table
 records_pasted p m n = paste p.tables p.used (new_records p m) n
 
-abbrev pub invariant-loop-i : goal.invariant-loop-i
-invariant-loop-i l = (length l.self.tables ≡ table_room) × Looked l.self l.out l.i l.uses
-
-abbrev pub decreases-loop-i : goal.decreases-loop-i
-decreases-loop-i l = l.self.used - l.i
-
 abbrev pub invariant-loop-n : goal.invariant-loop-n
 invariant-loop-n l =
-    (l.n ≤ l.mapping.count) × (l.self ≡ holding l.initial.self (records_pasted l.initial.self l.mapping l.n)) × LevelsStand l.levels (tables_of l.initial.self ++ take l.n (new_tables l.mapping))
+    (l.self ≡ holding l.initial.self (records_pasted l.initial.self l.mapping l.n)) × LevelsStand l.levels (tables_of l.initial.self ++ take l.n (new_tables l.mapping))
     × (length l.levels ≡ length l.initial.levels)
-
-abbrev pub decreases-loop-n : goal.decreases-loop-n
-decreases-loop-n l = l.mapping.count - l.n

@@ -1,9 +1,0 @@
--- The bytes read stand in the buffer. The measure is the room left.
-use Rattle.std.proofs.Common.{◌-◌, ◌≤◌, length}
-use Rattle.map_fast.proofs.read_all.Given as goal
-
-abbrev pub invariant-loop-done : goal.invariant-loop-done
-invariant-loop-done g l = l.done ≤ length l.buf
-
-abbrev pub decreases-loop-done : goal.decreases-loop-done
-decreases-loop-done g l = length l.buf - l.done

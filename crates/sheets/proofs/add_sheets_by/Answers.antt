@@ -1,0 +1,40 @@
+use native.Mathlib.Omega.{arith}
+use mathlib.Core.Path.{◌≡◌, sym, ap, subst}
+use mathlib.Core.List.{[], map}
+use lib.ListN.{take}
+use Rattle.table.specs.Trusted.Records.{table_of}
+use Rattle.table.specs.LevelTest.{no_levels, LevelsStand}
+use Rattle.table.specs.LevelTestLaws.{levels_none}
+use Rattle.part.specs.Trusted.Parts.{tables_of}
+use Rattle.sheets.specs.SheetsLaws.{sheets_start, sheets_more, few_sheets, ended_stop, ended_all}
+use Rattle.sheets.proofs.add_sheets_by.Goals as goal
+
+pub loop-at-init : goal.loop-at-init
+unfolding no_levels
+loop-at-init g c =
+    let a = c.args in
+    let p = a.part.now in
+    let none : [] ≡ tables_of p = ap (λ n. map table_of (take n p.tables)) (sym c.requires.1) in
+    (sheets_start g.W.Choose.way a.input.now p a.start c.requires.0, subst (LevelsStand no_levels) none levels_none)
+
+pub overflow_add-sheet : goal.overflow_add-sheet
+overflow_add-sheet g c = record { fits = omega (arith, few_sheets c.loop-at.invariant.0) }
+
+pub add_next-requires : goal.add_next-requires
+add_next-requires g c = (c.loop-at.invariant.0.sound, c.loop-at.invariant.1, omega arith)
+
+pub returns-in-Err : goal.returns-in-Err
+returns-in-Err g c =
+    let n = c.numbered in
+    ended_stop c.loop-at.invariant.0 c.add_next.new.part (omega arith) c.in-Err.why c.in-Err.ensures.0 n.result n.ensures.0 n.ensures.1 n.ensures.2
+
+pub loop-at-smaller : goal.loop-at-smaller
+loop-at-smaller g c =
+    let o = c.in-Ok.ensures.0.onwards in
+    omega (arith, o.after, o.within)
+
+pub loop-at-preserved : goal.loop-at-preserved
+loop-at-preserved g c = (sheets_more c.loop-at.invariant.0 c.add_next.new.part (omega arith) c.in-Ok.end c.in-Ok.ensures.0, c.add_next.ensures.1)
+
+pub returns : goal.returns
+returns g c = ended_all c.loop-at.invariant.0 (omega arith)
