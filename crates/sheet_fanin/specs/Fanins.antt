@@ -1,5 +1,5 @@
 -- What is kept of the fanins so far, in flags packed into words, and what comes of one more. Internal definitions: the laws are in proofs/FaninLaws.
-use Rattle.std.specs.Prelude.{ℕ, suc, ◌+◌, ◌/◌, ◌≤◌, ◌<◌, ◌≡◌, false, List, [], ◌∷◌, ◌++◌, length, Result, Ok, Err}
+use Rattle.std.specs.Prelude.{ℕ, suc, ◌+◌, ◌/◌, ◌≤◌, ◌<◌, ◌≡◌, false, List, [], ◌∷◌, ◌++◌, length, Result, Ok, Err, IfOk}
 use Rattle.std.proofs.Math.Option.{some}
 use Rattle.lists.specs.Trusted.Tests.{elem}
 use Rattle.lists.specs.Trusted.Checked.{Checked, passed, refused}
@@ -42,9 +42,13 @@ abbrev pub flags_after : List ℕ → ℕ → Result Source Refusal → List ℕ
 flags_after words n (Ok source) = raised words n
 flags_after words n (Err why) = words
 
+-- of an accepted fanin of gate g that is written as n: what it reads, for the first time, and within the leaves that a sheet may have
+pub record FaninTaken (words : List ℕ) (leaves g n : ℕ) (s : Source) : Type 0 where
+  pub source : source_of g n ≡ some s
+  pub first : flag_at words n ≡ false
+  pub few : leaves ≤ most_leaves → leaves + length (net_of s) ≤ most_leaves
+
 -- a fanin of gate g that is written as n
 pub record FaninRead (words : List ℕ) (leaves out g n : ℕ) (r : Result Source Refusal) : Type 0 where
-  pub source : (s : Source) → r ≡ Ok s → source_of g n ≡ some s
-  pub few : (s : Source) → r ≡ Ok s → leaves ≤ most_leaves → leaves + length (net_of s) ≤ most_leaves
   pub step : (seen : Seen) → Marked words leaves seen → read_fanin out g seen n ≡ fanin_step g seen r
-  pub first : (s : Source) → r ≡ Ok s → flag_at words n ≡ false
+  pub taken : IfOk r (FaninTaken words leaves g n)

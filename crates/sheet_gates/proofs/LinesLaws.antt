@@ -28,7 +28,7 @@ use Rattle.sheet.specs.Trusted.Read.{Seen, nothing, read_fanin, read_fanins, gat
 use Rattle.sheet.specs.Trusted.Answers.{number_of, drawn_gate, drawn_gates}
 use Rattle.sheet_line.specs.Inside.{value_of, gate_line, fanin_numbers, gate_line_step, GateLineRoom, GateLineRead}
 use Rattle.flags.specs.Flags.{raised}
-use Rattle.sheet_fanin.specs.Fanins.{flag_words, Marked, saw, fanin_step, FaninRead}
+use Rattle.sheet_fanin.specs.Fanins.{flag_words, Marked, saw, fanin_step, FaninTaken, FaninRead}
 use Rattle.sheet_line.proofs.HeadLaws.{zero_value}
 use Rattle.sheet_fanin.proofs.FaninLaws.{marked_start, marked_more}
 use Rattle.sheet.specs.StoreLaws.{Below, drawn_same, taken_more, drawn_more, below_more}
@@ -279,15 +279,18 @@ module _ (text : List ℕ) (start out count : ℕ) where
         ∙ ap (refused (number_of why)) (sym (add-one (g + 1))))
 
     module _ (b : g + 1 ≤ most_gates) (r : Result Source Refusal) (d : FaninRead words leaves out (g + 1) number.magnitude r) (s : Source) (e : r ≡ Ok s) where
+      accepted : FaninTaken words leaves (g + 1) number.magnitude s
+      accepted = IfOk-at_ok (FaninTaken words leaves (g + 1) number.magnitude) e d.taken
+
       read_next : used + (i + 1) ≡ read_count (raised words number.magnitude) (leaves + length (net_of s))
       read_next =
-          let q = read_more words h.marked.whole (g + 1) number.magnitude leaves b s (d.source s e) (d.first s e) in
+          let q = read_more words h.marked.whole (g + 1) number.magnitude leaves b s accepted.source accepted.first in
           omega (arith, q, h.read)
 
       -- there is room for it
       pub fanin_room_lem : used + i < fanin_room
       fanin_room_lem =
-          let q = read_most (raised words number.magnitude) (leaves + length (net_of s)) (d.few s e h.few) in
+          let q = read_most (raised words number.magnitude) (leaves + length (net_of s)) (accepted.few h.few) in
           omega (arith, q, read_next)
 
       pub fanin_taken : i < l.count → (f : Edge) → f ≡ record { inverted = (value_of number).negative; source = s } → (n : ℕ) → n ≡ leaves + length (net_of s) →
@@ -303,8 +306,8 @@ module _ (text : List ℕ) (start out count : ℕ) where
         some_left = omega arith;
         ends = h.ends;
         seen = saw h.seen s;
-        marked = rw (u, q) (marked_more (g + 1) number.magnitude b h.marked s (d.source s e));
-        few = omega (arith, d.few s e h.few);
+        marked = rw (u, q) (marked_more (g + 1) number.magnitude b h.marked s accepted.source);
+        few = omega (arith, accepted.few h.few);
         same =
             one_number k
             ∙ (fanin_good out (count - (g + 1)) (g + 1) (drawn_gates fs g gates) h.seen l.kind (take i (drop used fs)) (drop l.end text) (value_of number) (drop (i + 1) (fanin_numbers l))

@@ -1,5 +1,3 @@
-use Prim.Native.Nat.{ℕ}
-use Rattle.std.specs.Prelude.{Ok, Err}
 use native.Mathlib.Omega.{arith}
 use mathlib.Core.Path.{◌≡◌, sym, ap, ◌∙◌}
 use mathlib.Core.Option.{some}
@@ -7,9 +5,7 @@ use lib.ListN.{length}
 use borrow.Author.Rules.{rules}
 use borrow.Author.Tests.{eq-eqb, ne_eqb, lt-ltb, le-ltb}
 use Rattle.lists.specs.Trusted.Checked.{passed}
-use Rattle.sheet.specs.declared.Source.{Source}
 use Rattle.sheet.specs.declared.Source.TheVariants.{Net as net, Gate as gate}
-use Rattle.sheet.specs.declared.Refusal.{Refusal}
 use Rattle.sheet.specs.Trusted.Limits.{most_leaves}
 use Rattle.sheet.specs.Trusted.Sheet.{net_of}
 use Rattle.sheet.specs.Trusted.Read.{source_of}
@@ -29,17 +25,12 @@ net_is : (c : In-Net) → let a = c.args in
     source_of a.gate a.code ≡ some (net c.in-Net.n)
 net_is c = c.source_of.ensures ∙ (ap found c.in-Some.is ∙ ap some c.in-Net.is)
 
-none_reads : (why : Refusal) (s : Source) → Err why ≡ Ok s → ⊥
-none_reads why s e = let z : ◌≡◌ {A = ℕ} 0 1 = cc in omega arith
-
 pub returns-in_default : goal.returns-in_default
 returns-in_default c =
     let a = c.args in
     let e = c.source_of.ensures ∙ ap found c.in_default.is in
     record {
-      source = λ s q. absurd (none_reads _ s q);
-      few = λ s q l. absurd (none_reads _ s q);
-      first = λ s q. absurd (none_reads _ s q);
+      taken = tt;
       step = λ seen h. fanin_none a.out a.gate seen a.code e;
     }
 
@@ -47,9 +38,7 @@ pub returns-then-twice : goal.returns-then-twice
 returns-then-twice c =
     let a = c.args in
     record {
-      source = λ s q. absurd (none_reads _ s q);
-      few = λ s q l. absurd (none_reads _ s q);
-      first = λ s q. absurd (none_reads _ s q);
+      taken = tt;
       step = λ seen h. gate_twice a.out a.gate seen a.code _ (gate_is_lem (goal.at.returns-then-twice c).In-Gate) (sym (gate_flag a.gate a.code c.requires h _ (gate_is_lem (goal.at.returns-then-twice c).In-Gate)) ∙ sym c.flag-twice.ensures ∙ c.if-twice.true);
     }
 
@@ -57,9 +46,7 @@ pub returns-then-twice-2 : goal.returns-then-twice-2
 returns-then-twice-2 c =
     let a = c.args in
     record {
-      source = λ s q. absurd (none_reads _ s q);
-      few = λ s q l. absurd (none_reads _ s q);
-      first = λ s q. absurd (none_reads _ s q);
+      taken = tt;
       step = λ seen h. net_twice a.out a.gate seen a.code _ (net_is (goal.at.returns-then-twice-2 c).In-Net) (sym (net_flag a.gate a.code c.requires h _ (net_is (goal.at.returns-then-twice-2 c).In-Net)) ∙ sym c.flag-twice.ensures ∙ c.if-twice-2.true);
     }
 
@@ -68,9 +55,7 @@ returns-then-n-out c =
     let a = c.args in
     let e = net_is (goal.at.returns-then-n-out c).In-Net in
     record {
-      source = λ s q. absurd (none_reads _ s q);
-      few = λ s q l. absurd (none_reads _ s q);
-      first = λ s q. absurd (none_reads _ s q);
+      taken = tt;
       step = λ seen h. net_out a.out a.gate seen a.code _ e (sym (net_flag a.gate a.code c.requires h _ e) ∙ sym c.flag-twice.ensures ∙ c.if-twice-2.false) (eq-eqb _ _ c.if-n-out.true);
     }
 
@@ -79,9 +64,7 @@ returns-then-leaves-ge-MOST_LEAVES c =
     let a = c.args in
     let e = net_is (goal.at.returns-then-leaves-ge-MOST_LEAVES c).In-Net in
     record {
-      source = λ s q. absurd (none_reads _ s q);
-      few = λ s q l. absurd (none_reads _ s q);
-      first = λ s q. absurd (none_reads _ s q);
+      taken = tt;
       step = λ seen h.
           net_many a.out a.gate seen a.code _ e (sym (net_flag a.gate a.code c.requires h _ e) ∙ sym c.flag-twice.ensures ∙ c.if-twice-2.false) (ne_eqb c.in-Net.n a.out (search rules))
           (le-ltb (length seen.nets) most_leaves (omega (arith, h.count)));
@@ -92,11 +75,11 @@ returns-else-twice c =
     let a = c.args in
     let e = gate_is_lem (goal.at.returns-else-twice c).In-Gate in
     record {
-      source = λ s q. e ∙ ap some (cc);
-      few = λ s q l.
-          let z : s ≡ gate c.in-Gate.field-0 = cc c.in-Gate.is in
-          omega (arith, ap (λ s. length (net_of s)) z);
-      first = λ s q. sym c.flag-twice.ensures ∙ c.if-twice.false;
+      taken = record {
+        source = e ∙ ap some (sym c.in-Gate.is);
+        first = sym c.flag-twice.ensures ∙ c.if-twice.false;
+        few = λ l. omega (arith, ap (λ s. length (net_of s)) c.in-Gate.is);
+      };
       step = λ seen h.
           gate_once a.out a.gate seen a.code _ e (sym (gate_flag a.gate a.code c.requires h _ e) ∙ sym c.flag-twice.ensures ∙ c.if-twice.false)
           ∙ ap (λ s. passed (s, saw seen s)) (sym c.in-Gate.is);
@@ -107,11 +90,7 @@ returns-else-leaves-ge-MOST_LEAVES c =
     let a = c.args in
     let e = net_is (goal.at.returns-else-leaves-ge-MOST_LEAVES c).In-Net in
     record {
-      source = λ s q. e ∙ ap some (cc);
-      few = λ s q l.
-          let z : net c.in-Net.n ≡ s = cc in
-          omega (arith, ap (λ s. length (net_of s)) z);
-      first = λ s q. sym c.flag-twice.ensures ∙ c.if-twice-2.false;
+      taken = record { source = e; first = sym c.flag-twice.ensures ∙ c.if-twice-2.false; few = λ l. omega arith };
       step = λ seen h.
           net_once a.out a.gate seen a.code _ e (sym (net_flag a.gate a.code c.requires h _ e) ∙ sym c.flag-twice.ensures ∙ c.if-twice-2.false) (ne_eqb _ _ c.if-n-out.false)
           (lt-ltb (length seen.nets) most_leaves (omega (arith, h.count)));
