@@ -1,1 +1,2 @@
 pub mod Fanins
+pub mod FaninLaws

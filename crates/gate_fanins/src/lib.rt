@@ -4,10 +4,11 @@
 ghost use Rattle.std.specs.Prelude.{◌≡◌, ◌<◌, ◌≤◌};
 ghost use Rattle.lists.specs.Trusted.Lists.{Every};
 ghost use Rattle.sheet.specs.Trusted.Limits.{most_gates};
+ghost use Rattle.sheet.specs.Trusted.Answers.{drawn_gate};
 ghost use Rattle.sheet.specs.Trusted.Sheet.{gate_of};
 ghost use Rattle.gate_fanins.specs.Fanins.{FaninsCounted, place_in};
 
-use sheet::{FANIN_ROOM, Gate, Source};
+use sheet::{Edge, FANIN_ROOM, Gate, Source};
 
 // How many fanins a gate has: those that its sheet has room for.
 pub fn fanin_count(gate: Gate) -> usize
@@ -15,6 +16,14 @@ pub fn fanin_count(gate: Gate) -> usize
 {
     let room = FANIN_ROOM.saturating_sub(gate.first as usize);
     room.min(gate.count as usize)
+}
+
+// The fanins of a gate: those that its sheet has room for.
+pub fn fanins_of(gate: Gate, fanins: &[Edge; FANIN_ROOM]) -> &[Edge]
+    ensures { result.now ≡ (drawn_gate fanins.now gate).fanins }
+{
+    let first = (gate.first as usize).min(FANIN_ROOM);
+    &fanins[first..first + fanin_count(gate)]
 }
 
 // The place of the gate that a fanin reads among the gates; 0 for a net.

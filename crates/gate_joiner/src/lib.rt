@@ -9,7 +9,7 @@ ghost use Rattle.joined.specs.JoinedSheet.{turn_fanin};
 ghost use Rattle.joiner_laws.specs.Joining.{GateIs, with_edge, FaninsAdded, joins_lower, AllJoined};
 
 use chained_gates::chained;
-use gate_fanins::{fanin_count, place_of};
+use gate_fanins::{fanins_of, place_of};
 use joiner_laws::{JoinedGate, JoinedGates};
 use sheet::{Edge, MOST_GATES, Sheet, Source};
 use tree::{Kind, MOST_FANINS};
@@ -19,17 +19,10 @@ fn joins(kind: Kind, others: usize, edge: Edge, lower: JoinedGate) -> bool
     requires { others ≤ 1000 }
     ensures { result ≡ joins_lower kind others edge.inverted edge.source lower }
 {
-    let source = edge.source;
-    match source {
+    match edge.source {
         Source::Net(_) => false,
-        Source::Gate(_) => {
-            let below = lower.kind;
-            if chained(edge.inverted, kind, below) {
-                others + lower.count as usize <= MOST_FANINS
-            } else {
-                false
-            }
-        }
+        Source::Gate(_) => chained(edge.inverted, kind, lower.kind)
+            && others + lower.count as usize <= MOST_FANINS,
     }
 }
 
@@ -49,51 +42,34 @@ fn begin(kind: Kind) -> JoinedGate
 }
 
 // One fanin more.
-fn with_fanin(gate: JoinedGate, edge: Edge) -> JoinedGate
+fn with_fanin(mut gate: JoinedGate, edge: Edge) -> JoinedGate
     requires { gate.count < most_fanins }
     ensures { result ≡ with_edge gate edge }
 {
-    let mut g = gate;
-    let count = g.count;
-    let at = count as usize;
-    g.fanins[at] = edge;
-    g.count = count + 1;
-    g
+    gate.fanins[gate.count as usize] = edge;
+    gate.count += 1;
+    gate
 }
 
 // The edge, turned over where the flag says so.
 fn turned(inverted: bool, edge: Edge) -> Edge
     ensures { result ≡ turn_fanin inverted edge }
 {
-    let source = edge.source;
-    if inverted {
-        Edge {
-            inverted: !edge.inverted,
-            source,
-        }
-    } else {
-        Edge {
-            inverted: edge.inverted,
-            source,
-        }
+    Edge {
+        inverted: edge.inverted != inverted,
+        ..edge
     }
 }
 
 // The fanins of the gate below more, turned over where the edge to it is inverted.
-fn with_fanins(gate: JoinedGate, inverted: bool, lower: JoinedGate) -> JoinedGate
+fn with_fanins(mut gate: JoinedGate, inverted: bool, lower: JoinedGate) -> JoinedGate
     requires { gate.count + lower.count ≤ most_fanins }
     ensures { FaninsAdded gate inverted lower result }
 {
-    let count = lower.count as usize;
-    let fanins = lower.fanins;
-    let mut g = gate;
-    let mut i: usize = 0;
-    while i < count {
-        let edge = fanins[i];
-        g = with_fanin(g, turned(inverted, edge));
-        i += 1;
+    for edge in &lower.fanins[..lower.count as usize] {
+        gate = with_fanin(gate, turned(inverted, *edge));
     }
-    g
+    gate
 }
 
 // The gates of a sheet after their own joins: gates in rising number, and each one's fanins from left to right.
@@ -101,35 +77,24 @@ pub fn join_gates(sheet: Sheet) -> JoinedGates
     requires { WellFormed (drawn_sheet sheet) }
     ensures { AllJoined (drawn_sheet sheet).gates result }
 {
-    let gates = sheet.count as usize;
-    let none = begin(Kind::And);
-    let mut joined = [none; MOST_GATES];
+    let mut joined = [begin(Kind::And); MOST_GATES];
     let mut gone = [false; MOST_GATES];
-    let mut g: usize = 0;
-    while g < gates {
+    for g in 0..sheet.count as usize {
         let gate = sheet.gates[g];
-        let kind = gate.kind;
-        let first = gate.first as usize;
-        let count = fanin_count(gate);
-        let mut x = begin(kind);
-        let mut i: usize = 0;
-        while i < count {
-            let edge = sheet.fanins[first + i];
-            let source = edge.source;
-            let at = place_of(source);
+        let fanins = fanins_of(gate, &sheet.fanins);
+        let mut x = begin(gate.kind);
+        for (i, edge) in fanins.iter().enumerate() {
+            let at = place_of(edge.source);
             let lower = joined[at];
-            let others = x.count as usize + (count - 1 - i);
-            if joins(kind, others, edge, lower) {
+            let others = x.count as usize + (fanins.len() - 1 - i);
+            if joins(gate.kind, others, *edge, lower) {
                 gone[at] = true;
                 x = with_fanins(x, edge.inverted, lower);
-                i += 1;
             } else {
-                x = with_fanin(x, edge);
-                i += 1;
+                x = with_fanin(x, *edge);
             }
         }
         joined[g] = x;
-        g += 1;
     }
     JoinedGates {
         gates: joined,

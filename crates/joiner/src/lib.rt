@@ -17,12 +17,11 @@ use sheet::{Edge, Gate, MOST_GATES, Sheet, Source};
 fn renumbered(edge: Edge, number: u16) -> Edge
     ensures { result ≡ renumbered_edge edge number }
 {
-    let source = edge.source;
-    match source {
+    match edge.source {
         Source::Net(_) => edge,
         Source::Gate(_) => Edge {
-            inverted: edge.inverted,
             source: Source::Gate(number),
+            ..edge
         },
     }
 }
@@ -31,9 +30,8 @@ fn renumbered(edge: Edge, number: u16) -> Edge
 fn placed(gate: JoinedGate, first: u16) -> Gate
     ensures { result ≡ record { kind = gate.kind; count = gate.count; first = first } }
 {
-    let kind = gate.kind;
     Gate {
-        kind,
+        kind: gate.kind,
         count: gate.count,
         first,
     }
@@ -50,37 +48,26 @@ fn write_staying(sheet: Sheet, joined: JoinedGates) -> Sheet
     let mut numbers = [0u16; MOST_GATES];
     let mut kept: usize = 0;
     let mut used: usize = 0;
-    let mut g: usize = 0;
-    while g < count {
-        if joined.gone[g] {
-            numbers[g] = kept as u16;
-            g += 1;
-        } else {
+    for g in 0..count {
+        if !joined.gone[g] {
             let x = joined.gates[g];
             let size = x.count as usize;
-            let edges = x.fanins;
-            let mut i: usize = 0;
-            while i < size {
-                let edge = edges[i];
-                let source = edge.source;
-                let at = place_of(source);
-                let place = used + i;
-                fanins[place] = renumbered(edge, numbers[at]);
-                i += 1;
+            for i in 0..size {
+                let edge = x.fanins[i];
+                let at = place_of(edge.source);
+                fanins[used + i] = renumbered(edge, numbers[at]);
             }
             gates[kept] = placed(x, used as u16);
             kept += 1;
             used += size;
-            numbers[g] = kept as u16;
-            g += 1;
         }
+        numbers[g] = kept as u16;
     }
     Sheet {
-        out: sheet.out,
-        inverted: sheet.inverted,
         count: kept as u8,
         gates,
         fanins,
+        ..sheet
     }
 }
 
@@ -89,6 +76,5 @@ pub fn joined(sheet: Sheet) -> Sheet
     requires { WellFormed (drawn_sheet sheet) }
     ensures { drawn_sheet result ≡ joined_sheet (drawn_sheet sheet) }
 {
-    let gates = join_gates(sheet);
-    write_staying(sheet, gates)
+    write_staying(sheet, join_gates(sheet))
 }

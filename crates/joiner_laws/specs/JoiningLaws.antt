@@ -1,6 +1,6 @@
 -- Gates joined one after the other, and each one's fanins from left to right: the code's steps give what the joined sheet has.
 use Rattle.std.specs.Prelude.{ℕ, suc, ◌+◌, ◌-◌, ◌≤◌, ◌<◌, ◌≡◌, refl, ◌≢◌, Bool, true, false, cond, ◌&&◌, ◌||◌, List, [], ◌∷◌, ◌++◌, map, T, leb, length, get_or, take, drop, set, replicate}
-use Rattle.std.proofs.Common.{arith, add-one, sym, ap, ap₂, ◌∙◌, subst, append_assoc, append-nil, leb→le, length-append, length-take, length-drop, length-set, drop-cons, get_or-set_same, get_or-set_other, take-suc, take-suc-set}
+use Rattle.std.proofs.Common.{arith, add-one, sym, ap, ap₂, ◌∙◌, subst, append_assoc, append-nil, leb→le, length-append, length-take, length-drop, length-set, drop-cons, get_or-set_same, get_or-set_other, take_all, take-suc, take-suc-set}
 use Rattle.std.proofs.lemmas.List.{map-append, length-map, length-replicate, get_or-replicate, get_or_at}
 use Rattle.std.proofs.Math.ListN.{get_or-append}
 use Rattle.lists.specs.Trusted.Lists.{Every}
@@ -55,8 +55,9 @@ adding_next {x} {v} {fs} {i} {y} h l r = record {
         append_assoc d.fanins (map (turn_fanin v) (take i fs)) (turn_fanin v (get_or fs i no_edge) ∷ [])
         ∙ ap (◌++◌ d.fanins) (sym (ap (map (turn_fanin v)) (ap (λ n. take n fs) (add-one i) ∙ take-suc fs i no_edge l) ∙ map-append (turn_fanin v) (take i fs) (get_or fs i no_edge ∷ [])))
 
-pub adding_end : {x : JoinedGate} {v : Bool} {lower y : JoinedGate} → FaninsAdding x v lower.fanins lower.count y → FaninsAdded x v lower y
-adding_end {x} {v} {lower} {y} h d e z is = subst (λ es. GateIs y (record { kind = d.kind; fanins = d.fanins ++ map (turn_fanin v) es })) is.fanins (h.added d z)
+pub adding_end : {x : JoinedGate} {v : Bool} {lower y : JoinedGate} {i : ℕ} → let fs = take lower.count lower.fanins in FaninsAdding x v fs i y → length fs ≤ i → FaninsAdded x v lower y
+adding_end {x} {v} {lower} {y} {i} h l d e z is =
+    subst (λ es. GateIs y (record { kind = d.kind; fanins = d.fanins ++ map (turn_fanin v) es })) (take_all i (take lower.count lower.fanins) l ∙ is.fanins) (h.added d z)
 
 -- one gate more
 gates_more : (xs : List JoinedGate) (ds : List DrawnGate) {g : ℕ} {x : JoinedGate} {d : DrawnGate} → GatesAre xs ds → length ds ≡ g → g < length xs → GateIs x d →

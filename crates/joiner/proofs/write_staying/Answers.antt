@@ -20,7 +20,7 @@ use Rattle.joiner_laws.specs.Joining.{GateIs, no_joined_gate, AllJoined}
 use Rattle.sheet.specs.PlaceLaws.{no_gate, no_edge, sheet_gates, few_gates}
 use Rattle.joiner_laws.specs.WritingLaws.{edge_is, edge_reads, kept_few, used_few, fanin_put, gate_put, gate_gone, writing_end}
 use Rattle.joiner.proofs.write_staying.Goals as goal
-use Rattle.joiner.proofs.write_staying.Goals.{In-loop-g}
+use Rattle.joiner.proofs.write_staying.Goals.{In-loop-g, then-not-joined-g+else-loop-i-test, else-not-joined-g}
 
 -- a gate's turn
 record Turn (sheet : Sheet) (r : JoinedGates) (g : ℕ) : Type 0 where
@@ -69,25 +69,22 @@ fits c e =
     let n = used_few (drawn_sheet sheet) t.formed c.loop-g.invariant t.inside (flag sheet c.args.joined c.loop-g.g t e) in
     omega (arith, n, (gate_is sheet c.args.joined c.loop-g.g t).count)
 
-pub loop-g-preserved-then-joined-g : goal.loop-g-preserved-then-joined-g
-loop-g-preserved-then-joined-g c =
-    let sheet = c.args.sheet in
-    let t = turn (goal.at.loop-g-preserved-then-joined-g c).In-loop-g in
-    gate_gone (drawn_sheet sheet) t.formed c.loop-g.invariant t.inside t.few (flag sheet c.args.joined c.loop-g.g t c.if-joined-g.true)
+pub overflow_cast-size : goal.overflow_cast-size
+overflow_cast-size c = record { fits = omega (arith, fits (goal.at.overflow_cast-size c).In-loop-g c.if-not-joined-g.true) }
 
 pub place_of-at-requires : goal.place_of-at-requires
 place_of-at-requires c =
     let t = turn (goal.at.place_of-at-requires c).In-loop-g in
     λ j m. let b = reads c.args.sheet c.args.joined c.loop-g.g t c.loop-i.i c.loop-i-test.true j m in (b.0, omega (arith, b.1, t.inside, t.few))
 
-pub overflow_add-place : goal.overflow_add-place
-overflow_add-place c = omega (arith, c.loop-i-test.true, fits (goal.at.overflow_add-place c).In-loop-g c.if-joined-g.false)
+pub overflow_add-fanins : goal.overflow_add-fanins
+overflow_add-fanins c = omega (arith, c.loop-i-test.true, fits (goal.at.overflow_add-fanins c).In-loop-g c.if-not-joined-g.true)
 
-pub offset_bounds-fanins-place : goal.offset_bounds-fanins-place
-offset_bounds-fanins-place c = omega (arith, c.loop-i-test.true, fits (goal.at.offset_bounds-fanins-place c).In-loop-g c.if-joined-g.false)
+pub offset_bounds-fanins-used : goal.offset_bounds-fanins-used
+offset_bounds-fanins-used c = omega (arith, c.loop-i-test.true, fits (goal.at.offset_bounds-fanins-used c).In-loop-g c.if-not-joined-g.true)
 
-pub bounds-fanins-place : goal.bounds-fanins-place
-bounds-fanins-place c = omega (arith, c.loop-i-test.true, fits (goal.at.bounds-fanins-place c).In-loop-g c.if-joined-g.false)
+pub bounds-fanins-used : goal.bounds-fanins-used
+bounds-fanins-used c = omega (arith, c.loop-i-test.true, fits (goal.at.bounds-fanins-used c).In-loop-g c.if-not-joined-g.true)
 
 pub loop-i-preserved : goal.loop-i-preserved
 loop-i-preserved c =
@@ -100,11 +97,11 @@ loop-i-preserved c =
     let l = c.loop-i-test.true in
     let m = i_inside sheet r g t i l in
     rw c.renumbered.ensures
-    (fanin_put s t.formed c.loop-i.invariant m t.inside (flag sheet r g t c.if-joined-g.false) (edge_is s t.formed t.inside (gate_is sheet r g t) m) (reads sheet r g t i l)
+    (fanin_put s t.formed c.loop-i.invariant m t.inside (flag sheet r g t c.if-not-joined-g.true) (edge_is s t.formed t.inside (gate_is sheet r g t) m) (reads sheet r g t i l)
     (ap (λ a. get_or c.loop-g.numbers a 0) c.place_of-at.ensures.0))
 
 pub overflow_cast-used : goal.overflow_cast-used
-overflow_cast-used c = record { fits = omega (arith, fits (goal.at.overflow_cast-used c).In-loop-g c.if-joined-g.false) }
+overflow_cast-used c = record { fits = omega (arith, fits (goal.at.overflow_cast-used c).In-loop-g c.if-not-joined-g.true) }
 
 pub bounds-gates-kept : goal.bounds-gates-kept
 bounds-gates-kept c = omega (arith, kept_low (goal.at.bounds-gates-kept c).In-loop-g)
@@ -115,9 +112,14 @@ loop-g-preserved c =
     let r = c.args.joined in
     let g = c.loop-g.g in
     let t = turn (goal.at.loop-g-preserved c).In-loop-g in
-    let is = gate_is sheet r g t in
-    rw c.placed.ensures
-    (gate_put (drawn_sheet sheet) t.formed c.loop-i.invariant (omega (arith, c.loop-i-test.false, is.count)) t.inside t.few (flag sheet r g t c.if-joined-g.false) is)
+    elim c.if-not-joined-g.branch [
+      | then-not-joined-g+else-loop-i-test w ↦
+          let is = gate_is sheet r g t in
+          rw (w.gates-is, w.fanins-is, w.kept-is, w.used-is, w.placed.ensures)
+          (gate_put (drawn_sheet sheet) t.formed w.loop-i.invariant (omega (arith, w.loop-i-test.false, is.count)) t.inside t.few (flag sheet r g t w.if-not-joined-g.true) is)
+      | else-not-joined-g w ↦ rw (w.gates-is, w.fanins-is, w.kept-is, w.used-is)
+          (gate_gone (drawn_sheet sheet) t.formed c.loop-g.invariant t.inside t.few (flag sheet r g t w.if-not-joined-g.false))
+    ]
 
 pub returns : goal.returns
 returns c =
