@@ -3,14 +3,14 @@ ghost use Rattle.std.specs.Prelude.{◌≡◌, ◌<◌};
 ghost use Rattle.mapper_laws.specs.CodeMap.{Begun, with_fanin, Mappable, GateRun, GateMapped, Reaches, Gathers};
 ghost use Rattle.mapper_laws.specs.CodeRun.{Runnable};
 
-use crate::fanin::leaf;
-use gate_fanins::fanin_count;
+use crate::fanin::{key_of, read_from};
+use gate_fanins::fanins_of;
 use gate_run::{follow, operand};
 use mapper_laws::{Held, MappedGate, Operands};
 use pending::Pending;
 use plan::{Key, Plan};
 use search::best_plan;
-use sheet::{Edge, FANIN_ROOM, Gate, Source};
+use sheet::{Edge, FANIN_ROOM, Gate, MOST_GATES};
 use tree::Kind;
 
 // No fanins.
@@ -31,49 +31,30 @@ fn no_operands() -> Operands
 }
 
 // One fanin more.
-fn with_fanin(operands: Operands, inverted: bool, held: Held) -> Operands
+fn with_fanin(mut operands: Operands, inverted: bool, held: Held) -> Operands
     requires { operands.count < 10 }
     ensures { result ≡ with_fanin operands inverted held }
 {
-    let mut o = operands;
-    let count = o.count;
-    let at = count as usize;
-    let table = held.table;
-    let width = table.count;
-    o.fanins[at] = Pending { inverted, table };
-    o.keys[at] = Key {
-        below: held.below,
-        width,
+    let at = operands.count as usize;
+    operands.fanins[at] = Pending {
+        inverted,
+        table: held.table,
     };
-    o.count = count + 1;
-    o
+    operands.keys[at] = key_of(held);
+    operands.count += 1;
+    operands
 }
 
 // The fanins of a gate, among its sheet's, where `held` has the gates before it.
-pub fn gather(gate: Gate, fanins: [Edge; FANIN_ROOM], held: [Held; 255]) -> Operands
-    requires { Reaches fanins gate }
-    ensures { Gathers fanins gate held result }
+pub fn gather(gate: Gate, fanins: &[Edge; FANIN_ROOM], held: &[Held; MOST_GATES]) -> Operands
+    requires { Reaches fanins.now gate }
+    ensures { Gathers fanins.now gate held.now result }
 {
-    let count = fanin_count(gate);
-    let mut o = no_operands();
-    let mut i: usize = 0;
-    while i < count {
-        let place = gate.first as usize + i;
-        let edge = fanins[place];
-        let source = edge.source;
-        match source {
-            Source::Net(n) => {
-                o = with_fanin(o, edge.inverted, leaf(n));
-                i += 1;
-            }
-            Source::Gate(g) => {
-                let at = g as usize - 1;
-                o = with_fanin(o, edge.inverted, held[at]);
-                i += 1;
-            }
-        }
+    let mut operands = no_operands();
+    for edge in fanins_of(gate, fanins) {
+        operands = with_fanin(operands, edge.inverted, read_from(edge.source, held));
     }
-    o
+    operands
 }
 
 // Maps a gate with those fanins by a plan, where so many tables stand before those that it places. The count of tables below is that of the plan's key.
@@ -82,16 +63,11 @@ pub fn run_gate(first: u16, kind: Kind, operands: Operands, plan: Plan) -> Mappe
     ensures { GateRun first kind operands plan result }
 {
     let run = follow(first, kind, operands, plan);
-    let top = operand(run, 0);
-    let table = top.table;
-    let key = plan.key;
-    MappedGate {
-        held: Held {
-            below: key.below,
-            table,
-        },
-        run,
-    }
+    let held = Held {
+        below: plan.key.below,
+        table: operand(run, 0).table,
+    };
+    MappedGate { held, run }
 }
 
 // Maps a gate with those fanins, where so many tables stand before those that it places.

@@ -1,7 +1,7 @@
 // Mapping a gate of two fanins.
 ghost use Rattle.std.specs.Prelude.{◌≡◌, ◌≤◌};
 ghost use Rattle.mapper_laws.specs.CodeMap.{Mappable};
-ghost use Rattle.mapper_laws.specs.CodePair.{count_if, two_tables, pair_of, pair_mapped};
+ghost use Rattle.mapper_laws.specs.CodePair.{two_tables, pair_of, pair_mapped};
 
 use crate::fanin::key_of;
 use gate_run::hold;
@@ -10,12 +10,6 @@ use mapper_laws::{Held, MappedPair};
 use merge::merge;
 use pending::{Lut, Pending};
 use tree::Kind;
-
-fn count_if(flag: bool) -> u8
-    ensures { (result ≡ count_if flag) × (result ≤ 1) }
-{
-    if flag { 1 } else { 0 }
-}
 
 // The tables of two operands, of which the left one may not be placed.
 fn two_tables(left: bool, x: Lut, y: Lut) -> [Lut; 2]
@@ -41,27 +35,24 @@ pub fn map_pair(
     let b = key_of(low);
     let key = join(k, a, b);
     let cuts = cuts_of(k, a, b);
-    let left = cuts.left;
-    let right = cuts.right;
     let table = high.table;
+    let x = hold(first, 0, cuts.left, Pending { inverted: j, table });
     let other = low.table;
-    let x = hold(first, 0, left, Pending { inverted: j, table });
     let y = hold(
         first,
-        count_if(left),
-        right,
+        u8::from(cuts.left),
+        cuts.right,
         Pending {
             inverted: i,
             table: other,
         },
     );
-    let merged = merge(kind, x, y);
     MappedPair {
         held: Held {
             below: key.below,
-            table: merged,
+            table: merge(kind, x, y),
         },
-        placed: count_if(left) + count_if(right),
-        tables: two_tables(left, table, other),
+        placed: u8::from(cuts.left) + u8::from(cuts.right),
+        tables: two_tables(cuts.left, table, other),
     }
 }

@@ -6,36 +6,30 @@ ghost use Rattle.mapper_laws.specs.CodeRun.{pushed, placed_if, operand_at, repla
 
 use mapper_laws::{Operands, PlanRun};
 use merge::{merge, single};
-use pending::{Lut, Pending};
+use pending::{Lut, Pending, zero_lut};
 use plan::{Plan, Token};
 use tree::Kind;
 
 // One operand more.
-fn push(run: PlanRun, x: Pending) -> PlanRun
+fn push(mut run: PlanRun, x: Pending) -> PlanRun
     requires { run.depth < 10 }
     ensures { result ≡ pushed run x }
 {
-    let mut r = run;
-    let depth = r.depth;
-    let at = depth as usize;
-    r.stack[at] = x;
-    r.depth = depth + 1;
-    r
+    run.stack[run.depth as usize] = x;
+    run.depth += 1;
+    run
 }
 
 // A table placed, where the flag says so.
-fn place(run: PlanRun, cut: bool, t: Lut) -> PlanRun
+fn place(mut run: PlanRun, cut: bool, t: Lut) -> PlanRun
     requires { run.placed < 18 }
     ensures { result ≡ placed_if cut run t }
 {
-    let mut r = run;
     if cut {
-        let placed = r.placed;
-        let at = placed as usize;
-        r.tables[at] = t;
-        r.placed = placed + 1;
+        run.tables[run.placed as usize] = t;
+        run.placed += 1;
     }
-    r
+    run
 }
 
 // The operand i, counted from the bottom.
@@ -47,19 +41,16 @@ pub fn operand(run: PlanRun, i: usize) -> Pending
 }
 
 // The two operands on top replaced by one that is read upright.
-fn replace(run: PlanRun, t: Lut) -> PlanRun
+fn replace(mut run: PlanRun, t: Lut) -> PlanRun
     requires { (2 ≤ run.depth) × (run.depth ≤ 10) }
     ensures { result ≡ replaced run t }
 {
-    let mut r = run;
-    let depth = r.depth;
-    let at = depth as usize - 2;
-    r.stack[at] = Pending {
+    run.stack[run.depth as usize - 2] = Pending {
         inverted: false,
         table: t,
     };
-    r.depth = depth - 1;
-    r
+    run.depth -= 1;
+    run
 }
 
 // An operand held; or, where the flag says so, the code of the table in which it is placed, the next one after those before the run and
@@ -100,10 +91,7 @@ fn advance(run: PlanRun, first: u16, kind: Kind, operands: Operands, token: Toke
     ensures { Advanced first kind operands token run result }
 {
     match token {
-        Token::Push(i) => {
-            let at = i as usize;
-            push(run, operands.fanins[at])
-        }
+        Token::Push(i) => push(run, operands.fanins[i as usize]),
         Token::Join(l, r) => join(run, first, kind, l, r),
     }
 }
@@ -112,12 +100,7 @@ fn advance(run: PlanRun, first: u16, kind: Kind, operands: Operands, token: Toke
 fn start() -> PlanRun
     ensures { Holds result × (result.depth ≡ 0) × (result.placed ≡ 0) }
 {
-    let table = Lut {
-        net: 0,
-        count: 0,
-        inputs: [0; 6],
-        truth: 0,
-    };
+    let table = zero_lut();
     let none = Pending {
         inverted: false,
         table,
@@ -135,14 +118,9 @@ pub fn follow(first: u16, kind: Kind, operands: Operands, plan: Plan) -> PlanRun
     requires { Runnable first kind operands plan }
     ensures { Ran first kind operands plan result }
 {
-    let len = plan.len as usize;
-    let mut r = start();
-    let mut i: usize = 0;
-    while i < len {
-        let step = plan.steps[i];
-        let token = step.token;
-        r = advance(r, first, kind, operands, token);
-        i += 1;
+    let mut run = start();
+    for step in &plan.steps[..plan.len as usize] {
+        run = advance(run, first, kind, operands, step.token);
     }
-    r
+    run
 }

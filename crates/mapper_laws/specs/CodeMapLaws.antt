@@ -1,10 +1,10 @@
 -- The code's mapping of a sheet follows the mapping on lists.
-use Rattle.std.specs.Prelude.{ℕ, suc, ◌+◌, ◌-◌, ◌<◌, ◌≤◌, ◌≡◌, refl, false, List, [], ◌∷◌, ◌++◌, map, length, get_or, set, take}
-use Rattle.std.proofs.Common.{add-zero, add-one, arith, sym, ap, ap₂, ◌∙◌, subst, append_assoc, append-nil, length-set, get_or-take, length-take-le, take-suc, take-suc-set, get_or-set_same, get_or-set_other}
+use Rattle.std.specs.Prelude.{ℕ, ◌+◌, ◌-◌, ◌<◌, ◌≤◌, ◌≡◌, refl, false, List, [], ◌∷◌, ◌++◌, map, length, get_or, set, take}
+use Rattle.std.proofs.Common.{add-one, arith, sym, ap, ap₂, ◌∙◌, length-set, get_or-take, length-take-le, take_all, take-suc, take-suc-set, get_or-set_same, get_or-set_other}
 use Rattle.lists.specs.Trusted.Lists.{Every}
 use Rattle.lists.specs.Sequences.{Sorted}
 use Rattle.lists.specs.Cases.{by_eqb}
-use Rattle.lists.specs.ListLaws.{every_none, map_at}
+use Rattle.lists.specs.ListLaws.{every_none, every_head, map_at}
 use Rattle.lists.specs.NumberLaws.{sorted_sorted}
 use Rattle.tree.specs.declared.Kind.{Kind}
 use Rattle.tree.specs.Trusted.Limits.{code_base}
@@ -21,11 +21,10 @@ use Rattle.table.specs.RuleLaws.{map_append}
 use Rattle.sheet.specs.declared.Source.{Source}
 use Rattle.sheet.specs.declared.Source.TheVariants.{Net, Gate}
 use Rattle.sheet.specs.declared.Edge.{Edge}
-use Rattle.sheet.specs.declared.Gate.{Gate as SheetGate}
-use Rattle.sheet.specs.Trusted.Limits.{most_gates}
-use Rattle.sheet.specs.Trusted.Answers.{drawn_gate}
-use Rattle.sheet.specs.Trusted.Sheet.{fanin_gates}
-use Rattle.sheet.specs.PlaceLaws.{no_edge, edge_drawn, every_source}
+use Rattle.sheet.specs.Trusted.Sheet.{gate_of}
+use Rattle.sheet.specs.PlaceLaws.{no_edge}
+use Rattle.gate_fanins.specs.Fanins.{place_in}
+use Rattle.gate_fanins.specs.FaninLaws.{every_fanin}
 use Rattle.mapper_laws.specs.declared.PlanRun.{PlanRun}
 use Rattle.mapper_laws.specs.declared.Operands.{Operands}
 use Rattle.mapper_laws.specs.declared.Held.{Held}
@@ -33,11 +32,12 @@ use Rattle.mapper_laws.specs.declared.Mapping.{Mapping}
 use Rattle.pending.specs.Operands.{single}
 use Rattle.pending.specs.declared.Pending.{Pending}
 use Rattle.pending.specs.Pendings.{operand_of, Neat}
-use Rattle.mapper_laws.specs.CodeRun.{no_table, no_pending, fanins_of, Runnable}
+use Rattle.mapper_laws.specs.CodeRun.{no_pending, fanins_of, Runnable}
 use Rattle.mapper_laws.specs.CodeRunLaws.{kept_count, fanin_count_lem, record_neat, stored_all}
 use Rattle.mapper_laws.specs.SafeLaws.{safe_planned}
 use Rattle.mapper_laws.specs.Mapping.{GatesMapped as MappedOnList, mapped_at, key_of, held_table, source_table}
-use Rattle.mapper_laws.specs.CodeMap.{leaf_of, Begun, with_fanin, keys_in, Mappable, HeldIs, BelowIs, no_held, HeldAll, Reaches, Gathered, Gathering, most_tables, Staging, Staged}
+use Rattle.mapper_laws.specs.CodePair.{read_as}
+use Rattle.mapper_laws.specs.CodeMap.{leaf_of, Begun, with_fanin, keys_in, Mappable, HeldIs, BelowIs, no_held, HeldAll, Gathered, Gathering, run_of, Staged}
 
 -- ---- one gate
 
@@ -69,33 +69,13 @@ module _ {K first : ℕ} {o : Operands} (m : Mappable K first o) where
 
 -- ---- staging
 
-module _ (m : Mapping) (s : PlanRun) where
-  pub staging_start : length m.tables ≡ most_tables → Staging m s 0 m
-  staging_start l = record {
-    count = refl;
-    at = omega arith;
-    tables = ap (λ n. take n m.tables) (add-zero m.count) ∙ sym (append-nil (take m.count m.tables));
-    room = l;
-  }
-
-  pub staging_next : {i : ℕ} {r : Mapping} → m.count + s.placed ≤ most_tables → i < s.placed → s.placed ≤ length s.tables → Staging m s i r →
-      Staging m s (i + 1) (record { count = r.count; tables = set r.tables (m.count + i) (get_or s.tables i no_table) })
-  staging_next {i} {r} few l room g = record {
-    count = g.count;
-    at = omega arith;
-    tables =
-        ap (λ n. take n (set r.tables (m.count + i) (get_or s.tables i no_table))) (let e : m.count + (i + 1) ≡ suc (m.count + i) = omega arith in e)
-        ∙ take-suc-set r.tables (m.count + i) (get_or s.tables i no_table) (omega (arith, g.room))
-        ∙ ap (λ ts. ts ++ (get_or s.tables i no_table ∷ [])) g.tables
-        ∙ append_assoc (take m.count m.tables) (take i s.tables) (get_or s.tables i no_table ∷ [])
-        ∙ ap (λ ts. take m.count m.tables ++ ts) (sym (take-suc s.tables i no_table (omega arith)) ∙ ap (λ n. take n s.tables) (sym (add-one i)));
-    room = length-set r.tables (m.count + i) (get_or s.tables i no_table) ∙ g.room;
-  }
-
-  pub staging_end : {i : ℕ} {r : Mapping} → s.placed ≤ i → Staging m s i r → Staged m s (record { count = m.count + s.placed; tables = r.tables })
-  staging_end {i} {r} l g =
-      let e : i ≡ s.placed = omega (arith, g.at) in
-      record { count = refl; tables = subst (λ n. take (m.count + n) r.tables ≡ take m.count m.tables ++ take n s.tables) e g.tables; room = g.room }
+-- the tables that a run placed, as tables that are staged
+pub staged_run : {m n : Mapping} (s : PlanRun) → s.placed ≤ length s.tables → Staged m (run_of (take s.placed s.tables)) n → Staged m s n
+staged_run {m} s l z = record {
+  count = z.count ∙ ap (λ k. m.count + k) (length-take-le s.placed s.tables l);
+  tables = z.tables ∙ ap (λ ts. take m.count m.tables ++ ts) (take_all (length (take s.placed s.tables)) (take s.placed s.tables) (omega arith));
+  room = z.room;
+}
 
 -- ---- the fanins of a gate
 
@@ -117,6 +97,11 @@ read_gate_lem : (done : List MappedOnList) (held : List Held) → HeldAll HeldIs
 read_gate_lem done held a g l m =
     let h = a (g - 1) (omega arith) in
     record { table = h.table; below = λ b. b (g - 1) (omega arith); width = h.width; fits = h.fits.1; sorts = held_sorted (mapped_at done g) }
+
+read_source : (done : List MappedOnList) (held : List Held) → HeldAll HeldIs done held → (s : Source) → Every (λ j. (1 ≤ j) × (j ≤ length done)) (gate_of s) →
+    Reading done held s (read_as s (get_or held (place_in s) no_held))
+read_source done held a (Net n) b = read_net done held n
+read_source done held a (Gate g) b = let c = every_head b in read_gate_lem done held a g c.0 c.1
 
 module _ {done : List MappedOnList} {held : List Held} {fs : List Edge} {o : Operands} (room : length o.fanins ≡ 10) (key_room : length o.keys ≡ 10) (few : o.count < 10)
     (g : Gathered done held fs o) (f : Edge) (h : Held) (r : Reading done held f.source h) where
@@ -167,36 +152,21 @@ gathering_start {o = o} b = record {
   };
 }
 
-module _ (fs : List Edge) (x : SheetGate) (held : List Held) {i : ℕ} {o : Operands} (g : Gathering (drawn_gate fs x).fanins held i o) (l : i < length (drawn_gate fs x).fanins) (few : i < 10) where
+module _ (fs : List Edge) (held : List Held) {i : ℕ} {o : Operands} (g : Gathering fs held i o) (l : i < length fs) (few : i < 10) where
   abbrev edge : Edge
-  edge = get_or fs (x.first + i) no_edge
+  edge = get_or fs i no_edge
 
-  drawn_edge : get_or (drawn_gate fs x).fanins i no_edge ≡ edge
-  drawn_edge = edge_drawn fs x l
+  abbrev reads : Held
+  reads = read_as edge.source (get_or held (place_in edge.source) no_held)
 
-  next_count_room : o.count < 10
-  next_count_room = omega (arith, g.count)
-
-  gathering_next : (h : Held) →
-      ((done : List MappedOnList) → HeldAll HeldIs done held → Every (λ j. (1 ≤ j) × (j ≤ length done)) (fanin_gates (drawn_gate fs x).fanins) → Reading done held edge.source h) →
-      Gathering (drawn_gate fs x).fanins held (i + 1) (with_fanin o edge.inverted h)
-  gathering_next h r = record {
+  pub gather_next : Gathering fs held (i + 1) (with_fanin o edge.inverted reads)
+  gather_next = record {
     count = omega (arith, g.count);
     some = (omega arith, omega arith);
-    room = length-set o.fanins o.count (record { inverted = edge.inverted; table = h.table }) ∙ g.room;
-    key_room = length-set o.keys o.count (record { below = h.below; width = h.table.count }) ∙ g.key_room;
+    room = length-set o.fanins o.count (record { inverted = edge.inverted; table = reads.table }) ∙ g.room;
+    key_room = length-set o.keys o.count (record { below = reads.below; width = reads.table.count }) ∙ g.key_room;
     gathered = λ done a m.
-        rw (add-one i, take-suc (drawn_gate fs x).fanins i no_edge l, drawn_edge)
-        (next_gathered g.room g.key_room next_count_room (g.gathered done a m) edge h (r done a m));
+        rw (add-one i, take-suc fs i no_edge l)
+        (next_gathered g.room g.key_room (omega (arith, g.count)) (g.gathered done a m) edge reads
+        (read_source done held a edge.source (every_fanin {P = λ j. (1 ≤ j) × (j ≤ length done)} fs i l m)));
   }
-
-  pub gather_net : {n : ℕ} → edge.source ≡ Net n → Gathering (drawn_gate fs x).fanins held (i + 1) (with_fanin o edge.inverted (leaf_of n))
-  gather_net {n} e = gathering_next (leaf_of n) (λ done a m. rw e (read_net done held n))
-
-  pub gather_gate : {j : ℕ} → edge.source ≡ Gate j → Gathering (drawn_gate fs x).fanins held (i + 1) (with_fanin o edge.inverted (get_or held (j - 1) no_held))
-  gather_gate {j} e =
-      gathering_next (get_or held (j - 1) no_held)
-      (λ done a m. let b = every_source {P = λ j. (1 ≤ j) × (j ≤ length done)} (drawn_gate fs x).fanins i j m l (ap (λ f. f.source) drawn_edge ∙ e) in rw e (read_gate_lem done held a j b.0 b.1))
-
-  pub gate_reached : Reaches fs x → {j : ℕ} → edge.source ≡ Gate j → (1 ≤ j) × (j ≤ most_gates)
-  gate_reached h {j} e = every_source {P = λ j. (1 ≤ j) × (j ≤ most_gates)} (drawn_gate fs x).fanins i j h.gates l (ap (λ f. f.source) drawn_edge ∙ e)

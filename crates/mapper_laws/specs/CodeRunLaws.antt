@@ -334,17 +334,14 @@ module _ (first : ℕ) (k : Kind) (o : Operands) (p : Plan) where
       new : state_of s ≡ begun
       new = ap₂ (λ n m. record { stack = stack_of n s.stack; placed = map lut_table (take m s.tables) }) d e
 
-  module _ (size : length p.steps ≡ 19) {i : ℕ} {s : PlanRun} (r : Runnable first k o p) (f : Following first k o p i s) (l : i < p.len) where
+  module _ {i : ℕ} {s : PlanRun} (r : Runnable first k o p) (f : Following first k o p i s) (l : i < length (take p.len p.steps)) where
     abbrev next : Token
-    next = (get_or p.steps i (record { token = Push 0 })).token
+    next = (get_or (take p.len p.steps) i (record { token = Push 0 })).token
 
     rest : drop i (tokens p) ≡ next ∷ drop (i + 1) (tokens p)
     rest =
-        let m : i < length (take p.len p.steps) = omega (arith, l, length-take-le p.len p.steps (omega (arith, size, r.len))) in
-        drop-cons (tokens p) i (Push 0) (omega (arith, m, length-map (take p.len p.steps) (λ x. x.token)))
-        ∙ ap₂ ◌∷◌
-        (map_at (λ x. x.token) (take p.len p.steps) i (record { token = Push 0 }) (Push 0) m ∙ ap (λ x. x.token) (get_or-take p.len p.steps i (record { token = Push 0 }) l))
-        (ap (λ n. drop n (tokens p)) (sym (add-one i)))
+        drop-cons (tokens p) i (Push 0) (omega (arith, l, length-map (take p.len p.steps) (λ x. x.token)))
+        ∙ ap₂ ◌∷◌ (map_at (λ x. x.token) (take p.len p.steps) i (record { token = Push 0 }) (Push 0) l) (ap (λ n. drop n (tokens p)) (sym (add-one i)))
 
     safe_next : SafeStep code_base first k (fanins_of o) next (state_of s) × SafeRun code_base first k (fanins_of o) (drop (i + 1) (tokens p)) (run_token code_base first k (fanins_of o) next (state_of s))
     safe_next = subst (λ ts. SafeRun code_base first k (fanins_of o) ts (state_of s)) rest f.safe
@@ -354,16 +351,16 @@ module _ (first : ℕ) (k : Kind) (o : Operands) (p : Plan) where
 
     pub following_next : {s' : PlanRun} → Advanced first k o next s s' → Following first k o p (i + 1) s'
     following_next a = record {
-      at = omega arith;
+      at = omega (arith, l, length-take p.len p.steps);
       holds = a.holds;
       safe = rw a.state safe_next.1;
       ends = ap (run_plan code_base first k (fanins_of o) (drop (i + 1) (tokens p))) a.state ∙ ap (λ ts. run_plan code_base first k (fanins_of o) ts (state_of s)) (sym rest) ∙ f.ends;
     }
 
-  pub following_end : {i : ℕ} {s : PlanRun} → p.len ≤ i → Following first k o p i s → Ran first k o p s
+  pub following_end : {i : ℕ} {s : PlanRun} → length (take p.len p.steps) ≤ i → Following first k o p i s → Ran first k o p s
   following_end {i} {s} l f = record {
     holds = f.holds;
     state =
         ap (λ ts. run_plan code_base first k (fanins_of o) ts (state_of s))
-        (sym (drop_past i (tokens p) (omega (arith, l, length-map (take p.len p.steps) (λ x. x.token), length-take p.len p.steps)))) ∙ f.ends;
+        (sym (drop_past i (tokens p) (omega (arith, l, length-map (take p.len p.steps) (λ x. x.token))))) ∙ f.ends;
   }

@@ -1,7 +1,7 @@
 -- A gate of two fanins mapped without a search: as by a plan of three steps, which is the least.
-use Rattle.std.specs.Prelude.{ℕ, ◌+◌, ◌≤◌, ◌<◌, ◌≡◌, refl, Bool, true, false, List, [], ◌∷◌, ◌++◌, length, take, replicate, get_or}
-use Rattle.std.proofs.Common.{add-zero, arith, sym, ap, ap₂, ◌∙◌, subst, subst₂}
-use Rattle.lists.specs.Trusted.Lists.{Every, empty, more, here, there}
+use Rattle.std.specs.Prelude.{ℕ, ◌+◌, ◌≤◌, ◌≡◌, refl, Bool, true, false, List, [], ◌∷◌, ◌++◌, length, take, replicate, get_or}
+use Rattle.std.proofs.Common.{arith, sym, ap, ap₂, ◌∙◌, subst}
+use Rattle.lists.specs.Trusted.Lists.{empty, more, here, there}
 use Rattle.lists.specs.Sequences.{neither, left, right}
 use Rattle.lists.specs.ListLaws.{every_none, every_cons, every_head, every_tail}
 use Rattle.tree.specs.declared.Kind.{Kind}
@@ -16,13 +16,7 @@ use Rattle.plan.specs.Reach.{Reach, one, both, LeastReach}
 use Rattle.plan.specs.ReachLaws.{no_reach, least_single, reach_wide}
 use Rattle.plan.specs.Plans.{fanin, binary}
 use Rattle.plan.specs.PlanOf.{PlanAnswer}
-use Rattle.sheet.specs.declared.Source.{Source}
-use Rattle.sheet.specs.declared.Source.TheVariants.{Net, Gate}
 use Rattle.sheet.specs.declared.Edge.{Edge}
-use Rattle.sheet.specs.declared.Gate.{Gate as SheetGate}
-use Rattle.sheet.specs.Trusted.Limits.{most_gates}
-use Rattle.sheet.specs.Trusted.Answers.{drawn_gate}
-use Rattle.sheet.specs.Trusted.Sheet.{gate_of}
 use Rattle.mapper_laws.specs.declared.Operands.{Operands}
 use Rattle.mapper_laws.specs.declared.Held.{Held}
 use Rattle.mapper_laws.specs.declared.MappedGate.{MappedGate}
@@ -34,8 +28,8 @@ use Rattle.pending.specs.declared.Lut.{Lut}
 use Rattle.pending.specs.Luts.{lut_of}
 use Rattle.mapper_laws.specs.CodeRun.{operand_at, held_if, pushed, left_placed, joined, Joins, Holds, Following, Runnable, Ran}
 use Rattle.mapper_laws.specs.CodeRunLaws.{push_advanced, join_fits, join_advanced, following_start, following_advances, following_next, following_end}
-use Rattle.mapper_laws.specs.CodeMap.{with_fanin, keys_in, Mappable, GateMapped, no_held, Reaches, Gathering, Gathers, Staged}
-use Rattle.mapper_laws.specs.CodeMapLaws.{gate_runnable, gathering_start, gather_net, gather_gate, gate_reached}
+use Rattle.mapper_laws.specs.CodeMap.{keys_in, Mappable, GateMapped, no_held, Gathering, Staged}
+use Rattle.mapper_laws.specs.CodeMapLaws.{gate_runnable, gathering_start, gather_next}
 use Rattle.sheet.specs.PlaceLaws.{no_edge}
 use Rattle.gate_fanins.specs.Fanins.{place_in}
 use Rattle.mapper_laws.specs.CodePair.{read_as, pending_of, key_in, no_operands, pair_of, count_if, two_tables, no_run, pair_taken, joint_of, pair_mapped, staged_of}
@@ -127,22 +121,22 @@ module _ {K first : ℕ} (i : Bool) (x : Held) (j : Bool) (y : Held) (m : Mappab
 
   taken_one : Following first k o plan 1 (pushed no_run (pending_of j y))
   taken_one =
-      following_next first k o plan refl runnable taken_none (omega arith)
-      (push_advanced first k o no_run refl (following_advances first k o plan refl runnable taken_none (omega arith)) refl)
+      following_next first k o plan runnable taken_none (omega arith)
+      (push_advanced first k o no_run refl (following_advances first k o plan runnable taken_none (omega arith)) refl)
 
   taken_two : Following first k o plan 2 (pair_taken i x j y)
   taken_two =
-      following_next first k o plan refl runnable taken_one (omega arith)
-      (push_advanced first k o (pushed no_run (pending_of j y)) refl (following_advances first k o plan refl runnable taken_one (omega arith)) refl)
+      following_next first k o plan runnable taken_one (omega arith)
+      (push_advanced first k o (pushed no_run (pending_of j y)) refl (following_advances first k o plan runnable taken_one (omega arith)) refl)
 
   pair_joins : Joins first l r (pair_taken i x j y)
-  pair_joins = join_fits first k o (pair_taken i x j y) refl (following_advances first k o plan refl runnable taken_two (omega arith))
+  pair_joins = join_fits first k o (pair_taken i x j y) refl (following_advances first k o plan runnable taken_two (omega arith))
 
   ran : Ran first k o plan (joined first k l r (pair_taken i x j y))
   ran =
       following_end first k o plan (omega arith)
-      (following_next first k o plan refl runnable taken_two (omega arith)
-      (join_advanced first k o (pair_taken i x j y) refl (following_advances first k o plan refl runnable taken_two (omega arith)) refl))
+      (following_next first k o plan runnable taken_two (omega arith)
+      (join_advanced first k o (pair_taken i x j y) refl (following_advances first k o plan runnable taken_two (omega arith)) refl))
 
   -- ---- what the code makes is what the plan gives
 
@@ -222,43 +216,18 @@ pair_by K first k i x j y {cut = cut} ea eb ec ecut eu en ev et ep eq ets =
 
 -- ---- the two fanins of a gate
 
--- the one at a place of the sheet's
+-- the edge at a place, and what it reads
 abbrev pub edge_at : List Edge → ℕ → Edge
 edge_at fs at = get_or fs at no_edge
 
--- what it reads
 abbrev pub read_at : List Edge → List Held → ℕ → Held
 read_at fs held at = read_as (edge_at fs at).source (get_or held (place_in (edge_at fs at).source) no_held)
 
-module _ (fs : List Edge) (g : SheetGate) (held : List Held) (two : length (drawn_gate fs g).fanins ≡ 2) where
-  gather_source : (n : ℕ) {o : Operands} → Gathering (drawn_gate fs g).fanins held n o → n < 2 → Gathering (drawn_gate fs g).fanins held (n + 1) (with_fanin o (edge_at fs (g.first + n)).inverted (read_at fs held (g.first + n)))
-  gather_source n {o} h l = of (edge_at fs (g.first + n)).source refl
-    where
-      of : (s : Source) → (edge_at fs (g.first + n)).source ≡ s →
-          Gathering (drawn_gate fs g).fanins held (n + 1) (with_fanin o (edge_at fs (g.first + n)).inverted (read_as s (get_or held (place_in s) no_held)))
-      of (Net c) e = gather_net fs g held h (omega arith) (omega arith) e
-      of (Gate c) e = gather_gate fs g held h (omega arith) (omega arith) e
-
-  none : Gathering (drawn_gate fs g).fanins held 0 no_operands
-  none = gathering_start (record { count = refl; room = refl; key_room = refl })
-
-  pub pair_gathers : Gathers fs g held (pair_of (edge_at fs g.first).inverted (read_at fs held g.first) (edge_at fs (g.first + 1)).inverted (read_at fs held (g.first + 1)))
-  pair_gathers =
-      subst₂ (λ n at. Gathering (drawn_gate fs g).fanins held n (pair_of (edge_at fs at).inverted (read_at fs held at) (edge_at fs (g.first + 1)).inverted (read_at fs held (g.first + 1))))
-      (sym two) (add-zero g.first) (gather_source 1 (gather_source 0 none (omega arith)) (omega arith))
-
-  -- the gates that they read are in the array
-  module _ (h : Reaches fs g) where
-    source_reached : (n : ℕ) {o : Operands} → Gathering (drawn_gate fs g).fanins held n o → n < 2 → Every (λ c. (1 ≤ c) × (c ≤ most_gates)) (gate_of (edge_at fs (g.first + n)).source)
-    source_reached n q l = of (edge_at fs (g.first + n)).source refl
-      where
-        of : (s : Source) → (edge_at fs (g.first + n)).source ≡ s → Every (λ c. (1 ≤ c) × (c ≤ most_gates)) (gate_of s)
-        of (Net c) e = every_none _
-        of (Gate c) e = every_cons (gate_reached fs g held q (omega arith) (omega arith) h e) (every_none _)
-
-    pub low_reached : Every (λ c. (1 ≤ c) × (c ≤ most_gates)) (gate_of (edge_at fs g.first).source)
-    low_reached =
-        subst (λ at. Every (λ c. (1 ≤ c) × (c ≤ most_gates)) (gate_of (edge_at fs at).source)) (add-zero g.first) (source_reached 0 none (omega arith))
-
-    pub high_reached : Every (λ c. (1 ≤ c) × (c ≤ most_gates)) (gate_of (edge_at fs (g.first + 1)).source)
-    high_reached = source_reached 1 (gather_source 0 none (omega arith)) (omega arith)
+pub pair_gathers : (fs : List Edge) (held : List Held) → length fs ≡ 2 →
+    Gathering fs held (length fs) (pair_of (edge_at fs 0).inverted (read_at fs held 0) (edge_at fs 1).inverted (read_at fs held 1))
+pair_gathers fs held two =
+    subst (λ n. Gathering fs held n (pair_of (edge_at fs 0).inverted (read_at fs held 0) (edge_at fs 1).inverted (read_at fs held 1))) (sym two)
+    (gather_next fs held (gather_next fs held none (omega arith) (omega arith)) (omega arith) (omega arith))
+  where
+    none : Gathering fs held 0 no_operands
+    none = gathering_start (record { count = refl; room = refl; key_room = refl })

@@ -13,7 +13,7 @@ use Rattle.tree.specs.declared.Kind.{Kind}
 use Rattle.tree.specs.declared.Kind.TheVariants.{And as and, Or as or}
 use Rattle.tree.specs.Trusted.Tree.{Edges, turned, meet, unit}
 use Rattle.cover.specs.Trusted.Bits.{bit, digit}
-use Rattle.cover.specs.Trusted.Cover.{Cover, net, top, Fanins, end, new, pick}
+use Rattle.cover.specs.Trusted.Cover.{Cover, net, top, Fanins, end, pick}
 use Rattle.cover.specs.Trusted.Tables.{LookupTable, output, tabled, numbered}
 use Rattle.cover.specs.Eval.{Agree, tabled_output, numbered_append}
 use Rattle.cover.specs.Trusted.Placed.{code, codes, codes*, held, held*, gate_table, records*}
