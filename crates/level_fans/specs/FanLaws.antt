@@ -1,69 +1,61 @@
 -- The fanins of a gate one by one: one more gathered, one more compared, one more asked.
-use Rattle.std.specs.Prelude.{ℕ, ◌+◌, ◌-◌, ◌≤◌, ◌<◌, ◌≡◌, refl, ◌≢◌, List, length, get_or, set, take}
-use Rattle.std.proofs.Common.{arith, sym, ap, ◌∙◌, length-set, length-take, get_or-take, get_or-set_same, get_or-set_other, below_none, below_more}
-use Rattle.lists.specs.Trusted.Lists.{first}
+use Rattle.std.specs.Prelude.{ℕ, ◌+◌, ◌-◌, ◌≤◌, ◌<◌, ◌≡◌, refl, ◌≢◌, List, length, get_or, max, set, take}
+use Rattle.std.proofs.Common.{arith, sym, ◌∙◌, length-set, length-take, get_or-take, get_or-set_same, get_or-set_other, below_none, below_more}
+use Rattle.lists.specs.Cases.{by_leb}
+use Rattle.lists.specs.Trusted.Lists.{Every, first}
 use Rattle.sheet.specs.declared.Source.TheVariants.{Net, Gate}
 use Rattle.sheet.specs.declared.Edge.{Edge}
-use Rattle.sheet.specs.declared.Gate.{Gate as SheetGate}
 use Rattle.sheet.specs.Trusted.Limits.{most_gates}
-use Rattle.sheet.specs.Trusted.Sheet.{net_of}
-use Rattle.sheet.specs.Trusted.Answers.{drawn_gate}
-use Rattle.sheet.specs.PlaceLaws.{no_edge, edge_drawn, every_source}
+use Rattle.sheet.specs.Trusted.Sheet.{net_of, fanin_nets, fanin_gates}
+use Rattle.sheet.specs.PlaceLaws.{no_edge, every_source}
 use Rattle.level_arrays.specs.Arrays.{GreatestFan}
 use Rattle.level_arrays.specs.declared.Fans.{Fans}
 use Rattle.level_arrays.specs.declared.Draft.{Draft}
 use Rattle.level_sheets.specs.SheetTrees.{gather_out}
-use Rattle.level_sheets.specs.Lined.{FanOf, FansOf, FansReach}
+use Rattle.level_sheets.specs.Lined.{FanOf, FansOf}
 use Rattle.level_sheets.specs.Asking.{AskedOf}
 use Rattle.level_fans.specs.FanSteps.{with_fan, first_fans, CanAsk}
 
 -- ---- gathered
 
-module _ (fs : List Edge) (x : SheetGate) {i : ℕ} (l : i < length (drawn_gate fs x).fanins) where
+module _ (fs : List Edge) {i : ℕ} (l : i < length fs) where
   abbrev edge : Edge
-  edge = get_or fs (x.first + i) no_edge
-
-  drawn_source : (get_or (drawn_gate fs x).fanins i no_edge).source ≡ edge.source
-  drawn_source = ap (λ f. f.source) (edge_drawn fs x l)
+  edge = get_or fs i no_edge
 
   -- what fanin i reads has its place
-  module _ {levels : List ℕ} (r : FansReach fs x levels) where
-    pub net_placed : {n : ℕ} → edge.source ≡ Net n → n < length levels
-    net_placed {n} e = r.nets n (gather_out (λ f. net_of f.source) no_edge (drawn_gate fs x).fanins i l (rw (drawn_source ∙ e) (first refl)))
+  pub net_placed : (levels : List ℕ) → Every (λ n. n < length levels) (fanin_nets fs) → {n : ℕ} → edge.source ≡ Net n → n < length levels
+  net_placed levels r {n} e = r n (gather_out (λ f. net_of f.source) no_edge fs i l (rw e (first refl)))
 
-    pub gate_placed : {j : ℕ} → edge.source ≡ Gate j → (1 ≤ j) × (j ≤ most_gates)
-    gate_placed {j} e = every_source {P = λ j. (1 ≤ j) × (j ≤ most_gates)} (drawn_gate fs x).fanins i j r.gates l (drawn_source ∙ e)
+  pub gate_placed : Every (λ j. (1 ≤ j) × (j ≤ most_gates)) (fanin_gates fs) → {j : ℕ} → edge.source ≡ Gate j → (1 ≤ j) × (j ≤ most_gates)
+  gate_placed r {j} e = every_source {P = λ j. (1 ≤ j) × (j ≤ most_gates)} fs i j r l e
 
   -- and goes after the first i
-  module _ (lev : ℕ → ℕ) (starts counts : List ℕ) {f : Fans} (g : FansOf lev starts counts (take i (drawn_gate fs x).fanins) f) (few : i < 10) where
-    abbrev of : List Edge
-    of = (drawn_gate fs x).fanins
-
+  module _ (lev : ℕ → ℕ) (starts counts : List ℕ) {f : Fans} (g : FansOf lev starts counts (take i fs) f) (few : i < 10) where
     count_taken : f.count ≡ i
-    count_taken = omega (arith, g.count, length-take i of)
+    count_taken = omega (arith, g.count, length-take i fs)
 
-    next_fan : (a c j : ℕ) → FanOf lev starts counts edge.source a c j → FansOf lev starts counts (take (i + 1) of) (with_fan f a c j)
+    next_fan : (a c j : ℕ) → FanOf lev starts counts edge.source a c j → FansOf lev starts counts (take (i + 1) fs) (with_fan f a c j)
     next_fan a c j o = record {
-      count = omega (arith, count_taken, length-take (i + 1) of);
+      count = omega (arith, count_taken, length-take (i + 1) fs);
       rooms = (length-set f.levels f.count a ∙ g.rooms.0, length-set f.lines f.count c ∙ g.rooms.1, length-set f.gates f.count j ∙ g.rooms.2);
       each = λ h m.
-          let b : h < i + 1 = omega (arith, length-take (i + 1) of) in
-          rw (get_or-take (i + 1) of h no_edge b, count_taken)
+          let b : h < i + 1 = omega (arith, length-take (i + 1) fs) in
+          rw (get_or-take (i + 1) fs h no_edge b, count_taken)
           (below_more
-          (λ h. FanOf lev starts counts (get_or of h no_edge).source (get_or (set f.levels i a) h 0) (get_or (set f.lines i c) h 0) (get_or (set f.gates i j) h 0)) i
+          (λ h. FanOf lev starts counts (get_or fs h no_edge).source (get_or (set f.levels i a) h 0) (get_or (set f.lines i c) h 0) (get_or (set f.gates i j) h 0)) i
           (λ h m.
           let n : h ≢ i = λ e. omega arith in
           rw (get_or-set_other f.levels i h a 0 n, get_or-set_other f.lines i h c 0 n, get_or-set_other f.gates i h j 0 n)
-          (rw (get_or-take i of h no_edge m) at (g.each h (omega (arith, length-take i of)))))
+          (rw (get_or-take i fs h no_edge m) at (g.each h (omega (arith, length-take i fs)))))
           (let (p, q, r) = g.rooms in
-          rw (drawn_source, get_or-set_same f.levels i a 0 (omega arith), get_or-set_same f.lines i c 0 (omega arith), get_or-set_same f.gates i j 0 (omega arith)) o)
+          rw (get_or-set_same f.levels i a 0 (omega arith), get_or-set_same f.lines i c 0 (omega arith), get_or-set_same f.gates i j 0 (omega arith)) o)
           h b);
     }
 
-    pub fan_net : {n : ℕ} → edge.source ≡ Net n → FansOf lev starts counts (take (i + 1) of) (with_fan f (lev n) 0 0)
+    pub fan_net : {n : ℕ} → edge.source ≡ Net n → FansOf lev starts counts (take (i + 1) fs) (with_fan f (lev n) 0 0)
     fan_net {n} e = next_fan (lev n) 0 0 (rw e (refl, refl))
 
-    pub fan_gate : {j : ℕ} → edge.source ≡ Gate j → FansOf lev starts counts (take (i + 1) of) (with_fan f (get_or starts (j - 1) 0) (get_or counts (j - 1) 0) (j - 1))
+    pub fan_gate : {j : ℕ} → edge.source ≡ Gate j → FansOf lev starts counts (take (i + 1) fs) (with_fan f (get_or starts (j - 1) 0) (get_or counts (j - 1) 0) (j - 1))
     fan_gate {j} e = next_fan (get_or starts (j - 1) 0) (get_or counts (j - 1) 0) (j - 1) (rw e (refl, refl, refl))
 
 -- ---- compared
@@ -76,17 +68,23 @@ module _ (f : Fans) where
   }
 
   module _ {n a : ℕ} (g : GreatestFan (first_fans n f) a) where
-    pub greatest_kept : get_or f.levels n 0 ≤ a → GreatestFan (first_fans (n + 1) f) a
-    greatest_kept b = record {
+    kept : get_or f.levels n 0 ≤ a → GreatestFan (first_fans (n + 1) f) a
+    kept b = record {
       within = below_more (λ h. get_or f.levels h 0 ≤ a) n g.within b;
       met = (g.met.0, omega (arith, g.met.1), g.met.2);
     }
 
-    pub greatest_raised : a ≤ get_or f.levels n 0 → GreatestFan (first_fans (n + 1) f) (get_or f.levels n 0)
-    greatest_raised b = record {
+    raised : a ≤ get_or f.levels n 0 → GreatestFan (first_fans (n + 1) f) (get_or f.levels n 0)
+    raised b = record {
       within = below_more (λ h. get_or f.levels h 0 ≤ get_or f.levels n 0) n (λ h l. omega (arith, g.within h l)) (omega arith);
       met = (n, omega arith, refl);
     }
+
+    pub greatest_more : GreatestFan (first_fans (n + 1) f) (max a (get_or f.levels n 0))
+    greatest_more =
+        by_leb (λ b. GreatestFan (first_fans (n + 1) f) (max a (get_or f.levels n 0))) a (get_or f.levels n 0)
+        (λ l. let e : max a (get_or f.levels n 0) ≡ get_or f.levels n 0 = omega arith in rw e (raised l))
+        (λ l. let e : max a (get_or f.levels n 0) ≡ a = omega arith in rw e (kept (omega arith)))
 
 -- ---- asked
 

@@ -37,16 +37,11 @@ fn choose_plans<'a>(
     bounds[last] = starts[last] + first_line(k, last, counts[last], store);
     inputs[last] = k;
     let mut arrays = [NONE; ARRAYS_ROOM];
-    let mut g = gates;
-    while g > 0 {
-        g -= 1;
-        let gate = sheet.gates[g];
-        let fanins = sheet.fanins;
-        let f = gather_fans(gate, fanins, levels, starts, counts);
-        let draft = gate_plan(k, f, bounds[g], inputs[g], store, &mut arrays);
-        let plan = draft.plan;
-        plans[g] = plan;
-        ask(f, draft, &mut bounds, &mut inputs);
+    for g in (0..gates).rev() {
+        let fans = gather_fans(sheet.gates[g], &sheet.fanins, levels, starts, counts);
+        let draft = gate_plan(k, fans, bounds[g], inputs[g], store, &mut arrays);
+        plans[g] = draft.plan;
+        ask(fans, draft, &mut bounds, &mut inputs);
     }
     plans
 }

@@ -13,7 +13,7 @@ use gate_mapper::gate::{gather, run_gate};
 use mapper::{no_tables, stage, with_root};
 use mapper_laws::Mapping;
 use plan::Plan;
-use sheet::Sheet;
+use sheet::{MOST_GATES, Sheet};
 
 // Maps a sheet to tables of at most k inputs, each gate by its plan, where so many tables stand before them. The plans meet some demands.
 // `MappedWithin`: after any tables of that count, those in the first `count` records are the tables of a cover of the sheet, inputs before readers and
@@ -23,25 +23,19 @@ pub fn map_by_plans(sheet: Sheet, k: u8, used: u16, plans: [Plan; 255]) -> Mappi
     ensures { (lev : ℕ → ℕ) (ds : List Demand) → PlansMeet k lev ds (drawn_sheet sheet).gates plans → MappedWithin k used lev (last_demand ds).bound (last_demand ds).below sheet result }
 {
     let gates = sheet.count as usize;
-    let mut held = [leaf(0); 255];
-    let mut m = no_tables();
-    let mut g: usize = 0;
-    while g < gates {
+    let mut held = [leaf(0); MOST_GATES];
+    let mut mapping = no_tables();
+    for g in 0..gates {
         let gate = sheet.gates[g];
-        let kind = gate.kind;
-        let first = used + m.count as u16;
-        let fanins = sheet.fanins;
-        let operands = gather(gate, fanins, held);
-        let plan = plans[g];
-        let x = run_gate(first, kind, operands, plan);
-        let h = x.held;
-        held[g] = h;
-        let run = x.run;
-        m = stage(m, run);
-        g += 1;
+        let first = used + mapping.count as u16;
+        let operands = gather(gate, &sheet.fanins, &held);
+        let mapped = run_gate(first, gate.kind, operands, plans[g]);
+        held[g] = mapped.held;
+        stage(
+            &mut mapping,
+            &mapped.run.tables[..mapped.run.placed as usize],
+        );
     }
-    let at = gates - 1;
-    let root = held[at];
-    let table = root.table;
-    with_root(m, sheet.out, sheet.inverted, table)
+    let root = held[gates - 1];
+    with_root(mapping, sheet.out, sheet.inverted, root.table)
 }

@@ -20,17 +20,12 @@ pub fn find_lines(
     requires { NetsLow k sheet levels.now × LineRooms starts.old counts.old store.old }
     ensures { LinesFound k sheet levels.now starts.new counts.new store.new × LineRooms starts.new counts.new store.new }
 {
-    let gates = sheet.count as usize;
-    let mut g: usize = 0;
-    while g < gates {
-        let gate = sheet.gates[g];
-        let fanins = sheet.fanins;
-        let f = gather_fans(gate, fanins, levels, starts, counts);
-        let a = greatest_level(f);
-        let c = gate_lines(k, f, a, g, store);
-        starts[g] = a;
-        counts[g] = c;
-        g += 1;
+    for g in 0..sheet.count as usize {
+        let fans = gather_fans(sheet.gates[g], &sheet.fanins, levels, starts, counts);
+        let level = greatest_level(fans);
+        let lines = gate_lines(k, fans, level, g, store);
+        starts[g] = level;
+        counts[g] = lines;
     }
 }
 
@@ -41,13 +36,11 @@ pub fn first_line(k: u8, g: usize, count: u16, store: &[u8; STORE_ROOM]) -> u16
 {
     let width = k as usize;
     let last = count - 1;
-    let mut j: u16 = 0;
-    while j < last {
+    for j in 0..last {
         let place = (g * 256 + j as usize) * 6 + (width - 1);
         if store[place] < NONE {
             return j;
         }
-        j += 1;
     }
-    j
+    last
 }

@@ -1,59 +1,39 @@
-use Prim.Native.Nat.{ℕ, ◌+◌, ◌<◌, ◌≤◌}
+use Prim.Native.Nat.{◌<◌, ◌≤◌}
 use native.Mathlib.Omega.{arith}
-use mathlib.Core.Path.{◌≡◌}
-use lib.ListN.{length, get_or}
-use borrow.Author.Rules.{rules}
-use Rattle.sheet.specs.declared.Source.TheVariants.{Net, Gate}
-use Rattle.sheet.specs.Trusted.Limits.{most_gates}
-use Rattle.sheet.specs.Trusted.Answers.{drawn_gate}
-use Rattle.sheet.specs.PlaceLaws.{no_edge}
+use mathlib.Core.Path.{ap}
+use lib.ListN.{length}
 use Rattle.level_sheets.specs.Lined.{net_level}
 use Rattle.level_fans.specs.FanLaws.{net_placed, gate_placed, fan_net, fan_gate}
 use Rattle.level_fans.proofs.gather_fans.Goals as goal
-use Rattle.level_fans.proofs.gather_fans.Goals.{In-loop-i}
+use Rattle.level_fans.proofs.gather_fans.Goals.{In-Gate, in-Net, in-Gate}
 
--- ---- a turn of the loop, for fanin i
+-- what a fanin reads has its place
+gate : (c : In-Gate) → (1 ≤ c.in-Gate.g) × (c.in-Gate.g ≤ 255)
+gate c = gate_placed c.fanins_of-edge-items.result.now c.loop-edge-test.true (rw c.fanins_of-edge-items.ensures c.requires.gates) c.in-Gate.is
 
--- the fanin is there
-inside : (c : In-loop-i) → (c.loop-i.i < length (drawn_gate c.args.fanins c.args.gate).fanins) × (c.loop-i.i < 10)
-inside c =
-    let e = c.fanin_count-count.ensures c.args.fanins (search rules) in
-    (omega (arith, e, c.loop-i-test.true), omega (arith, e, c.requires.few, c.loop-i-test.true))
-
--- and so has what it reads
-net : (c : In-loop-i) {n : ℕ} → (get_or c.args.fanins (c.args.gate.first + c.loop-i.i) no_edge).source ≡ Net n → n < length c.args.levels.now
-net c = net_placed c.args.fanins c.args.gate (inside c).0 c.requires
-
-gate : (c : In-loop-i) {j : ℕ} → (get_or c.args.fanins (c.args.gate.first + c.loop-i.i) no_edge).source ≡ Gate j → (1 ≤ j) × (j ≤ most_gates)
-gate c = gate_placed c.args.fanins c.args.gate (inside c).0 c.requires
-
--- ---- the goals
-
-pub bounds-levels-at : goal.bounds-levels-at
-bounds-levels-at c = net (goal.at.bounds-levels-at c).In-loop-i c.in-Net.is
-
-pub loop-i-preserved-in-Net : goal.loop-i-preserved-in-Net
-loop-i-preserved-in-Net c =
-    let a = c.args in
-    let i = inside (goal.at.loop-i-preserved-in-Net c).In-loop-i in
-    rw c.with_fan-f.ensures
-    (fan_net a.fanins a.gate i.0 (net_level a.levels.now) a.starts.now a.counts.now c.loop-i.invariant i.1 c.in-Net.is)
+pub bounds-levels-n : goal.bounds-levels-n
+bounds-levels-n c = net_placed c.fanins_of-edge-items.result.now c.loop-edge-test.true c.args.levels.now (rw c.fanins_of-edge-items.ensures c.requires.nets) c.in-Net.is
 
 pub overflow_sub-at : goal.overflow_sub-at
-overflow_sub-at c = (gate (goal.at.overflow_sub-at c).In-loop-i c.in-Gate.is).0
+overflow_sub-at c = (gate (goal.at.overflow_sub-at c).In-Gate).0
 
 pub bounds-starts-at : goal.bounds-starts-at
-bounds-starts-at c = omega (arith, gate (goal.at.bounds-starts-at c).In-loop-i c.in-Gate.is)
+bounds-starts-at c = omega (arith, gate (goal.at.bounds-starts-at c).In-Gate)
 
 pub bounds-counts-at : goal.bounds-counts-at
-bounds-counts-at c = omega (arith, gate (goal.at.bounds-counts-at c).In-loop-i c.in-Gate.is)
+bounds-counts-at c = omega (arith, gate (goal.at.bounds-counts-at c).In-Gate)
 
 pub overflow_sub-g : goal.overflow_sub-g
-overflow_sub-g c = (gate (goal.at.overflow_sub-g c).In-loop-i c.in-Gate.is).0
+overflow_sub-g c = (gate (goal.at.overflow_sub-g c).In-Gate).0
 
-pub loop-i-preserved : goal.loop-i-preserved
-loop-i-preserved c =
+pub loop-edge-preserved : goal.loop-edge-preserved
+loop-edge-preserved c =
     let a = c.args in
-    let i = inside (goal.at.loop-i-preserved c).In-loop-i in
-    rw c.with_fan-f-in-Gate.ensures
-    (fan_gate a.fanins a.gate i.0 (net_level a.levels.now) a.starts.now a.counts.now c.loop-i.invariant i.1 c.in-Gate.is)
+    let fs = c.fanins_of-edge-items.result.now in
+    let few : c.loop-edge.edge-index < 10 = omega (arith, c.loop-edge-test.true, ap length c.fanins_of-edge-items.ensures, c.requires.few) in
+    elim c.match-edge.branch [
+      | in-Net w ↦ rw (w.fans-is, w.with_fan-fans.ensures)
+          (fan_net fs c.loop-edge-test.true (net_level a.levels.now) a.starts.now a.counts.now c.loop-edge.invariant few w.in-Net.is)
+      | in-Gate w ↦ rw (w.fans-is, w.with_fan-fans-in-Gate.ensures)
+          (fan_gate fs c.loop-edge-test.true (net_level a.levels.now) a.starts.now a.counts.now c.loop-edge.invariant few w.in-Gate.is)
+    ]

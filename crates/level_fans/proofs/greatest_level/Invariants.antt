@@ -1,10 +1,6 @@
-use Prim.Native.Nat.{◌≤◌, ◌-◌}
 use Rattle.level_arrays.specs.Arrays.{GreatestFan}
 use Rattle.level_fans.specs.FanSteps.{first_fans}
 use Rattle.level_fans.proofs.greatest_level.Given as goal
 
 abbrev pub invariant-loop-h : goal.invariant-loop-h
-invariant-loop-h l = (l.h ≤ l.f.count) × GreatestFan (first_fans l.h l.f) l.a
-
-abbrev pub decreases-loop-h : goal.decreases-loop-h
-decreases-loop-h l = l.count - l.h
+invariant-loop-h l = GreatestFan (first_fans l.h l.f) l.greatest

@@ -72,9 +72,9 @@ asking : (c : In-loop-g) →
     Asking a.k (net_level a.levels.now) (drawn_sheet a.sheet).gates a.starts.now a.counts.now a.store.now (l.g - 1 + 1) l.bounds l.inputs l.plans
 asking c = let e : c.loop-g.g - 1 + 1 ≡ c.loop-g.g = omega (arith, c.loop-g-test.true) in rw e c.loop-g.invariant.1
 
-pub gather_fans-f-requires : goal.gather_fans-f-requires
-gather_fans-f-requires c =
-    let t = (goal.at.gather_fans-f-requires c).In-loop-g in
+pub gather_fans-fans-requires : goal.gather_fans-fans-requires
+gather_fans-fans-requires c =
+    let t = (goal.at.gather_fans-fans-requires c).In-loop-g in
     let (r, m) = turn_roomy t in
     fast_reach c.args.sheet c.requires.0 r m (one_left t)
 
@@ -84,7 +84,7 @@ gate_plan-draft-requires c =
     let (r, m) = turn_roomy t in
     let s = c.args.sheet in
     let p = c.requires in
-    let q = c.gather_fans-f.ensures in
+    let q = c.gather_fans-fans.ensures in
     record {
       gate = s.count;
       sheet = m;
@@ -99,7 +99,7 @@ ask-requires c =
     let t = (goal.at.ask-requires c).In-loop-g in
     let (r, m) = turn_roomy t in
     let p = c.requires in
-    let q = c.gather_fans-f.ensures in
+    let q = c.gather_fans-fans.ensures in
     let f = plan_good c.args.sheet p.0 r m (one_left t) _ _ _ p.1 q in
     record {
       few = f.some.fanins.1;
@@ -115,7 +115,7 @@ loop-g-preserved c =
     let (r, m) = turn_roomy t in
     let s = c.args.sheet in
     let p = c.requires in
-    let q = c.gather_fans-f.ensures in
+    let q = c.gather_fans-fans.ensures in
     let g = c.gate_plan-draft.ensures in
     let i = c.loop-g.invariant in
     let v = c.ask.ensures in

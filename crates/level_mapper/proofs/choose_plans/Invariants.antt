@@ -1,5 +1,4 @@
--- The invariant: the gates passed have their plans, what they read is asked, and so is the root what it was at first. The measure is the number of
--- gates left.
+-- The invariant: the gates passed have their plans, what they read is asked, and so is the root what it was at first.
 use Prim.Native.Nat.{◌≤◌}
 use mathlib.Core.Path.{◌≡◌}
 use lib.ListN.{length, get_or}
@@ -17,6 +16,3 @@ invariant-loop-g l =
     × (get_or l.inputs l.last 0 ≡ l.k)
     × (length l.plans ≡ most_gates)
     × (length l.arrays ≡ 90112)
-
-abbrev pub decreases-loop-g : goal.decreases-loop-g
-decreases-loop-g l = l.g

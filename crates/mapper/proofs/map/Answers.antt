@@ -72,10 +72,10 @@ pub loop-g-init : goal.loop-g-init
 loop-g-init c = best_start c.no_tables-mapping.ensures.0 c.no_tables-mapping.ensures.1 refl
 
 pub read_from-x-requires : goal.read_from-x-requires
-read_from-x-requires c = reads c.args.sheet c.requires (search rules) (search rules) c.loop-g.invariant c.loop-g-test.true c.fanins_of.ensures 0 (omega (arith, c.in-len2))
+read_from-x-requires c = reads c.args.sheet c.requires (search rules) (search rules) c.loop-g.invariant c.loop-g-test.true c.fanins_of.ensures _ (omega (arith, c.in-len2))
 
 pub read_from-y-requires : goal.read_from-y-requires
-read_from-y-requires c = reads c.args.sheet c.requires (search rules) (search rules) c.loop-g.invariant c.loop-g-test.true c.fanins_of.ensures 1 (omega (arith, c.in-len2))
+read_from-y-requires c = reads c.args.sheet c.requires (search rules) (search rules) c.loop-g.invariant c.loop-g-test.true c.fanins_of.ensures _ (omega (arith, c.in-len2))
 
 pub map_pair-pair-requires : goal.map_pair-pair-requires
 map_pair-pair-requires c =

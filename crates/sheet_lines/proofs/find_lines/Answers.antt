@@ -33,29 +33,29 @@ good c q =
     let (r, m) = turn_roomy c in
     fast_good c.args.sheet c.requires.0 r m c.loop-g-test.true _ _ _ c.loop-g.invariant.0 q
 
-pub gather_fans-f-requires : goal.gather_fans-f-requires
-gather_fans-f-requires c =
-    let (r, m) = turn_roomy (goal.at.gather_fans-f-requires c).In-loop-g in
+pub gather_fans-fans-requires : goal.gather_fans-fans-requires
+gather_fans-fans-requires c =
+    let (r, m) = turn_roomy (goal.at.gather_fans-fans-requires c).In-loop-g in
     fast_reach c.args.sheet c.requires.0 r m c.loop-g-test.true
 
-pub greatest_level-a-requires : goal.greatest_level-a-requires
-greatest_level-a-requires c =
-    let f = good (goal.at.greatest_level-a-requires c).In-loop-g c.gather_fans-f.ensures in
+pub greatest_level-level-requires : goal.greatest_level-level-requires
+greatest_level-level-requires c =
+    let f = good (goal.at.greatest_level-level-requires c).In-loop-g c.gather_fans-fans.ensures in
     (omega (arith, f.some.fanins), f.some.fanins.1, f.rooms.0)
 
-pub gate_lines-c-requires : goal.gate_lines-c-requires
-gate_lines-c-requires c =
-    let t = (goal.at.gate_lines-c-requires c).In-loop-g in
-    (good t c.gather_fans-f.ensures, inside t, c.greatest_level-a.ensures, c.loop-g.invariant.1.lines)
+pub gate_lines-lines-requires : goal.gate_lines-lines-requires
+gate_lines-lines-requires c =
+    let t = (goal.at.gate_lines-lines-requires c).In-loop-g in
+    (good t c.gather_fans-fans.ensures, inside t, c.greatest_level-level.ensures, c.loop-g.invariant.1.lines)
 
 pub loop-g-preserved : goal.loop-g-preserved
 loop-g-preserved c =
     let (r, m) = turn_roomy (goal.at.loop-g-preserved c).In-loop-g in
     let s = c.args.sheet in
     let i = c.loop-g.invariant in
-    let q = c.gather_fans-f.ensures in (
-      fast_more s c.requires.0 r m c.loop-g-test.true _ _ _ i.0 q i.1 c.gate_lines-c.ensures,
-      rooms_more s c.requires.0 r m c.loop-g-test.true _ _ _ i.0 q i.1 c.gate_lines-c.ensures,
+    let q = c.gather_fans-fans.ensures in (
+      fast_more s c.requires.0 r m c.loop-g-test.true _ _ _ i.0 q i.1 c.gate_lines-lines.ensures,
+      rooms_more s c.requires.0 r m c.loop-g-test.true _ _ _ i.0 q i.1 c.gate_lines-lines.ensures,
     )
 
 pub returns : goal.returns
