@@ -1,17 +1,12 @@
 // What a fanin reads: a net, or a mapped gate that is not placed.
-ghost use Rattle.std.specs.Prelude.{◌≡◌, ◌≤◌, get_or};
-ghost use Rattle.lists.specs.Trusted.Lists.{Every};
-ghost use Rattle.sheet.specs.Trusted.Limits.{most_gates};
-ghost use Rattle.sheet.specs.Trusted.Sheet.{gate_of};
-ghost use Rattle.gate_fanins.specs.Fanins.{place_in};
-ghost use Rattle.mapper_laws.specs.CodeMap.{leaf_of, no_held};
+ghost use Rattle.std.specs.Prelude.{◌≡◌};
+ghost use Rattle.mapper_laws.specs.CodeMap.{leaf_of};
 ghost use Rattle.mapper_laws.specs.CodePair.{read_as, key_in};
 
-use gate_fanins::place_of;
 use mapper_laws::Held;
 use merge::single;
 use plan::Key;
-use sheet::{MOST_GATES, Source};
+use sheet::Source;
 
 // A net as a fanin.
 pub fn leaf(net: u16) -> Held
@@ -23,14 +18,13 @@ pub fn leaf(net: u16) -> Held
     }
 }
 
-// What a fanin reads, where `held` has the gates before its own.
-pub fn read_from(source: Source, held: &[Held; MOST_GATES]) -> Held
-    requires { Every (λ j. (1 ≤ j) × (j ≤ most_gates)) (gate_of source) }
-    ensures { result ≡ read_as source (get_or held.now (place_in source) no_held) }
+// What a fanin reads, where `held` is the gate, if it is one.
+pub fn read_from(source: Source, held: Held) -> Held
+    ensures { result ≡ read_as source held }
 {
     match source {
         Source::Net(n) => leaf(n),
-        Source::Gate(_) => held[place_of(source)],
+        Source::Gate(_) => held,
     }
 }
 

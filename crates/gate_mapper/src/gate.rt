@@ -4,7 +4,7 @@ ghost use Rattle.mapper_laws.specs.CodeMap.{Begun, with_fanin, Mappable, GateRun
 ghost use Rattle.mapper_laws.specs.CodeRun.{Runnable};
 
 use crate::fanin::{key_of, read_from};
-use gate_fanins::fanins_of;
+use gate_fanins::{fanins_of, place_of};
 use gate_run::{follow, operand};
 use mapper_laws::{Held, MappedGate, Operands};
 use pending::Pending;
@@ -52,7 +52,8 @@ pub fn gather(gate: Gate, fanins: &[Edge; FANIN_ROOM], held: &[Held; MOST_GATES]
 {
     let mut operands = no_operands();
     for edge in fanins_of(gate, fanins) {
-        operands = with_fanin(operands, edge.inverted, read_from(edge.source, held));
+        let at = place_of(edge.source);
+        operands = with_fanin(operands, edge.inverted, read_from(edge.source, held[at]));
     }
     operands
 }

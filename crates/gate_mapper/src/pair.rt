@@ -1,5 +1,5 @@
 // Mapping a gate of two fanins.
-ghost use Rattle.std.specs.Prelude.{◌≡◌, ◌≤◌};
+ghost use Rattle.std.specs.Prelude.{◌≡◌};
 ghost use Rattle.mapper_laws.specs.CodeMap.{Mappable};
 ghost use Rattle.mapper_laws.specs.CodePair.{two_tables, pair_of, pair_mapped};
 

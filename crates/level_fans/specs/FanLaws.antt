@@ -80,8 +80,8 @@ module _ (f : Fans) where
       met = (n, omega arith, refl);
     }
 
-    pub greatest_more : GreatestFan (first_fans (n + 1) f) (max a (get_or f.levels n 0))
-    greatest_more =
+    pub greatest_fan_more : GreatestFan (first_fans (n + 1) f) (max a (get_or f.levels n 0))
+    greatest_fan_more =
         by_leb (λ b. GreatestFan (first_fans (n + 1) f) (max a (get_or f.levels n 0))) a (get_or f.levels n 0)
         (λ l. let e : max a (get_or f.levels n 0) ≡ get_or f.levels n 0 = omega arith in rw e (raised l))
         (λ l. let e : max a (get_or f.levels n 0) ≡ a = omega arith in rw e (kept (omega arith)))

@@ -5,7 +5,7 @@ ghost use Rattle.std.specs.Prelude.{◌≡◌, ◌+◌, ◌<◌, ◌≤◌, leng
 ghost use Rattle.mapper_laws.specs.CodeMap.{most_tables, run_of, Staged, Sheetable, SheetMapped, flipped, driving, rooted};
 ghost use Rattle.pending.specs.Merging.{Tabled};
 
-use gate_fanins::fanins_of;
+use gate_fanins::{fanins_of, place_of};
 use gate_mapper::fanin::{leaf, read_from};
 use gate_mapper::gate::{gather, map_gate};
 use gate_mapper::pair::map_pair;
@@ -77,8 +77,10 @@ pub fn map(sheet: Sheet, k: u8, used: u16) -> Mapping
         let gate = sheet.gates[g];
         let first = used + mapping.count as u16;
         if let [low, high] = fanins_of(gate, &sheet.fanins) {
-            let x = read_from(low.source, &held);
-            let y = read_from(high.source, &held);
+            let low_at = place_of(low.source);
+            let high_at = place_of(high.source);
+            let x = read_from(low.source, held[low_at]);
+            let y = read_from(high.source, held[high_at]);
             let pair = map_pair(k, first, gate.kind, low.inverted, x, high.inverted, y);
             held[g] = pair.held;
             stage(&mut mapping, &pair.tables[..pair.placed as usize]);

@@ -1,6 +1,6 @@
 use Prim.Native.Nat.{ℕ, ◌+◌, ◌≤◌, ◌<◌}
 use native.Mathlib.Omega.{arith}
-use mathlib.Core.Path.{◌≡◌, refl, sym, subst, subst₂}
+use mathlib.Core.Path.{◌≡◌, refl, sym, ap, ◌∙◌, subst, subst₂}
 use mathlib.Core.Bool.{Bool}
 use mathlib.Core.List.{List}
 use lib.ListN.{length, get_or, set, take, length-take}
@@ -13,12 +13,13 @@ use Rattle.sheet.specs.Trusted.Limits.{most_gates}
 use Rattle.sheet.specs.Trusted.Sheet.{gate_of}
 use Rattle.sheet.specs.Trusted.Answers.{drawn_gate, drawn_sheet}
 use Rattle.sheet.specs.PlaceLaws.{no_sheet_gate}
+use Rattle.gate_fanins.specs.Fanins.{place_in}
 use Rattle.gate_fanins.specs.FaninLaws.{every_fanin}
-use Rattle.mapper_laws.specs.CodeMap.{Gathering, Gathers, Mappable, GateMapped, most_tables, run_of, Staged, Sheetable, BestGoing}
+use Rattle.mapper_laws.specs.CodeMap.{no_held, Gathering, Gathers, Mappable, GateMapped, most_tables, run_of, Staged, Sheetable, BestGoing}
 use Rattle.mapper_laws.specs.declared.Held.{Held}
 use Rattle.mapper_laws.specs.declared.MappedPair.{MappedPair}
 use Rattle.mapper_laws.specs.declared.Mapping.{Mapping}
-use Rattle.mapper_laws.specs.CodePair.{pair_of, pair_mapped, staged_of}
+use Rattle.mapper_laws.specs.CodePair.{read_as, pair_of, pair_mapped, staged_of}
 use Rattle.mapper_laws.specs.CodeMapLaws.{staged_run}
 use Rattle.mapper_laws.specs.PairLaws.{edge_at, read_at, pair_gate, pair_mapped_lem, pair_staged, pair_placed, pair_few, pair_room, pair_gathers}
 use Rattle.mapper_laws.specs.SheetLaws.{step_reaches, end_room}
@@ -36,7 +37,11 @@ module _ (s : Sheet) {K used : ℕ} (p : Sheetable K used s) (room : length s.ga
   reads i k = every_fanin {P = λ j. (1 ≤ j) × (j ≤ most_gates)} fs i k (rw e (step_reaches s p room most b.going l).gates)
 
   -- two of them
-  module _ (two : length fs ≡ 2) {x y : Held} (ex : x ≡ read_at fs held 0) (ey : y ≡ read_at fs held 1) where
+  module _ (two : length fs ≡ 2) {x y : Held} {i j : ℕ} (ei : i ≡ place_in (edge_at fs 0).source) (ej : j ≡ place_in (edge_at fs 1).source)
+      (ex : x ≡ read_as (edge_at fs 0).source (get_or held i no_held)) (ey : y ≡ read_as (edge_at fs 1).source (get_or held j no_held)) where
+    read_is : (n : ℕ) {i : ℕ} {x : Held} → i ≡ place_in (edge_at fs n).source → x ≡ read_as (edge_at fs n).source (get_or held i no_held) → read_at fs held n ≡ x
+    read_is n e f = sym (f ∙ ap (λ i. read_as (edge_at fs n).source (get_or held i no_held)) e)
+
     abbrev low : Bool
     low = (edge_at fs 0).inverted
 
@@ -46,7 +51,7 @@ module _ (s : Sheet) {K used : ℕ} (p : Sheetable K used s) (room : length s.ga
     found : Gathers s.fanins gate held (pair_of low x high y)
     found =
         subst (λ gs. Gathering gs held (length gs) (pair_of low x high y)) e
-        (subst₂ (λ x y. Gathering fs held (length fs) (pair_of low x high y)) (sym ex) (sym ey) (pair_gathers fs held two))
+        (subst₂ (λ x y. Gathering fs held (length fs) (pair_of low x high y)) (read_is 0 ei ex) (read_is 1 ej ey) (pair_gathers fs held two))
 
     able : Mappable K (used + m.count) (pair_of low x high y)
     able = best_mappable s p room most b l found
@@ -71,20 +76,20 @@ module _ (s : Sheet) {K used : ℕ} (p : Sheetable K used s) (room : length s.ga
 pub loop-g-init : goal.loop-g-init
 loop-g-init c = best_start c.no_tables-mapping.ensures.0 c.no_tables-mapping.ensures.1 refl
 
-pub read_from-x-requires : goal.read_from-x-requires
-read_from-x-requires c = reads c.args.sheet c.requires (search rules) (search rules) c.loop-g.invariant c.loop-g-test.true c.fanins_of.ensures _ (omega (arith, c.in-len2))
+pub place_of-low_at-requires : goal.place_of-low_at-requires
+place_of-low_at-requires c = reads c.args.sheet c.requires (search rules) (search rules) c.loop-g.invariant c.loop-g-test.true c.fanins_of.ensures _ (omega (arith, c.in-len2))
 
-pub read_from-y-requires : goal.read_from-y-requires
-read_from-y-requires c = reads c.args.sheet c.requires (search rules) (search rules) c.loop-g.invariant c.loop-g-test.true c.fanins_of.ensures _ (omega (arith, c.in-len2))
+pub place_of-high_at-requires : goal.place_of-high_at-requires
+place_of-high_at-requires c = reads c.args.sheet c.requires (search rules) (search rules) c.loop-g.invariant c.loop-g-test.true c.fanins_of.ensures _ (omega (arith, c.in-len2))
 
 pub map_pair-pair-requires : goal.map_pair-pair-requires
 map_pair-pair-requires c =
-    able c.args.sheet c.requires (search rules) (search rules) c.loop-g.invariant c.loop-g-test.true c.fanins_of.ensures (omega (arith, c.in-len2)) c.read_from-x.ensures c.read_from-y.ensures
+    able c.args.sheet c.requires (search rules) (search rules) c.loop-g.invariant c.loop-g-test.true c.fanins_of.ensures (omega (arith, c.in-len2)) c.place_of-low_at.ensures.0 c.place_of-high_at.ensures.0 c.read_from-x.ensures c.read_from-y.ensures
 
 pub stage-requires : goal.stage-requires
 stage-requires c =
     rw c.map_pair-pair.ensures
-    (pair_space c.args.sheet c.requires (search rules) (search rules) c.loop-g.invariant c.loop-g-test.true c.fanins_of.ensures (omega (arith, c.in-len2)) c.read_from-x.ensures c.read_from-y.ensures)
+    (pair_space c.args.sheet c.requires (search rules) (search rules) c.loop-g.invariant c.loop-g-test.true c.fanins_of.ensures (omega (arith, c.in-len2)) c.place_of-low_at.ensures.0 c.place_of-high_at.ensures.0 c.read_from-x.ensures c.read_from-y.ensures)
 
 pub gather-operands-requires : goal.gather-operands-requires
 gather-operands-requires c = step_reaches c.args.sheet c.requires (search rules) (search rules) c.loop-g.invariant.going c.loop-g-test.true
@@ -106,7 +111,7 @@ loop-g-preserved c =
     let s = c.args.sheet in
     elim c.if-fanins_of-lt2.branch [
       | in-len2 w ↦ rw (w.held-is, w.mapping-is)
-          (pair_next s c.requires (search rules) (search rules) c.loop-g.invariant c.loop-g-test.true c.fanins_of.ensures (omega (arith, w.in-len2)) w.read_from-x.ensures w.read_from-y.ensures
+          (pair_next s c.requires (search rules) (search rules) c.loop-g.invariant c.loop-g-test.true c.fanins_of.ensures (omega (arith, w.in-len2)) w.place_of-low_at.ensures.0 w.place_of-high_at.ensures.0 w.read_from-x.ensures w.read_from-y.ensures
           w.map_pair-pair.ensures w.stage.ensures)
       | in_default w ↦ rw (w.held-is, w.mapping-is)
           (let h = w.map_gate-mapped.ensures.run.ran.holds in

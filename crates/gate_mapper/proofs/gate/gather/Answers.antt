@@ -11,8 +11,8 @@ use Rattle.gate_mapper.proofs.gate.gather.Goals as goal
 pub loop-edge-init : goal.loop-edge-init
 loop-edge-init c = gathering_start c.no_operands-operands.ensures
 
-pub read_from-requires : goal.read_from-requires
-read_from-requires c =
+pub place_of-at-requires : goal.place_of-at-requires
+place_of-at-requires c =
     every_fanin {P = λ j. (1 ≤ j) × (j ≤ most_gates)} c.fanins_of-edge-items.result.now c.loop-edge.edge-index c.loop-edge-test.true (rw c.fanins_of-edge-items.ensures c.requires.gates)
 
 pub with_fanin-operands-requires : goal.with_fanin-operands-requires
@@ -20,7 +20,7 @@ with_fanin-operands-requires c = omega (arith, c.loop-edge.invariant.count, c.lo
 
 pub loop-edge-preserved : goal.loop-edge-preserved
 loop-edge-preserved c =
-    rw (c.with_fanin-operands.ensures, c.read_from.ensures)
+    rw (c.with_fanin-operands.ensures, c.read_from.ensures, c.place_of-at.ensures.0)
     (gather_next c.fanins_of-edge-items.result.now c.args.held.now c.loop-edge.invariant c.loop-edge-test.true (omega (arith, c.loop-edge-test.true, ap length c.fanins_of-edge-items.ensures, c.requires.few)))
 
 pub returns : goal.returns
