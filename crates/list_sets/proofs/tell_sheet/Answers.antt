@@ -1,4 +1,4 @@
-use mathlib.Core.Path.{◌≡◌, sym, ap, ◌∙◌}
+use mathlib.Core.Path.{sym, ap, ◌∙◌}
 use Rattle.part.specs.Trusted.AddAnswers.{adding_answer}
 use Rattle.list_sets.specs.Told.{told_of}
 use Rattle.list_sets.proofs.tell_sheet.Goals as goal
