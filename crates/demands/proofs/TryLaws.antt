@@ -131,7 +131,7 @@ module _ (t : Try) (shape : Shaped t.before) where
       Taken t s u.new
   accepted_taken s h e u = record {
     read = e;
-    records = ap in_use u.part ∙ extended_in_use t.before shape h u.new;
+    records = ap in_use u.part ∙ extended_in_use t.before shape.records h u.new;
     tables = ap tables_of u.part ∙ extended_tables t.before shape.records h u.new;
     cover = u.chosen;
     number = chosen_number t.way t.before s u.new u.chosen;
