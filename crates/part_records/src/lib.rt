@@ -11,52 +11,18 @@ ghost use Rattle.table.specs.LevelTest.{no_levels, LevelsStand};
 ghost use Rattle.part_records.specs.Trusted.Reservations.{is_reservable};
 ghost use Rattle.part_records.specs.Uses.{with_table};
 
-use lists::within;
 use record_rules::is_blank;
+use records::test_rules;
 use table::{INPUT_ROOM, TABLE_ROOM, Table};
 use table_inputs::reads_net;
-use table_levels::is_levelled;
-use table_prefix::{after, empty_prefix};
-use table_rules::keeps_points;
 use tree::GREATEST_NET;
-
-// The records in use keep the rules; no more are in use than the capacity says. Their levels are worked out on the way, from zeros.
-fn rules_kept(k: u8, capacity: u16, used: u16, tables: [Table; 800], levels: &mut [u16]) -> bool
-    requires { (used ≤ capacity) × (used ≤ table_room) × (levels.old ≡ no_levels) }
-    ensures { (result ≡ is_none (walk k capacity [] (take used tables))) × (result ≡ true → LevelsStand levels.new (map table_of (take used tables))) }
-{
-    let count = used as usize;
-    let mut prefix = empty_prefix();
-    let mut i = 0;
-    while i < count {
-        let r = tables[i];
-        if !keeps_points(prefix, k, r) {
-            return false;
-        }
-        let levelled = is_levelled(levels, i, r);
-        if !levelled {
-            return false;
-        }
-        prefix = after(prefix, r);
-        i += 1;
-    }
-    true
-}
 
 // The records past those in use are zero.
 fn rest_blank(used: u16, tables: [Table; 800]) -> bool
     requires { used ≤ table_room }
     ensures { result ≡ all is_blank (drop used tables) }
 {
-    let mut i = used as usize;
-    while i < 800 {
-        let r = tables[i];
-        if !is_blank(r) {
-            return false;
-        }
-        i += 1;
-    }
-    true
+    tables[usize::from(used)..].iter().all(|&t| is_blank(t))
 }
 
 // Tables set aside: how many, and the output net that they are for, both zero when nothing is reserved.
@@ -70,15 +36,7 @@ pub struct Reservation {
 fn is_reservable(left: u16, r: Reservation) -> bool
     ensures { result ≡ is_reservable left r }
 {
-    let count = r.count;
-    let net = r.net;
-    if count > left {
-        return false;
-    }
-    if count == 0 {
-        return net == 0;
-    }
-    within(1, GREATEST_NET as u32, net as u32)
+    r.count <= left && (r.count == 0) == (r.net == 0) && r.net <= GREATEST_NET
 }
 
 // K, the capacity, the used count and the records of a part keep 01's five points of soundness, whatever they are, have their levels, and
@@ -95,23 +53,12 @@ pub fn sound(
     ensures { (result ≡ (is_none (tested k capacity (take used tables)) && (leb used capacity && (all is_blank (drop used tables) && is_reservable (capacity - used) reservation))))
         × (result ≡ true → LevelsStand levels.new (map table_of (take used tables))) }
 {
-    if !within(2, INPUT_ROOM, k as u32) {
-        return false;
-    }
-    if !within(1, TABLE_ROOM, capacity as u32) {
-        return false;
-    }
-    if used > capacity {
-        return false;
-    }
-    if !is_reservable(capacity - used, reservation) {
-        return false;
-    }
-    if rules_kept(k, capacity, used, tables, levels) {
-        rest_blank(used, tables)
-    } else {
-        false
-    }
+    (2..=INPUT_ROOM).contains(&u32::from(k))
+        && (1..=TABLE_ROOM).contains(&u32::from(capacity))
+        && used <= capacity
+        && is_reservable(capacity - used, reservation)
+        && rest_blank(used, tables)
+        && test_rules(&tables[..usize::from(used)], k, capacity, levels).is_ok()
 }
 
 // What tables do with a net: one drives it, one reads it.
@@ -126,8 +73,8 @@ pub fn with_table(uses: Uses, t: Table, net: u16) -> Uses
     requires { Padded t × (0 < net) }
     ensures { result ≡ with_table uses t net }
 {
-    let inputs = t.inputs;
-    let driven = uses.driven | (t.net == net);
-    let read = uses.read | reads_net(inputs, 6, net);
-    Uses { driven, read }
+    Uses {
+        driven: uses.driven || t.net == net,
+        read: uses.read || reads_net(t.inputs, 6, net),
+    }
 }

@@ -5,7 +5,7 @@
 #![tactic(auto)]
 
 use input_reader::read_file;
-use records::Found;
+use records::RunError;
 use std::rt::Files;
 use std::{env, io};
 use table::Table;
@@ -30,11 +30,10 @@ fn print_case(rt: &(impl Files + Print), name: &str) -> io::Result<()> {
 }
 
 // The test of the run that a text holds.
-fn test(text: &[u8]) -> Found {
+fn test(text: &[u8]) -> Result<(), RunError> {
     let mut records = [table::blank(); 16];
-    for i in 0..16 {
-        let r = record_at(text, i);
-        records[i] = r;
+    for (i, record) in records.iter_mut().enumerate() {
+        *record = record_at(text, i);
     }
     records::first_bad_of(records, count(text), field(text, 0, 0), field(text, 0, 1))
 }
@@ -94,12 +93,12 @@ fn low8(x: u32) -> u8 {
     (x % 256) as u8
 }
 
-fn print_found(rt: &impl Print, f: Found) -> io::Result<()> {
-    let number = match f {
-        Found::Nothing => 0,
-        Found::At(n) => (n % 100000) as i32,
-        Found::KOutOfRange => -2,
-        Found::CapacityOutOfRange => -3,
+fn print_found(rt: &impl Print, found: Result<(), RunError>) -> io::Result<()> {
+    let number = match found {
+        Ok(()) => 0,
+        Err(RunError::BadRecord(n)) => (n % 100000) as i32,
+        Err(RunError::KOutOfRange) => -2,
+        Err(RunError::CapacityOutOfRange) => -3,
     };
     print_number(rt, number)
 }

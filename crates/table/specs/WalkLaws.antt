@@ -1,21 +1,21 @@
--- The test of a run of records as a loop makes it: of the first n of `rs`, from the record i on.
+-- The test of a run of records as a loop makes it: from the record i on.
 use Rattle.std.specs.Prelude.{ℕ, suc, ◌+◌, ◌≤◌, ◌<◌, ◌≡◌, true, false, cond, ◌&&◌, List, [], ◌∷◌, ◌++◌, ltb, length, get_or, take, drop}
-use Rattle.std.proofs.Common.{add-one, arith, sym, ap, ap₂, ◌∙◌, take-suc, length-take-le}
-use Rattle.table.specs.LoopLaws.{take_next, take_none}
+use Rattle.std.proofs.Common.{add-one, arith, sym, ap, ap₂, ◌∙◌, take-suc, length-take-le, drop_of_length-le}
+use Rattle.table.specs.LoopLaws.{drop_next}
 use Rattle.table.specs.Trusted.RecordTest.{keeps, Verdict, none, bad, walk}
 use Rattle.table.specs.declared.Table.{Table}
 
-module _ (k capacity : ℕ) (rs : List Table) (n i : ℕ) (room : n ≤ length rs) where
+module _ (k capacity : ℕ) (rs : List Table) (i : ℕ) where
   abbrev left : Verdict
-  left = walk k capacity (take i rs) (drop i (take n rs))
+  left = walk k capacity (take i rs) (drop i rs)
 
-  pub walk_ends : n ≤ i → left ≡ none
-  walk_ends h = ap (walk k capacity (take i rs)) (take_none rs n i room h)
+  pub walk_ends : length rs ≤ i → left ≡ none
+  walk_ends h = ap (walk k capacity (take i rs)) (drop_of_length-le rs h)
 
-  module _ (z : Table) (h : i < n) where
+  module _ (z : Table) (h : i < length rs) where
     -- the test goes on from the record after it
     abbrev on : Verdict
-    on = walk k capacity (take i rs ++ get_or rs i z ∷ []) (drop (i + 1) (take n rs))
+    on = walk k capacity (take i rs ++ get_or rs i z ∷ []) (drop (i + 1) rs)
 
     before_length : length (take i rs) ≡ i
     before_length = length-take-le i rs (omega arith)
@@ -26,7 +26,7 @@ module _ (k capacity : ℕ) (rs : List Table) (n i : ℕ) (room : n ≤ length r
 
     next : left ≡ cond (ltb i capacity && keeps k (take i rs) (get_or rs i z)) on (bad (i + 1))
     next =
-        ap (walk k capacity (take i rs)) (take_next rs n i z room h)
+        ap (walk k capacity (take i rs)) (drop_next rs i z h)
         ∙ ap (λ m. cond (ltb m capacity && keeps k (take i rs) (get_or rs i z)) on (bad (suc m))) before_length
         ∙ ap (λ m. cond (ltb i capacity && keeps k (take i rs) (get_or rs i z)) on (bad m)) (sym (add-one i))
 
@@ -37,7 +37,7 @@ module _ (k capacity : ℕ) (rs : List Table) (n i : ℕ) (room : n ≤ length r
     pub walk_stops : ltb i capacity ≡ true → keeps k (take i rs) (get_or rs i z) ≡ false → left ≡ bad (i + 1)
     walk_stops f e = next ∙ ap₂ (λ a b. cond (a && b) on (bad (i + 1))) f e
 
-    pub walk_goes : ltb i capacity ≡ true → keeps k (take i rs) (get_or rs i z) ≡ true → left ≡ walk k capacity (take (i + 1) rs) (drop (i + 1) (take n rs))
+    pub walk_goes : ltb i capacity ≡ true → keeps k (take i rs) (get_or rs i z) ≡ true → left ≡ walk k capacity (take (i + 1) rs) (drop (i + 1) rs)
     walk_goes f e =
         next ∙ ap₂ (λ a b. cond (a && b) on (bad (i + 1))) f e
-        ∙ ap (λ l. walk k capacity l (drop (i + 1) (take n rs))) (sym before_next)
+        ∙ ap (λ l. walk k capacity l (drop (i + 1) rs)) (sym before_next)
