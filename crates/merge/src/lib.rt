@@ -62,15 +62,13 @@ fn insert(inputs: &mut [u16; 6], count: usize, code: u16)
     ensures { inputs.new ≡ padded (insert_of code (take count inputs.old)) }
 {
     let mut next = code;
-    let mut i = 0;
-    while i < count {
+    for i in 0..count {
         let x = inputs[i];
         let in_front = next <= x;
         if in_front {
             inputs[i] = next;
             next = x;
         }
-        i += 1;
     }
     inputs[count] = next;
 }

@@ -50,14 +50,12 @@ fn place(code: u16, inputs: &[u16; 6], count: usize) -> usize
     requires { MergeRoom count inputs.now }
     ensures { result ≡ place_of code (take count inputs.now) }
 {
-    let mut i = 0;
-    while i < count {
+    for i in 0..count {
         if inputs[i] == code {
             return i;
         }
-        i += 1;
     }
-    i
+    count
 }
 
 // The columns of the first n codes among the first inputs.
@@ -67,11 +65,9 @@ fn columns<'a>(codes: &'a [u16; 6], n: usize, inputs: &'a [u16; 6], count: usize
 {
     let table = COLUMNS;
     let mut out = [0u64; 6];
-    let mut i = 0;
-    while i < n {
+    for i in 0..n {
         let p = place(codes[i], inputs, count);
         out[i] = table[p];
-        i += 1;
     }
     out
 }
@@ -82,11 +78,9 @@ fn pairs(words: &mut [u64; 32], size: usize, truth: u64, column: u64)
     ensures { Words (λ j row. bit_of truth (digit_of (bit_of column row) j)) size words.new }
 {
     let cases = [0, u64::MAX - column, column, u64::MAX];
-    let mut j = 0;
-    while j < size {
+    for j in 0..size {
         let two = (truth >> (2 * j)) % 4;
         words[j] = cases[two as usize];
-        j += 1;
     }
 }
 
@@ -95,11 +89,9 @@ fn fold(words: &mut [u64; 32], size: usize, column: u64)
     requires { (size ≤ 16) × (length words.old ≡ 32) }
     ensures { Words (λ j row. bit_of (get_or words.old (digit_of (bit_of column row) j) 0) row) size words.new }
 {
-    let mut j = 0;
-    while j < size {
+    for j in 0..size {
         let w = words[2 * j];
         words[j] = w ^ ((w ^ words[1 + 2 * j]) & column);
-        j += 1;
     }
 }
 
@@ -110,10 +102,8 @@ fn spread(truth: u64, columns: &[u64; 6], n: usize) -> u64
 {
     let mut words = [0u64; 32];
     pairs(&mut words, ((1usize << n) + 1) / 2, truth, columns[0]);
-    let mut i = 1;
-    while i < n {
+    for i in 1..n {
         fold(&mut words, 1usize << (n - i - 1), columns[i]);
-        i += 1;
     }
     words[0]
 }

@@ -8,23 +8,14 @@ ghost use Rattle.set_lengths.specs.Trusted.Lengths.{is_whole};
 // The most sheets of a set.
 const MOST_SHEETS: usize = 16;
 
-// A length as a number that the sum of sixteen has room in.
-fn wide(length: u32) -> u64
-    ensures { result ≡ length }
-{
-    length as u64
-}
-
 // The sum of the lengths of at most sixteen sheets.
 fn total(lengths: &[u32]) -> u64
     requires { length lengths.now ≤ 16 }
     ensures { result ≡ sum (λ n. n) lengths.now }
 {
-    let mut sum: u64 = 0;
-    let mut i = 0;
-    while i < lengths.len() {
-        sum += wide(lengths[i]);
-        i += 1;
+    let mut sum = 0;
+    for &length in lengths {
+        sum += u64::from(length);
     }
     sum
 }
@@ -33,12 +24,5 @@ fn total(lengths: &[u32]) -> u64
 pub fn whole(lengths: &[u32], size: usize) -> bool
     ensures { result ≡ is_whole lengths.now size }
 {
-    let count = lengths.len();
-    if count < 1 {
-        return false;
-    }
-    if count > MOST_SHEETS {
-        return false;
-    }
-    total(lengths) == size as u64
+    (1..=MOST_SHEETS).contains(&lengths.len()) && total(lengths) == size as u64
 }

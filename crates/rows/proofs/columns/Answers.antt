@@ -9,7 +9,7 @@ use Rattle.rows.proofs.columns.Goals as goal
 use Rattle.rows.proofs.columns.Goals.{After-place-p}
 
 pub loop-i-init : goal.loop-i-init
-loop-i-init c = (omega arith, columns_none (take c.args.count c.args.inputs.now))
+loop-i-init c = columns_none (take c.args.count c.args.inputs.now)
 
 pub place-p-requires : goal.place-p-requires
 place-p-requires c = c.requires.1
@@ -29,10 +29,10 @@ bounds-table-p c = omega (arith, place_fits c)
 pub loop-i-preserved : goal.loop-i-preserved
 loop-i-preserved c =
     let a = c.args in
-    (omega arith, columns_next a.codes.now (take a.count a.inputs.now) c.loop-i.out c.loop-i.i _ (omega arith) (omega arith) c.loop-i.invariant.1 (column_is c.place-p.result (place_fits c) ∙ ap column_of c.place-p.ensures))
+    columns_next a.codes.now (take a.count a.inputs.now) c.loop-i.out c.loop-i.i _ (omega arith) (omega arith) c.loop-i.invariant (column_is c.place-p.result (place_fits c) ∙ ap column_of c.place-p.ensures)
 
 pub returns : goal.returns
 returns c =
     let a = c.args in
     let e : c.loop-i.i ≡ a.n = omega arith in
-    c.loop-i.invariant.1 ∙ ap (λ i. padded (columns_of (take i a.codes.now) (take a.count a.inputs.now))) e
+    c.loop-i.invariant ∙ ap (λ i. padded (columns_of (take i a.codes.now) (take a.count a.inputs.now))) e

@@ -4,13 +4,13 @@ use Rattle.pending.specs.MergeLaws.{folded_none, folded_next}
 use Rattle.rows.proofs.fold.Goals as goal
 
 pub loop-j-init : goal.loop-j-init
-loop-j-init c = (omega arith, folded_none c.args.words.now c.args.column c.requires.1)
+loop-j-init c = folded_none c.args.words.now c.args.column c.requires.1
 
 pub loop-j-preserved : goal.loop-j-preserved
 loop-j-preserved c =
-    (omega arith, folded_next (omega arith) c.loop-j.invariant.1)
+    folded_next (omega arith) c.loop-j.invariant
 
 pub returns : goal.returns
 returns c =
     let e : c.loop-j.j ≡ c.args.size = omega arith in
-    rw e at c.loop-j.invariant.1.made
+    rw e at c.loop-j.invariant.made

@@ -6,7 +6,7 @@ use Rattle.pending.specs.MergeLaws.{slice_none, place_here, place_later}
 use Rattle.rows.proofs.place.Goals as goal
 
 pub loop-i-init : goal.loop-i-init
-loop-i-init c = (omega arith, omega arith)
+loop-i-init c = omega arith
 
 pub returns-then-inputs-i : goal.returns-then-inputs-i
 returns-then-inputs-i c =
@@ -18,7 +18,7 @@ pub loop-i-preserved : goal.loop-i-preserved
 loop-i-preserved c =
     let a = c.args in
     let e = place_later a.code c.loop-i.i a.count a.inputs.now (omega arith) (omega arith) c.if-inputs-i.false in
-    (omega arith, rw add-one (omega arith))
+    rw add-one (omega arith)
 
 pub returns : goal.returns
 returns c =

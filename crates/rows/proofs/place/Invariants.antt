@@ -1,4 +1,4 @@
-use Prim.Native.Nat.{◌+◌, ◌-◌, ◌≤◌}
+use Prim.Native.Nat.{◌+◌}
 use mathlib.Core.Path.{◌≡◌}
 use lib.ListN.{take}
 use lib.Seq.{slice}
@@ -6,7 +6,4 @@ use Rattle.cover.specs.Trusted.Bits.{place}
 use Rattle.rows.proofs.place.Given as goal
 
 abbrev pub invariant-loop-i : goal.invariant-loop-i
-invariant-loop-i l = (l.i ≤ l.count) × (place l.code (take l.count l.inputs) ≡ l.i + place l.code (slice l.i l.count l.inputs))
-
-abbrev pub decreases-loop-i : goal.decreases-loop-i
-decreases-loop-i l = l.count - l.i
+invariant-loop-i l = place l.code (take l.count l.inputs) ≡ l.i + place l.code (slice l.i l.count l.inputs)

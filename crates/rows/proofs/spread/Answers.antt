@@ -13,7 +13,7 @@ pairs-requires c = omega (arith, rows_low c.args.n c.requires.fits)
 pub loop-i-init : goal.loop-i-init
 loop-i-init c =
     let a = c.args in
-    (omega arith, omega arith, level_first a.truth a.n a.columns.now c.requires c.pairs.ensures)
+    (omega arith, level_first a.truth a.n a.columns.now c.requires c.pairs.ensures)
 
 pub bounds-columns-i : goal.bounds-columns-i
 bounds-columns-i c = omega (arith, c.requires.fits)
@@ -26,9 +26,9 @@ fold-requires c =
 pub loop-i-preserved : goal.loop-i-preserved
 loop-i-preserved c =
     let a = c.args in
-    (omega arith, omega arith, level_next a.truth a.n a.columns.now c.requires c.loop-i.i (omega arith) c.loop-i.invariant.2 c.fold.ensures)
+    (omega arith, level_next a.truth a.n a.columns.now c.requires c.loop-i.i (omega arith) c.loop-i.invariant.1 c.fold.ensures)
 
 pub returns : goal.returns
 returns c =
     let a = c.args in
-    level_last a.truth a.n a.columns.now c.requires c.loop-i.i (omega arith) (omega arith) (omega arith) c.loop-i.invariant.2
+    level_last a.truth a.n a.columns.now c.requires c.loop-i.i (omega arith) (omega arith) (omega arith) c.loop-i.invariant.1

@@ -1,13 +1,8 @@
-use Prim.Native.Nat.{◌+◌, ◌-◌, ◌*◌, ◌≤◌}
-use mathlib.Core.Path.{◌≡◌}
-use mathlib.Core.List.{[]}
-use lib.ListN.{length, drop}
+use Rattle.std.proofs.Common.{◌≡◌, ◌+◌, ◌*◌, ◌≤◌, drop}
 use Rattle.lists.specs.Trusted.Lists.{sum}
 use Rattle.set_lengths.proofs.total.Given as goal
 
 -- what is added and what is left are the whole sum
-abbrev pub invariant-loop-i : goal.invariant-loop-i
-invariant-loop-i l = (l.i ≤ length l.lengths) × (l.sum ≤ 4294967295 * l.i) × (l.sum + sum (λ n. n) (drop l.i l.lengths) ≡ sum (λ n. n) l.lengths)
-
-abbrev pub decreases-loop-i : goal.decreases-loop-i
-decreases-loop-i l = length l.lengths - l.i
+abbrev pub invariant-loop-length : goal.invariant-loop-length
+invariant-loop-length l =
+    (l.sum ≤ 4294967295 * l.length-index) × (l.sum + sum (λ n. n) (drop l.length-index l.lengths) ≡ sum (λ n. n) l.lengths)
