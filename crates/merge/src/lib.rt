@@ -80,9 +80,7 @@ fn union(codes: &[u16; 6], n: usize, inputs: [u16; 6], count: usize) -> [u16; 6]
 {
     let mut out = inputs;
     let mut size = count;
-    let mut i = n;
-    while i > 0 {
-        i -= 1;
+    for i in (0..n).rev() {
         insert(&mut out, size, codes[i]);
         size += 1;
     }

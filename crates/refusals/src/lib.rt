@@ -23,29 +23,24 @@ fn line_start(text: &[u8], number: u32) -> usize
     ensures { (result ≤ length text.now) × (drop result text.now ≡ after_lines number text.now) }
 {
     let mut left = number;
-    let mut i = 0;
-    while i < text.len() {
+    for (i, &byte) in text.iter().enumerate() {
         if left == 0 {
             return i;
         }
-        if text[i] == b'\n' {
+        if byte == b'\n' {
             left -= 1;
         }
-        i += 1;
     }
-    i
+    text.len()
 }
 
 // How many bytes stand before a text's first line feed: all of them, where there is none.
 fn line_len(text: &[u8]) -> usize
     ensures { result ≡ position_or_len (λ b. b == 10) text.now }
 {
-    for (i, b) in text.iter().enumerate() {
-        if *b == b'\n' {
-            return i;
-        }
-    }
-    text.len()
+    text.iter()
+        .position(|&byte| byte == b'\n')
+        .unwrap_or(text.len())
 }
 
 // Writes the line of a number to the front of the buffer, as `put` does.

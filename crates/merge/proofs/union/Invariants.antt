@@ -4,6 +4,3 @@ use Rattle.merge.proofs.union.Given as goal
 
 abbrev pub invariant-loop-i : goal.invariant-loop-i
 invariant-loop-i l = InsertedFrom l.codes l.n (take l.count l.initial.out) l.out l.size l.i
-
-abbrev pub decreases-loop-i : goal.decreases-loop-i
-decreases-loop-i l = l.i
