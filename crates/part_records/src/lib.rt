@@ -5,7 +5,7 @@ ghost use Rattle.std.specs.Prelude.{◌≡◌, [], map, true, ◌&&◌, ◌-◌,
 ghost use Rattle.lists.specs.Trusted.Tests.{all};
 ghost use Rattle.table.specs.Trusted.Limits.{table_room};
 ghost use Rattle.table.specs.Trusted.Records.{table_of};
-ghost use Rattle.table.specs.Trusted.RecordTest.{is_blank, is_none, tested, walk};
+ghost use Rattle.table.specs.Trusted.RecordTest.{is_blank, is_none, tested};
 ghost use Rattle.table.specs.Trusted.Rules.{Padded};
 ghost use Rattle.table.specs.LevelTest.{no_levels, LevelsStand};
 ghost use Rattle.part_records.specs.Trusted.Reservations.{is_reservable};

@@ -1,7 +1,7 @@
 // The rules of one record by itself: of each rule a test, equal to the test of that name in table/specs/Trusted/RecordTest.
 #![tactic(auto)]
 
-ghost use Rattle.std.specs.Prelude.{◌≡◌, true, false, ◌^◌, ltb};
+ghost use Rattle.std.specs.Prelude.{◌≡◌, true, ◌^◌, ltb};
 ghost use Rattle.table.specs.Trusted.RecordTest.{is_padded, is_coded, is_sized, is_blank};
 
 use table::{Table, in_use};

@@ -1,16 +1,13 @@
 -- The test of a run of records as a loop makes it: from the record i on.
-use Rattle.std.specs.Prelude.{ℕ, suc, ◌+◌, ◌≤◌, ◌<◌, ◌≡◌, true, false, cond, ◌&&◌, List, [], ◌∷◌, ◌++◌, ltb, length, get_or, take, drop}
-use Rattle.std.proofs.Common.{add-one, arith, sym, ap, ap₂, ◌∙◌, take-suc, length-take-le, drop_of_length-le}
+use Rattle.std.specs.Prelude.{ℕ, suc, ◌+◌, ◌<◌, ◌≡◌, true, false, cond, ◌&&◌, List, [], ◌∷◌, ◌++◌, ltb, length, get_or, take, drop}
+use Rattle.std.proofs.Common.{add-one, arith, sym, ap, ap₂, ◌∙◌, take-suc, length-take-le}
 use Rattle.table.specs.LoopLaws.{drop_next}
-use Rattle.table.specs.Trusted.RecordTest.{keeps, Verdict, none, bad, walk}
+use Rattle.table.specs.Trusted.RecordTest.{keeps, Verdict, bad, walk}
 use Rattle.table.specs.declared.Table.{Table}
 
 module _ (k capacity : ℕ) (rs : List Table) (i : ℕ) where
   abbrev left : Verdict
   left = walk k capacity (take i rs) (drop i rs)
-
-  pub walk_ends : length rs ≤ i → left ≡ none
-  walk_ends h = ap (walk k capacity (take i rs)) (drop_of_length-le rs h)
 
   module _ (z : Table) (h : i < length rs) where
     -- the test goes on from the record after it

@@ -1,9 +1,9 @@
-use Rattle.std.proofs.Common.{◌≡◌, ◌++◌, ◌∷◌, [], true, false, refl, sym, ap, ◌∙◌, subst, length, get_or, take, arith, lt-ltb, le-ltb, length-take-le}
+use Rattle.std.proofs.Common.{◌≡◌, ◌++◌, ◌∷◌, [], true, false, refl, sym, ◌∙◌, subst, length, get_or, take, arith, lt-ltb, le-ltb, length-take-le}
 use Rattle.table.specs.Trusted.Records.{reads}
 use Rattle.table.specs.Trusted.RecordTest.{keeps}
 use Rattle.table.specs.PrefixTest.{empty_prefix, prefix_after}
-use Rattle.table.specs.LevelTest.{level_in, noted_next, PrefixKept}
-use Rattle.table.specs.LevelTestLaws.{noted_length, levels_small}
+use Rattle.table.specs.LevelTest.{noted_next, PrefixKept}
+use Rattle.table.specs.LevelTestLaws.{levels_small}
 use Rattle.table.specs.KeptLaws.{kept_none, kept_breaks, kept_wrong, kept_right, kept_after}
 use Rattle.table.specs.WalkLaws.{walk_full, walk_stops, walk_goes, before_next}
 use Rattle.table.proofs.Shape.{past}
@@ -12,7 +12,6 @@ use Rattle.records.proofs.test_rules.Goals.{then-at-from-via-then-at-from, then-
 
 pub loop-at-init : goal.loop-at-init
 loop-at-init c = record {
-  same_length = refl;
   kept = subst (λ q. PrefixKept q c.args.levels.now []) (sym c.empty_prefix-prefix.ensures) (subst (λ l. PrefixKept empty_prefix l []) (sym c.requires.zeros) kept_none);
   rest = refl;
 }
@@ -55,7 +54,6 @@ loop-at-preserved c =
     let m : length b ≡ l.at = length-take-le l.at a.run.now (omega arith) in
     let h = kept_after l.invariant.kept a.k t points t.level (omega (arith, m)) in
     record {
-      same_length = ap length n.ensures.1 ∙ noted_length l.levels l.at t.net (level_in l.levels (reads t)) ∙ l.invariant.same_length;
       kept =
           rw (c.after-prefix.ensures, n.ensures.1, before_next a.k a.capacity a.run.now l.at past (omega arith))
           (subst (λ i. PrefixKept (prefix_after l.prefix t) (noted_next l.levels i t.net (reads t)) (b ++ t ∷ [])) m h);
