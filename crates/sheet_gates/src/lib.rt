@@ -7,7 +7,7 @@ ghost use Rattle.sheet_gates.specs.Gates.{GatesRead, UnreadFound};
 use flags::flag;
 use sheet::{Edge, FANIN_ROOM, Gate, MOST_GATES, SheetError, Source, at_line};
 use sheet_fanin::{FLAG_WORDS, read_fanin, with_leaf};
-use sheet_line::{GateLine, read_gate_line};
+use sheet_line::read_gate_line;
 use tree::Kind;
 
 // The lines of gates that were read: the gates, their fanins, the place after them, and a flag raised for each number that was a fanin.
@@ -17,23 +17,6 @@ pub struct Lines {
     pub gates: [Gate; MOST_GATES],
     pub fanins: [Edge; FANIN_ROOM],
     pub seen: [u64; FLAG_WORDS],
-}
-
-fn edge_of(inverted: bool, source: Source) -> Edge
-    ensures { result ≡ record { inverted = inverted; source = source } }
-{
-    Edge { inverted, source }
-}
-
-fn gate_of(line: GateLine, first: u16) -> Gate
-    ensures { result ≡ record { kind = line.kind; count = line.count; first = first } }
-{
-    let kind = line.kind;
-    Gate {
-        kind,
-        count: line.count,
-        first,
-    }
 }
 
 // The lines of so many gates, from a place on.
@@ -47,7 +30,10 @@ pub fn gate_lines(text: &[u8], start: usize, out: u16, count: u8) -> Result<Line
         first: 0,
     };
     let mut gates = [no_gate; MOST_GATES];
-    let no_fanin = edge_of(false, Source::Net(0));
+    let no_fanin = Edge {
+        inverted: false,
+        source: Source::Net(0),
+    };
     let mut fanins = [no_fanin; FANIN_ROOM];
     let mut used: usize = 0;
     let mut seen = [0u64; FLAG_WORDS];
@@ -61,10 +47,17 @@ pub fn gate_lines(text: &[u8], start: usize, out: u16, count: u8) -> Result<Line
             let fanin = read_fanin(&mut seen, leaves, out, gate, x.magnitude);
             let source = at_line(fanin, gate + 1)?;
             let at = used + i;
-            fanins[at] = edge_of(x.sign != 0, source);
+            fanins[at] = Edge {
+                inverted: x.sign != 0,
+                source,
+            };
             leaves = with_leaf(leaves, source);
         }
-        gates[g] = gate_of(line, used as u16);
+        gates[g] = Gate {
+            kind: line.kind,
+            count: line.count,
+            first: used as u16,
+        };
         used += line.count as usize;
         end = line.end;
     }

@@ -1,5 +1,6 @@
 use Prim.Native.Nat.{ℕ, ◌+◌, ◌≤◌, ◌<◌}
 use native.Mathlib.Omega.{arith}
+use borrow.Author.Rules.{rules}
 use mathlib.Core.Path.{◌≡◌, refl, sym, ap, ◌∙◌}
 use mathlib.Core.List.{List}
 use lib.ListN.{drop}
@@ -65,15 +66,18 @@ loop-i-preserved c =
     let f = c.read_fanin-fanin in
     let is = source_is (goal.at.loop-i-preserved c).In_ok-source in
     fanin_taken c.args.text.now c.args.start c.args.out c.args.count c.loop-i.invariant (omega (arith, c.ranges)) f.result f.ensures.0
-    c.in_ok-source.source is (omega (arith, c.loop-i-test.true)) c.edge_of.result c.edge_of.ensures c.with_leaf-leaves.result c.with_leaf-leaves.ensures
+    c.in_ok-source.source is (omega (arith, c.loop-i-test.true)) _ (search rules) c.with_leaf-leaves.result c.with_leaf-leaves.ensures
     f.new.seen (f.ensures.1 ∙ ap (flags_after c.loop-i.seen _) is)
 
-pub overflow_cast-used : goal.overflow_cast-used
-overflow_cast-used c = omega (arith, room_after (goal.at.overflow_cast-used c).At-loop-i (omega arith))
+pub overflow_cast-gates : goal.overflow_cast-gates
+overflow_cast-gates c = omega (arith, room_after (goal.at.overflow_cast-gates c).At-loop-i (omega arith))
+
+pub overflow_add-used : goal.overflow_add-used
+overflow_add-used c = omega (arith, room_after (goal.at.overflow_add-used c).At-loop-i (omega arith))
 
 pub loop-g-preserved : goal.loop-g-preserved
 loop-g-preserved c =
-    gate_taken c.args.text.now c.args.start c.args.out c.args.count c.loop-i.invariant (omega arith) (omega (arith, c.ranges)) c.gate_of.result c.gate_of.ensures
+    gate_taken c.args.text.now c.args.start c.args.out c.args.count c.loop-i.invariant (omega arith) (omega (arith, c.ranges)) _ refl
 
 pub returns : goal.returns
 returns c =
