@@ -78,6 +78,6 @@ pub fn map_gate(k: u8, first: u16, kind: Kind, operands: Operands) -> MappedGate
 {
     let count = operands.count;
     let keys = operands.keys;
-    let p = best_plan(k, count, keys);
+    let p = best_plan(k, count, keys).unwrap();
     run_gate(first, kind, operands, p)
 }

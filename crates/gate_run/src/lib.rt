@@ -119,8 +119,8 @@ pub fn follow(first: u16, kind: Kind, operands: Operands, plan: Plan) -> PlanRun
     ensures { Ran first kind operands plan result }
 {
     let mut run = start();
-    for step in &plan.steps[..plan.len as usize] {
-        run = advance(run, first, kind, operands, step.token);
+    for token in &plan.steps[..plan.len as usize] {
+        run = advance(run, first, kind, operands, *token);
     }
     run
 }

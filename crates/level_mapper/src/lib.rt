@@ -30,7 +30,7 @@ fn choose_plans<'a>(
 {
     let gates = sheet.count as usize;
     let last = gates - 1;
-    let none = blank(false, Key { below: 0, width: 0 });
+    let none = blank(Key { below: 0, width: 0 });
     let mut plans = [none; MOST_GATES];
     let mut bounds = [0u16; MOST_GATES];
     let mut inputs = [0u8; MOST_GATES];

@@ -6,9 +6,9 @@ use native.Mathlib.Numerals.{add-one}
 use native.Mathlib.Decide.{dec_lt}
 use mathlib.Core.Path.{◌≡◌, refl, sym, ap, subst, ◌∙◌}
 use mathlib.Core.Logic.{◌≢◌, by_cases}
-use mathlib.Core.List.{List, [], ◌∷◌, ◌++◌, map-append}
+use mathlib.Core.List.{List, [], ◌∷◌, ◌++◌}
 use lib.ListN.{length, get_or, take, length-map, length-set}
-use lib.Seq.{take-suc-set, get_or-set_same, get_or-set_other}
+use lib.Seq.{get_or-set_same, get_or-set_other}
 use lib.Pow.{pow_pos, pow_mono}
 use Rattle.lists.specs.Trusted.Lists.{◌∈◌, Every, Inserted}
 use Rattle.lists.specs.Sequences.{upto}
@@ -27,10 +27,8 @@ use Rattle.levels.specs.MaskDemands.{demand_plan_one}
 use Rattle.level_arrays.specs.declared.Draft.{Draft}
 use Rattle.level_arrays.specs.Arrays.{entry_at, draft_demand, draft_demands, Drafted}
 use Rattle.level_plans.specs.Backing.{array_room, draft_taken, DraftTook, Backed}
+use Rattle.search.proofs.Writing.{stepped_tokens}
 use Rattle.level_plans.proofs.Summing.{some_bound}
-
-pub stepped_tokens : (p : Plan) (t : Token) → p.len < length p.steps → tokens (stepped p t) ≡ tokens p ++ (t ∷ [])
-stepped_tokens p t l = rw (add-one, take-suc-set) (map-append _ (take p.len p.steps) _)
 
 -- a mask of one bit selects its number
 one_selected : (n h : ℕ) → h < n → Inserted h (select (2 ^ h) (upto n)) []

@@ -22,7 +22,8 @@ use Rattle.level_arrays.specs.declared.Draft.{Draft}
 use Rattle.level_arrays.specs.Arrays.{big, entry_at, ReadsBack, draft_demands, NetEntries, PlacesNone, Drafted}
 use Rattle.level_plans.specs.Backing.{array_room, Sought, draft_stepped, Backed}
 use Rattle.level_plans.proofs.Summing.{some_bound}
-use Rattle.level_plans.proofs.Drafting.{stepped_tokens, demands_length, demand_at_lem}
+use Rattle.search.proofs.Writing.{stepped_tokens}
+use Rattle.level_plans.proofs.Drafting.{demands_length, demand_at_lem}
 use Rattle.level_plans.proofs.Parting.{parts_length, parts_out, MaskHalves, rest_backed, part_backed}
 
 -- a number stands in a list or not

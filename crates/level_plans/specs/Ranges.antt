@@ -34,7 +34,7 @@ pub record RangeFillable (K from top : ℕ) (f : Fans) (store a : List ℕ) : Ty
 
 -- a draft of no steps
 abbrev pub empty_draft : Draft
-empty_draft = record { plan = empty_plan true (key 0 0); bounds = replicate 10 0; inputs = replicate 10 0 }
+empty_draft = record { plan = empty_plan (key 0 0); bounds = replicate 10 0; inputs = replicate 10 0 }
 
 -- how many arrays are filled: those of the bounds from which a search is right, up to the one that is asked for
 abbrev pub range_of : (n bound : ℕ) → ℕ

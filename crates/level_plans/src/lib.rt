@@ -225,9 +225,8 @@ fn fill_arrays(
 fn blank_draft() -> Draft
     ensures { result ≡ empty_draft }
 {
-    let plan = blank(true, Key { below: 0, width: 0 });
     Draft {
-        plan,
+        plan: blank(Key { below: 0, width: 0 }),
         bounds: [0; 10],
         inputs: [0; 10],
     }

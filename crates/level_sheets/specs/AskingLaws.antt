@@ -1,5 +1,5 @@
 -- One gate's plan more: what is asked of it can be read back from its arrays, its plan meets that, and what its fanins are then asked can be asked of them.
-use Rattle.std.specs.Prelude.{ℕ, zero, suc, ◌+◌, ◌-◌, ◌*◌, ◌^◌, ◌≤◌, ◌<◌, ◌≡◌, refl, ◌⊎◌, ◌≢◌, Bool, true, false, List, [], ◌∷◌, ◌++◌, length, get_or, set}
+use Rattle.std.specs.Prelude.{ℕ, zero, suc, ◌+◌, ◌-◌, ◌*◌, ◌^◌, ◌≤◌, ◌<◌, ◌≡◌, refl, ◌⊎◌, ◌≢◌, Bool, true, false, List, [], ◌∷◌, ◌++◌, length, get_or, set, take}
 use Rattle.std.proofs.Common.{arith, sym, ap, ap₂, subst, ◌∙◌, inl, inr, append-nil, get_or-set_same, get_or-set_other}
 use Rattle.std.proofs.Math.Decide.{dec_lt}
 use Rattle.std.proofs.Math.Logic.{by_cases}
@@ -13,7 +13,7 @@ use Rattle.tree.specs.Trusted.Tree.{Node, leaf, gate}
 use Rattle.cover.specs.Trusted.Cover.{pick}
 use Rattle.plan.specs.declared.Plan.{Plan}
 use Rattle.plan.specs.Limits.{most_steps}
-use Rattle.plan.specs.Steps.{firsts, tokens}
+use Rattle.plan.specs.Steps.{tokens}
 use Rattle.plan.specs.Masks.{select}
 use Rattle.plan.specs.MaskLaws.{select_all}
 use Rattle.sheet.specs.declared.Source.{Source}
@@ -221,7 +221,7 @@ module _ (K : ℕ) (lev : ℕ → ℕ) (table : (2 ≤ K) × (K ≤ 6)) (s : Dra
           omega (arith, p.len, none, p.few, ap length (all_fanins (upto f.count) (upto_length f.count)), upto_length f.count, q.count)
 
       plan_tokens : tokens e.plan ≡ p.added
-      plan_tokens = p.is ∙ ap (λ n. firsts n d.plan.steps ++ p.added) none
+      plan_tokens = p.is ∙ ap (λ n. take n d.plan.steps ++ p.added) none
 
       -- a net's entries are 0, or it has none
       net_entries : NetEntries K f.count top (reads_net (get_or s.gates g no_gate)) a

@@ -14,7 +14,7 @@ use Rattle.level_arrays.specs.Arrays.{PlacesGates}
 
 -- what an array of plans, and a list of demands, gives past its end
 abbrev pub no_plan : Plan
-no_plan = record { ok = false; key = key 0 0; len = 0; steps = [] }
+no_plan = record { key = key 0 0; len = 0; steps = [] }
 
 abbrev pub no_demand : Demand
 no_demand = demand 0 0 0

@@ -1,5 +1,5 @@
 -- The code's mapping of a sheet follows the mapping on lists.
-use Rattle.std.specs.Prelude.{ℕ, ◌+◌, ◌-◌, ◌<◌, ◌≤◌, ◌≡◌, refl, false, List, [], ◌∷◌, ◌++◌, map, length, get_or, set, take}
+use Rattle.std.specs.Prelude.{ℕ, ◌+◌, ◌-◌, ◌<◌, ◌≤◌, ◌≡◌, refl, false, Option, Some, List, [], ◌∷◌, ◌++◌, map, length, get_or, set, take}
 use Rattle.std.proofs.Common.{add-one, arith, sym, ap, ap₂, ◌∙◌, length-set, get_or-take, length-take-le, take_all, take-suc, take-suc-set, get_or-set_same, get_or-set_other}
 use Rattle.lists.specs.Trusted.Lists.{Every}
 use Rattle.lists.specs.Sequences.{Sorted}
@@ -56,8 +56,8 @@ module _ {K first : ℕ} {o : Operands} (m : Mappable K first o) where
       ∙ m.widths i j
       ∙ ap (λ a. a.width) (sym (get_or-take o.count o.keys i leaf_key j))
 
-  pub gate_answer : {p : Plan} → PlanOf K o.count o.keys p → PlanAnswer K (keys_in o) p
-  gate_answer = plan_answer K o.count o.keys key_count m.keys
+  pub gate_answer : (r : Option Plan) → PlanOf K o.count o.keys r → (p : Plan) × (r ≡ Some p) × PlanAnswer K (keys_in o) p
+  gate_answer r = plan_answer K o.count o.keys r key_count m.keys
 
   pub gate_runnable : {p : Plan} → PlanAnswer K (keys_in o) p → (k : Kind) → Runnable first k o p
   gate_runnable a k = record {

@@ -336,12 +336,10 @@ module _ (first : ℕ) (k : Kind) (o : Operands) (p : Plan) where
 
   module _ {i : ℕ} {s : PlanRun} (r : Runnable first k o p) (f : Following first k o p i s) (l : i < length (take p.len p.steps)) where
     abbrev next : Token
-    next = (get_or (take p.len p.steps) i (record { token = Push 0 })).token
+    next = get_or (tokens p) i (Push 0)
 
     rest : drop i (tokens p) ≡ next ∷ drop (i + 1) (tokens p)
-    rest =
-        drop-cons (tokens p) i (Push 0) (omega (arith, l, length-map (take p.len p.steps) (λ x. x.token)))
-        ∙ ap₂ ◌∷◌ (map_at (λ x. x.token) (take p.len p.steps) i (record { token = Push 0 }) (Push 0) l) (ap (λ n. drop n (tokens p)) (sym (add-one i)))
+    rest = drop-cons (tokens p) i (Push 0) l ∙ ap (λ n. next ∷ drop n (tokens p)) (sym (add-one i))
 
     safe_next : SafeStep code_base first k (fanins_of o) next (state_of s) × SafeRun code_base first k (fanins_of o) (drop (i + 1) (tokens p)) (run_token code_base first k (fanins_of o) next (state_of s))
     safe_next = subst (λ ts. SafeRun code_base first k (fanins_of o) ts (state_of s)) rest f.safe
@@ -362,5 +360,5 @@ module _ (first : ℕ) (k : Kind) (o : Operands) (p : Plan) where
     holds = f.holds;
     state =
         ap (λ ts. run_plan code_base first k (fanins_of o) ts (state_of s))
-        (sym (drop_past i (tokens p) (omega (arith, l, length-map (take p.len p.steps) (λ x. x.token))))) ∙ f.ends;
+        (sym (drop_past i (tokens p) l)) ∙ f.ends;
   }

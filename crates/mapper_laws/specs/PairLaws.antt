@@ -84,15 +84,13 @@ module _ {K first : ℕ} (i : Bool) (x : Held) (j : Bool) (y : Held) (m : Mappab
 
   abbrev plan : Plan
   plan = record {
-    ok = true;
     key = join K a b;
     len = 3;
-    steps = record { token = Push 1 } ∷ (record { token = Push 0 } ∷ (record { token = Join l r } ∷ replicate 16 (record { token = Push 0 })));
+    steps = Push 1 ∷ (Push 0 ∷ (Join l r ∷ replicate 16 (Push 0)));
   }
 
   answer : PlanAnswer K (keys_in o) plan
   answer = record {
-    ok = refl;
     least = pair_least K two a b left_fanin.some right_fanin.some;
     planned = record {
       order = 1 ∷ 0 ∷ [];

@@ -1,9 +1,9 @@
 -- Laws of what is promised of a plan: when input is good, and what a plan's steps and key are bounded by.
-use Rattle.std.specs.Prelude.{ℕ, ◌≤◌, ◌≡◌, List, T, length, take}
-use Rattle.std.proofs.Common.{arith, length-take-le}
+use Rattle.std.specs.Prelude.{ℕ, ◌≤◌, ◌≡◌, refl, Option, Some, None, List, T, length, take}
+use Rattle.std.proofs.Common.{arith, subst, length-take-le}
 use Rattle.lists.specs.Cases.{and_split}
 use Rattle.lists.specs.Trusted.Tests.{within}
-use Rattle.lists.specs.TestLaws.{reflects_map, reflects_and, reflects_all, reflects_within, by_either}
+use Rattle.lists.specs.TestLaws.{reflects_map, reflects_and, reflects_all, reflects_within}
 use Rattle.lists.specs.Trusted.Tests.{Reflects}
 use Rattle.plan.specs.declared.Key.{Key}
 use Rattle.plan.specs.declared.Plan.{Plan}
@@ -35,10 +35,11 @@ good_size K count keys l h =
     let q = and_split (within fewest_fanins most_fanins count) _ p.1 in
     length-take-le count keys (omega (arith, (reflects_within fewest_fanins most_fanins count).to q.0))
 
--- good input has an answer
-pub plan_answer : (K count : ℕ) (keys : List Key) {r : Plan} → length (take count keys) ≡ count → GoodKeys K (take count keys) →
-    PlanOf K count keys r → PlanAnswer K (take count keys) r
-plan_answer K count keys e g = by_either (reflects_good K count keys e g.few) (λ h a. a) (λ n z. absurd (n g))
+-- good input has a plan
+pub plan_answer : (K count : ℕ) (keys : List Key) (r : Option Plan) → length (take count keys) ≡ count → GoodKeys K (take count keys) →
+    PlanOf K count keys r → (p : Plan) × (r ≡ Some p) × PlanAnswer K (take count keys) p
+plan_answer K count keys (Some p) e g h = (p, refl, h.1)
+plan_answer K count keys None e g h = absurd (subst T h ((reflects_good K count keys e g.few).from g))
 
 module _ {K : ℕ} {ks : List Key} {r : Plan} (a : PlanAnswer K ks r) where
   pub answer_most : GoodKeys K ks → r.len ≤ most_steps

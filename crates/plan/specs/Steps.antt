@@ -1,10 +1,9 @@
 -- The steps of a plan as the code holds it, and what writing them for a mask has to give. Internal definitions.
-use Rattle.std.specs.Prelude.{ℕ, ◌+◌, ◌*◌, ◌^◌, ◌≤◌, ◌<◌, ◌≡◌, List, ◌++◌, map, length, take, set}
+use Rattle.std.specs.Prelude.{ℕ, ◌+◌, ◌*◌, ◌^◌, ◌≤◌, ◌<◌, ◌≡◌, List, ◌++◌, length, take, set}
 use Rattle.lists.specs.Sequences.{upto}
 use Rattle.plan.specs.declared.Key.{Key}
 use Rattle.plan.specs.declared.Token.{Token}
 use Rattle.plan.specs.declared.Token.TheVariants.{Push as push, Join as join}
-use Rattle.plan.specs.declared.PlanStep.{PlanStep}
 use Rattle.plan.specs.declared.Plan.{Plan}
 use Rattle.plan.specs.Limits.{masks, most_steps}
 use Rattle.plan.specs.Key.{cuts}
@@ -12,17 +11,13 @@ use Rattle.plan.specs.Masks.{select}
 use Rattle.plan.specs.MaskPlans.{MaskPlanned}
 use Rattle.plan.specs.Entries.{entry, Entries, GoodKeys}
 
--- the tokens of the first n steps
-abbrev pub firsts : ℕ → List PlanStep → List Token
-firsts n ss = map (λ x. x.token) (take n ss)
-
 -- the tokens of a plan
 abbrev pub tokens : Plan → List Token
-tokens p = firsts p.len p.steps
+tokens p = take p.len p.steps
 
 -- a plan with one step more
 abbrev pub stepped : Plan → Token → Plan
-stepped p t = record { ok = p.ok; key = p.key; len = p.len + 1; steps = set p.steps p.len (record { token = t }) }
+stepped p t = record { key = p.key; len = p.len + 1; steps = set p.steps p.len t }
 
 -- the token of the join of two keys
 abbrev pub join_token : ℕ → Key → Key → Token
@@ -49,7 +44,7 @@ pub record StepsWritten (K : ℕ) (ks : List Key) (bs ws : List ℕ) (s : ℕ) (
   pub is : tokens q ≡ tokens p ++ added
   pub len : q.len ≡ p.len + length added
   pub size : length q.steps ≡ most_steps
-  pub kept : (q.ok ≡ p.ok) × (q.key ≡ p.key)
+  pub kept : q.key ≡ p.key
 
 -- whatever keys the entries are of
 abbrev pub Writes : ℕ → List ℕ → List ℕ → List ℕ → ℕ → Plan → Plan → Type 0

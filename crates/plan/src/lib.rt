@@ -26,19 +26,12 @@ pub enum Token {
     Join(bool, bool),
 }
 
-// A token in a struct of its own, for an array.
-#[derive(Clone, Copy)]
-pub struct PlanStep {
-    pub token: Token,
-}
-
-// A plan for a gate, or none where ok is false: the key that it gives, and its first len steps.
+// A plan for a gate: the key that it gives, and its first len steps.
 #[derive(Clone, Copy)]
 pub struct Plan {
-    pub ok: bool,
     pub key: Key,
     pub len: u8,
-    pub steps: [PlanStep; MOST_STEPS],
+    pub steps: [Token; MOST_STEPS],
 }
 
 // Which operands of a join are placed.

@@ -21,7 +21,7 @@ use Rattle.plan.specs.PlanBounds.{planned_length}
 use Rattle.plan.specs.Entries.{entry, Entries, FewLeaves, GoodKeys}
 use Rattle.plan.specs.Steps.{Writable, Writes}
 use Rattle.plan.specs.PlanOfLaws.{reflects_good, good_size}
-use Rattle.plan.specs.PlanOf.{good_input, empty_plan, PlanAnswer, PlanOf}
+use Rattle.plan.specs.PlanOf.{good_input, empty_plan, PlanAnswer}
 
 module _ {K : ℕ} {ks : List Key} (good : GoodKeys K ks) {n : ℕ} (size : n ≡ 2 ^ length ks) where
   pub whole_place : (0 < n - 1) × (n - 1 < masks)
@@ -42,7 +42,7 @@ module _ {K : ℕ} {ks : List Key} (good : GoodKeys K ks) {n : ℕ} (size : n �
     whole_entries : Entries K ks bs ws us (n - 1 + 1)
     whole_entries = let e : n - 1 + 1 ≡ n = omega (arith, whole_place) in rw e es
 
-    pub whole_writable : (a : Key) → Writable K bs ws us (n - 1) (empty_plan true a)
+    pub whole_writable : (a : Key) → Writable K bs ws us (n - 1) (empty_plan a)
     whole_writable a =
         let p = whole_place in record {
           keys = ks;
@@ -54,14 +54,13 @@ module _ {K : ℕ} {ks : List Key} (good : GoodKeys K ks) {n : ℕ} (size : n �
           room = rw whole_bits (omega (arith, upto_length (length ks), good.count.1));
         }
 
-    pub whole_answer : {a : Key} {r : Plan} → a ≡ entry bs ws (n - 1) → Writes K bs ws us (n - 1) (empty_plan true a) r → PlanAnswer K ks r
+    pub whole_answer : {a : Key} {r : Plan} → a ≡ entry bs ws (n - 1) → Writes K bs ws us (n - 1) (empty_plan a) r → PlanAnswer K ks r
     whole_answer {a} {r} e w =
         let p = whole_place in
         let x = w ks whole_entries in
-        let k : entry bs ws (n - 1) ≡ r.key = sym (x.kept.1 ∙ e) in
+        let k : entry bs ws (n - 1) ≡ r.key = sym (x.kept ∙ e) in
         let l = subst (λ zs. LeastReach K zs (entry bs ws (n - 1))) (whole_select ks refl) (es.at (n - 1) p.0 (omega arith)).least in
         let q = subst (λ ns. Planned K ks ns x.added (entry bs ws (n - 1))) whole_bits x.planned in record {
-          ok = x.kept.0;
           least = subst (LeastReach K ks) k l;
           planned = subst (λ ts. Planned K ks (upto (length ks)) ts r.key) (sym x.is) (subst (Planned K ks (upto (length ks)) x.added) k q);
           len = omega (arith, x.len, planned_length q, upto_length (length ks));
@@ -75,7 +74,3 @@ plan_keys K count keys l few e =
     let t = subst T (sym e) tt in
     let s = good_size K count keys (omega arith) t in
     (s, (reflects_good K count keys s few).to t)
-
-pub plan_found : (K count : ℕ) (keys : List Key) {r : Plan} → good_input K count keys ≡ true → PlanAnswer K (take count keys) r →
-    PlanOf K count keys r
-plan_found K count keys e h = rw e h

@@ -7,8 +7,8 @@ use native.Mathlib.Decide.{dec_lt}
 use mathlib.Core.Logic.{by_cases}
 use mathlib.Core.Path.{◌≡◌, refl, sym, ap, subst, ◌∙◌}
 use mathlib.Core.Bool.{Bool}
-use mathlib.Core.List.{List, [], ◌∷◌, ◌++◌, map-append, append_assoc}
-use lib.ListN.{length, get_or, take, length-append, length-set}
+use mathlib.Core.List.{List, [], ◌∷◌, ◌++◌, append_assoc}
+use lib.ListN.{length, get_or, length-append, length-set}
 use lib.Seq.{take-suc-set}
 use lib.Pow.{pow-lt}
 use Rattle.lists.specs.Sequences.{upto}
@@ -50,8 +50,8 @@ pow_same i j e =
 entries_below : {K : ℕ} {ks : List Key} {bs ws us : List ℕ} {m n : ℕ} → m ≤ n → Entries K ks bs ws us n → Entries K ks bs ws us m
 entries_below l es = record { at = λ s p k. es.at s p (omega arith) }
 
-stepped_tokens : (p : Plan) (t : Token) → p.len < length p.steps → tokens (stepped p t) ≡ tokens p ++ (t ∷ [])
-stepped_tokens p t l = rw (add-one, take-suc-set) (map-append _ (take p.len p.steps) _)
+pub stepped_tokens : (p : Plan) (t : Token) → p.len < length p.steps → tokens (stepped p t) ≡ tokens p ++ (t ∷ [])
+stepped_tokens p t l = rw (add-one, take-suc-set) refl
 
 -- the steps of two parts, and a join
 written_join : {K : ℕ} {ks : List Key} {bs ws : List ℕ} {s : ℕ} {p q r : Plan} {a b : Bool} (u : ℕ) → MaskWithin u s →
@@ -66,7 +66,7 @@ written_join {s = s} {p = p} {r = r} {a = a} {b = b} u i way l x y =
           ∙ simp append_assoc;
       len = simp length-append (omega (arith, x.len, y.len));
       size = simp length-set y.size;
-      kept = (y.kept.0 ∙ x.kept.0, y.kept.1 ∙ x.kept.1);
+      kept = y.kept ∙ x.kept;
     }
 
 module _ {K : ℕ} {bs ws us : List ℕ} {s : ℕ} {p : Plan} (w : Writable K bs ws us s p) where
@@ -98,7 +98,7 @@ module _ {K : ℕ} {bs ws us : List ℕ} {s : ℕ} {p : Plan} (w : Writable K bs
           is = stepped_tokens p (push h) (omega (arith, w.size, one_able.1));
           len = refl;
           size = simp length-set w.size;
-          kept = (refl, refl);
+          kept = refl;
         })
 
   -- a mask of more

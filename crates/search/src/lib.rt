@@ -11,7 +11,7 @@ ghost use Rattle.plan.specs.Steps.{stepped, join_token, Took, Writable, Writes};
 ghost use Rattle.plan.specs.Entries.{Joinable, JoinableAt, Split, BestJoin, FewLeaves, Fillable, Entries, OneBit, entry};
 
 use keys::{cuts_of, join, precedes, volume};
-use plan::{Key, LEAST_INPUTS, MASKS, MOST_INPUTS, MOST_STEPS, Plan, PlanStep, Token};
+use plan::{Key, LEAST_INPUTS, MASKS, MOST_INPUTS, MOST_STEPS, Plan, Token};
 use tree::{FEWEST_FANINS, MOST_FANINS};
 
 // The token of that join.
@@ -134,17 +134,13 @@ pub fn bit_number(s: usize) -> u8
 }
 
 // The plan with one step more.
-pub fn with_step(plan: Plan, token: Token) -> Plan
+pub fn with_step(mut plan: Plan, token: Token) -> Plan
     requires { plan.len < most_steps }
     ensures { result ≡ stepped plan token }
 {
-    let mut p = plan;
-    let len = p.len;
-    let at = len as usize;
-    let step = PlanStep { token };
-    p.steps[at] = step;
-    p.len = len + 1;
-    p
+    plan.steps[plan.len as usize] = token;
+    plan.len += 1;
+    plan
 }
 
 // The plan with the step that takes the fanin of a mask of one bit.
@@ -224,29 +220,24 @@ fn is_good(k: u8, count: u8, keys: [Key; MOST_FANINS]) -> bool
 }
 
 // A plan of no steps.
-pub fn blank(ok: bool, key: Key) -> Plan
-    ensures { result ≡ empty_plan ok key }
+pub fn blank(key: Key) -> Plan
+    ensures { result ≡ empty_plan key }
 {
-    let step = PlanStep {
-        token: Token::Push(0),
-    };
-    let steps = [step; MOST_STEPS];
     Plan {
-        ok,
         key,
         len: 0,
-        steps,
+        steps: [Token::Push(0); MOST_STEPS],
     }
 }
 
-// The best key for a gate whose first count fanins have these keys, and the plan that gives it. Input that is not good is
-// answered by a plan that is not ok, of zeros. It asks for fanins with at most 256 leaves under them: then a byte holds each count.
-pub fn best_plan(k: u8, count: u8, keys: [Key; MOST_FANINS]) -> Plan
+// The best key for a gate whose first count fanins have these keys, and the plan that gives it; none for input that is not good.
+// It asks for fanins with at most 256 leaves under them: then a byte holds each count.
+pub fn best_plan(k: u8, count: u8, keys: [Key; MOST_FANINS]) -> Option<Plan>
     requires { FewLeaves (take count keys) }
     ensures { PlanOf k count keys result }
 {
     if !is_good(k, count, keys) {
-        return blank(false, Key { below: 0, width: 0 });
+        return None;
     }
     let mut below = [0u8; MASKS];
     let mut width = [0u8; MASKS];
@@ -263,5 +254,5 @@ pub fn best_plan(k: u8, count: u8, keys: [Key; MOST_FANINS]) -> Plan
     );
     let all = end - 1;
     let key = key_at(all, &below, &width);
-    with_steps(k, all, &below, &width, &split, blank(true, key))
+    Some(with_steps(k, all, &below, &width, &split, blank(key)))
 }

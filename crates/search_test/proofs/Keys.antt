@@ -2,20 +2,18 @@
 use Prim.Native.Nat.{ℕ, zero, suc, ◌+◌, ◌*◌, ◌≤◌}
 use native.Mathlib.Omega.{arith}
 use mathlib.Core.Path.{◌≡◌, sym, subst}
-use mathlib.Core.Bool.{false}
+use Rattle.std.proofs.Common.{Some}
 use mathlib.Core.List.{List, [], ◌∷◌}
 use lib.Dec.{T}
 use lib.ListN.{length, take, set, replicate}
 use Rattle.lists.specs.Trusted.Lists.{Every, sum}
-use Rattle.lists.specs.TestLaws.{by_either}
 use Rattle.lists.specs.ListLaws.{every_none, every_cons, every_head, every_tail}
 use Rattle.plan.specs.declared.Key.{Key}
 use Rattle.plan.specs.declared.Plan.{Plan}
-use Rattle.plan.specs.Key.{key}
 use Rattle.plan.specs.Volume.{fewest_leaves}
 use Rattle.plan.specs.ReachBounds.{reach_leaves}
 use Rattle.plan.specs.Entries.{FewLeaves}
-use Rattle.plan.specs.PlanOf.{good_input, empty_plan, PlanAnswer, PlanOf}
+use Rattle.plan.specs.PlanOf.{PlanOf}
 use Rattle.plan.specs.PlanOfLaws.{reflects_good, good_size}
 
 -- a key that asks for at most so many leaves
@@ -45,11 +43,9 @@ pub two_few : (a b l : Key) (count : ℕ) → Light 1 l → fewest_leaves a + fe
 two_few a b l count h m = omega (arith, sum_take count (a ∷ b ∷ replicate 8 l))
 
 -- a plan's key asks for no more leaves than the keys do
-pub plan_light : (K count : ℕ) (keys : List Key) (r : Plan) → length keys ≡ 10 → FewLeaves (take count keys) → PlanOf K count keys r →
+pub plan_light : (K count : ℕ) (keys : List Key) (r : Plan) → length keys ≡ 10 → FewLeaves (take count keys) → PlanOf K count keys (Some r) →
     fewest_leaves r.key ≤ sum fewest_leaves (take count keys)
-plan_light K count keys r l few =
-    by_either {b = good_input K count keys} {P = T (good_input K count keys)} (record { to = λ t. t; from = λ t. t })
-    (λ t (a : PlanAnswer K (take count keys) r).
+plan_light K count keys r l few h =
+    let t = subst T (sym h.0) tt in
     let g = (reflects_good K count keys (good_size K count keys (omega arith) t) few).to t in
-    reach_leaves K g.table.0 a.least.reach)
-    (λ n (e : r ≡ empty_plan false (key 0 0)). subst (λ (p : Plan). fewest_leaves p.key ≤ sum fewest_leaves (take count keys)) (sym e) (omega arith))
+    reach_leaves K g.table.0 h.1.least.reach

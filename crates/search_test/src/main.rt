@@ -16,8 +16,11 @@ fn leaf() -> Key
     Key { below: 0, width: 1 }
 }
 
-fn show(rt: &impl Print, p: Plan) -> io::Result<()> {
-    println!(rt; "{} {} {} {}", p.ok as u8, p.key.below, p.key.width, p.len)
+fn show(rt: &impl Print, plan: Option<Plan>) -> io::Result<()> {
+    match plan {
+        Some(p) => println!(rt; "1 {} {} {}", p.key.below, p.key.width, p.len),
+        None => println!(rt; "0 0 0 0"),
+    }
 }
 
 // The key of a gate of that many leaves, or of a leaf.
@@ -27,8 +30,10 @@ fn gate_of(k: u8, leaves: u8) -> Key
     if leaves == 1 {
         return leaf();
     }
-    let p = search::best_plan(k, leaves, [leaf(); 10]);
-    p.key
+    match search::best_plan(k, leaves, [leaf(); 10]) {
+        Some(p) => p.key,
+        None => Key { below: 0, width: 0 },
+    }
 }
 
 // The root of an example: each fanin is a gate of that many leaves, or a leaf.

@@ -4,7 +4,7 @@ use Prim.Native.Nat.{◌^◌}
 use lib.ListN.{length, take}
 use Rattle.plan.specs.Entries.{GoodKeys}
 use Rattle.plan.specs.PlanOf.{good_input}
-use Rattle.search.proofs.Planning.{whole_place, whole_writable, whole_answer, plan_keys, plan_found}
+use Rattle.search.proofs.Planning.{whole_place, whole_writable, whole_answer, plan_keys}
 use borrow.Author.Rules.{rules}
 use Rattle.search.proofs.best_plan.Goals as goal
 use Rattle.search.proofs.best_plan.Goals.{After-fill-end, Else-not-is_good}
@@ -36,12 +36,11 @@ pub with_steps-requires : goal.with_steps-requires
 with_steps-requires c =
     let f = found (goal.at.with_steps-requires c).Else-not-is_good in
     let e = ended (goal.at.with_steps-requires c).After-fill-end f.0 in
-    rw c.blank-2.ensures (whole_writable f.1 e c.fill-end.ensures.1 _)
+    rw c.blank.ensures (whole_writable f.1 e c.fill-end.ensures.1 _)
 
 pub returns : goal.returns
 returns c =
     let f = found (goal.at.returns c).Else-not-is_good in
     let e = ended (goal.at.returns c).After-fill-end f.0 in
-    let w = rw c.blank-2.ensures at c.with_steps.ensures in
-    plan_found _ _ _ (passed (goal.at.returns c).Else-not-is_good)
-    (whole_answer f.1 e c.fill-end.ensures.1 c.key_at-key.ensures w)
+    let w = rw c.blank.ensures at c.with_steps.ensures in
+    (passed (goal.at.returns c).Else-not-is_good, whole_answer f.1 e c.fill-end.ensures.1 c.key_at-key.ensures w)
