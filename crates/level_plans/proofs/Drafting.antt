@@ -2,25 +2,21 @@
 use Prim.Native.Nat.{ℕ, ◌+◌, ◌-◌, ◌*◌, ◌^◌, ◌≤◌, ◌<◌}
 use native.Mathlib.Omega.{arith}
 use native.Mathlib.Nat.{add-zero}
-use native.Mathlib.Numerals.{add-one}
 use native.Mathlib.Decide.{dec_lt}
 use mathlib.Core.Path.{◌≡◌, refl, sym, ap, subst, ◌∙◌}
 use mathlib.Core.Logic.{◌≢◌, by_cases}
-use mathlib.Core.List.{List, [], ◌∷◌, ◌++◌}
-use lib.ListN.{length, get_or, take, length-map, length-set}
+use mathlib.Core.List.{List, [], ◌∷◌}
+use lib.ListN.{length, get_or, length-map, length-set}
 use lib.Seq.{get_or-set_same, get_or-set_other}
 use lib.Pow.{pow_pos, pow_mono}
 use Rattle.lists.specs.Trusted.Lists.{◌∈◌, Every, Inserted}
 use Rattle.lists.specs.Sequences.{upto}
 use Rattle.lists.specs.ListLaws.{map_at, inserted_length, inserted_to, inserted_from, every_cons, every_none, every_head}
 use Rattle.lists.specs.NumberLaws.{upto_length, upto_at}
-use Rattle.plan.specs.declared.Plan.{Plan}
-use Rattle.plan.specs.declared.Token.{Token}
 use Rattle.plan.specs.declared.Token.TheVariants.{Push as push}
 use Rattle.plan.specs.Limits.{masks, most_steps}
 use Rattle.plan.specs.Masks.{select}
 use Rattle.plan.specs.MaskLaws.{select_some, select_top, select_none}
-use Rattle.plan.specs.Steps.{tokens, stepped}
 use Rattle.plan.specs.Entries.{OneBit}
 use Rattle.levels.specs.Demands.{Demand, demand, MaskMeets}
 use Rattle.levels.specs.MaskDemands.{demand_plan_one}

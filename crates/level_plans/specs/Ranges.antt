@@ -1,5 +1,5 @@
 -- The arrays of the search for a gate's plan: what filling them takes and gives. Internal definitions.
-use Rattle.std.specs.Prelude.{ℕ, ◌+◌, ◌-◌, ◌^◌, ◌≤◌, ◌<◌, ◌≡◌, true, List, length, replicate}
+use Rattle.std.specs.Prelude.{ℕ, ◌+◌, ◌-◌, ◌^◌, ◌≤◌, ◌<◌, ◌≡◌, List, length, replicate}
 use Rattle.plan.specs.Key.{key}
 use Rattle.plan.specs.PlanOf.{empty_plan}
 use Rattle.level_arrays.specs.declared.Fans.{Fans}

@@ -3,7 +3,7 @@
 use Prim.Native.Nat.{ℕ, zero, suc, ◌+◌, ◌-◌, ◌*◌, ◌≤◌, ◌<◌}
 use native.Mathlib.Omega.{arith}
 use native.Mathlib.Decide.{dec_lt}
-use mathlib.Core.Path.{◌≡◌, refl, ◌∙◌}
+use mathlib.Core.Path.{◌≡◌, ◌∙◌}
 use mathlib.Core.Logic.{◌⊎◌, inl, inr, ⊎_elim, by_cases}
 use mathlib.Core.List.{List}
 use lib.Bits.{bit_and}
@@ -18,9 +18,6 @@ use Rattle.level_rows.specs.Sums.{LeastSum}
 -- ---- over the first part's inputs
 
 module _ {a : List ℕ} {x y w : ℕ} where
-  pub least_none : (m q : ℕ) → m ≤ 1 → LeastSum a x y w m q q
-  least_none m q l = record { most = omega arith; sums = λ i p h. absurd (omega arith); some = inl refl }
-
   -- the least of what there is and of one sum more
   pub least_more : {m q e : ℕ} (d : ℕ) → 1 ≤ m → LeastSum a x y w m q e → d ≤ e → d ≤ get_or a (x + m) big + get_or a (y + (w - m)) big →
       (d ≡ e) ⊎ (d ≡ get_or a (x + m) big + get_or a (y + (w - m)) big) → LeastSum a x y w (m + 1) q d

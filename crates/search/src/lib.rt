@@ -1,7 +1,7 @@
 // The search for the fewest tables of one gate, over the sets of its fanins as bit masks, and the plan that it finds.
 #![tactic(auto)]
 
-ghost use Rattle.std.specs.Prelude.{◌≡◌, true, false, ◌≤◌, ◌<◌, ◌^◌, take};
+ghost use Rattle.std.specs.Prelude.{◌≡◌, ◌≤◌, ◌<◌, ◌^◌, take};
 ghost use Rattle.plan.specs.Key.{join as join_of};
 ghost use Rattle.lists.specs.Trusted.Tests.{all};
 ghost use Rattle.tree.specs.Trusted.Limits.{most_fanins};
