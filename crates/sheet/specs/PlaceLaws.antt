@@ -1,15 +1,16 @@
 -- A sheet's gates and fanins by their places in the code's arrays.
-use Rattle.std.specs.Prelude.{ℕ, zero, suc, ◌+◌, ◌<◌, ◌≤◌, ◌≡◌, false, List, [], ◌∷◌, length, get_or, take, drop}
-use Rattle.std.proofs.Common.{arith, ap, ◌∙◌, subst, length-take, get_or-take, get_or-drop, length-take-le}
+use Rattle.std.specs.Prelude.{ℕ, zero, suc, ◌+◌, ◌<◌, ◌≤◌, ◌≡◌, refl, false, List, [], ◌∷◌, length, get_or, take, drop}
+use Rattle.std.proofs.Common.{arith, ap, ◌∙◌, subst, length-take, length-drop, get_or-take, get_or-drop, length-take-le}
 use Rattle.std.proofs.lemmas.List.{length-map}
 use Rattle.lists.specs.Trusted.Lists.{Every}
-use Rattle.lists.specs.ListLaws.{every_head, every_left, every_right, every_at, map_at}
+use Rattle.lists.specs.ListLaws.{every_none, every_cons, every_head, every_left, every_right, every_at, map_at}
 use Rattle.tree.specs.declared.Kind.TheVariants.{And}
+use Rattle.sheet.specs.declared.Source.{Source}
 use Rattle.sheet.specs.declared.Source.TheVariants.{Net, Gate}
 use Rattle.sheet.specs.declared.Edge.{Edge}
 use Rattle.sheet.specs.declared.Gate.{Gate as SheetGate}
 use Rattle.sheet.specs.declared.Sheet.{Sheet}
-use Rattle.sheet.specs.Trusted.Limits.{most_gates}
+use Rattle.sheet.specs.Trusted.Limits.{most_gates, fanin_room}
 use Rattle.sheet.specs.Trusted.Sheet.{DrawnGate, gate_of, fanin_gates}
 use Rattle.sheet.specs.Trusted.Answers.{drawn_gate, drawn_gates, drawn_sheet}
 use Rattle.sheet.specs.Trusted.Formed.{FaninCount, Before, Earlier, WellFormed}
@@ -75,3 +76,17 @@ module _ (c : Sheet) (w : WellFormed (drawn_sheet c)) (room : length c.gates ≡
     gate_reads =
         subst (λ d. Every (λ j. (1 ≤ j) × (j ≤ g)) (fanin_gates d.fanins)) sheet_gate
         (λ j m. let b = earlier_at 1 (drawn_sheet c).gates g no_gate w.earlier (omega (arith, sheet_gates)) j m in (b.0, omega arith))
+
+    -- a fanin of it
+    module _ {i : ℕ} (m : i < length (drawn_gate c.fanins here).fanins) where
+      pub fanin_placed : length c.fanins ≡ fanin_room → here.first + i < fanin_room
+      fanin_placed wide = omega (arith, m, wide, length-take here.count (drop here.first c.fanins), length-drop here.first c.fanins)
+
+      pub fanin_reads : Every (λ j. (1 ≤ j) × (j ≤ most_gates)) (gate_of (get_or c.fanins (here.first + i) no_edge).source)
+      fanin_reads = of (get_or c.fanins (here.first + i) no_edge).source refl
+        where
+          of : (s : Source) → (get_or c.fanins (here.first + i) no_edge).source ≡ s → Every (λ j. (1 ≤ j) × (j ≤ most_gates)) (gate_of s)
+          of (Net n) e = every_none _
+          of (Gate j) e =
+              let b = every_source {P = λ j. (1 ≤ j) × (j ≤ g)} (drawn_gate c.fanins here).fanins i j gate_reads m (ap (λ f. f.source) (edge_drawn c.fanins here m) ∙ e) in
+              every_cons (b.0, omega (arith, b.1)) (every_none _)
