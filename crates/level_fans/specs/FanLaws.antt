@@ -80,11 +80,12 @@ module _ (f : Fans) where
       met = (n, omega arith, refl);
     }
 
-    pub greatest_fan_more : GreatestFan (first_fans (n + 1) f) (max a (get_or f.levels n 0))
-    greatest_fan_more =
-        by_leb (λ b. GreatestFan (first_fans (n + 1) f) (max a (get_or f.levels n 0))) a (get_or f.levels n 0)
+    pub greatest_fan_more : {b : ℕ} → b ≡ max a (get_or f.levels n 0) → GreatestFan (first_fans (n + 1) f) b
+    greatest_fan_more e =
+        rw e
+        (by_leb (λ b. GreatestFan (first_fans (n + 1) f) (max a (get_or f.levels n 0))) a (get_or f.levels n 0)
         (λ l. let e : max a (get_or f.levels n 0) ≡ get_or f.levels n 0 = omega arith in rw e (raised l))
-        (λ l. let e : max a (get_or f.levels n 0) ≡ a = omega arith in rw e (kept (omega arith)))
+        (λ l. let e : max a (get_or f.levels n 0) ≡ a = omega arith in rw e (kept (omega arith))))
 
 -- ---- asked
 

@@ -1,5 +1,6 @@
+use borrow.Author.Rules.{rules}
 use Rattle.level_fans.specs.FanLaws.{greatest_fan_more}
 use Rattle.level_fans.proofs.greatest_level.Goals as goal
 
 pub loop-h-preserved : goal.loop-h-preserved
-loop-h-preserved c = rw c.max-greatest.ensures (greatest_fan_more c.args.f c.loop-h.invariant)
+loop-h-preserved c = search (rules, greatest_fan_more)
