@@ -1,7 +1,7 @@
 // The gates of a sheet: their lines, from the first to the last, and the first gate that is never read.
 #![tactic(auto)]
 
-ghost use Rattle.std.specs.Prelude.{◌≡◌, ◌≤◌, length};
+ghost use Rattle.std.specs.Prelude.{◌≤◌, length};
 ghost use Rattle.sheet_gates.specs.Gates.{GatesRead, UnreadFound};
 
 use flags::flag;

@@ -1,10 +1,9 @@
 // The reader of a sheet: its line 1, its gates, and what is tested after them.
 #![tactic(auto)]
 
-ghost use Rattle.std.specs.Prelude.{◌≡◌, drop};
+ghost use Rattle.std.specs.Prelude.{drop};
 ghost use Rattle.sheet.specs.Trusted.Cut.{next_read};
 ghost use Rattle.sheet.specs.Trusted.Promise.{SheetRead, NextRead};
-ghost use Rattle.sheet_gates.specs.Gates.{GatesHeld};
 ghost use Rattle.sheet_reader.specs.Inside.{EndRead, read_front};
 
 use sheet::{Next, Refusal, Sheet, SheetError, at_line};
