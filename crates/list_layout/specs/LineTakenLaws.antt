@@ -1,6 +1,6 @@
 -- The lines by the numbers of their fields, as a reader has them.
-use Prim.Native.Nat.{ℕ, suc, ◌+◌, ◌-◌, ◌*◌, ◌≤◌, ◌<◌}
-use Rattle.std.proofs.Common.{add-one, arith, ap, ap₂, subst, ◌∙◌, drop_of_length-le, take-append-drop, drop-cons, get_or-take, length-take-le}
+use Prim.Native.Nat.{ℕ, suc, ◌+◌, ◌-◌, ◌*◌, ◌≤◌}
+use Rattle.std.proofs.Common.{arith, ap, ap₂, subst, ◌∙◌, take-append-drop, get_or-take, length-take-le}
 use Rattle.std.specs.Prelude.{◌≡◌, refl, Bool, true, false, cond, ◌&&◌, eqb, length, get_or, take, drop, replicate, Some, None, Option as Answer}
 use Rattle.std.proofs.Math.Path.{sym}
 use Rattle.std.proofs.Math.Option.{Option, none, some, bind}
@@ -53,17 +53,6 @@ bind_cond : {A B : Type 0} (b : Bool) (a : A) (g : A → Option B) → bind (con
 unfolding bind
 bind_cond true a g = refl
 bind_cond false a g = refl
-
--- ---- a line feed
-
-line_feed_here : (text : List ℕ) (at : ℕ) → at < length text → take_line_feed (drop at text) ≡ cond (eqb (get_or text at 0) 10) (some (drop (at + 1) text)) none
-line_feed_here text at h = ap take_line_feed (drop-cons text at 0 h) ∙ ap (λ n. cond (eqb (get_or text at 0) 10) (some (drop n text)) none) (sym (add-one at))
-
-pub line_feed_there : (text : List ℕ) (at : ℕ) → at < length text → LineFeedTaken text at (eqb (get_or text at 0) 10)
-line_feed_there text at h = record { same = line_feed_here text at h; ends = λ e. h }
-
-pub line_feed_short : (text : List ℕ) (at : ℕ) → length text ≤ at → LineFeedTaken text at false
-line_feed_short text at h = record { same = ap take_line_feed (drop_of_length-le text {i = at} h); ends = λ e. absurd (not_both e) }
 
 -- ---- line 0
 
