@@ -5,11 +5,10 @@ ghost use Rattle.std.specs.Prelude.{◌≡◌, ◌<◌};
 ghost use Rattle.decimal.specs.Trusted.Reading.{number_of_int};
 ghost use Rattle.part.specs.Trusted.Add.{opened};
 ghost use Rattle.part.specs.Trusted.Answers.{accepted};
-ghost use Rattle.opening.specs.Trusted.Opening.{count as count_of};
 ghost use Rattle.fast_opening.specs.Trusted.FastOpening.{fast_numbers, unopened, wanted_after, fast_opened_by};
 ghost use Rattle.fast_opening.specs.Promises.{fast_start};
 
-use opening::Told;
+use opening::{Told, count};
 use part::{OpenError, Part};
 
 // The bytes of the opening line with its line feed.
@@ -24,16 +23,6 @@ pub struct FastOpening {
     pub part: Part,
     pub told: Told,
     pub wanted: u16,
-}
-
-// The number, or 0 for one with a minus sign.
-fn count(v: i32) -> u32
-    ensures { result ≡ count_of (number_of_int v) }
-{
-    if decimal::negative(v) {
-        return 0;
-    }
-    decimal::magnitude(v)
 }
 
 // A refusal with a part of zeros.

@@ -10,7 +10,6 @@ use Rattle.table.specs.Trusted.Limits.{input_room}
 use Rattle.list_layout.specs.Trusted.Layout.{first_number, take_number, take_numbers}
 use Rattle.list_layout.specs.FieldLaws.{bind_some, NumberText, number_found}
 use Rattle.list_layout.specs.Trusted.LineSays.{FieldFits}
-use Rattle.list_layout.specs.Taken.{NumbersTaken}
 
 pub not_both : false ≡ true → ⊥
 not_both f = let z : ◌≡◌ {A = ℕ} 0 1 = cc in omega (arith, z)
@@ -116,16 +115,5 @@ module _ (text : List ℕ) (at : ℕ) where
         rest zero p = absurd (omega arith)
         rest (suc n) p = let e : suc n - 1 ≡ n = omega arith in rw e
 
-    pub numbers_all : NumbersTaken text at i (record { laid = true; numbers = numbers })
-    numbers_all = record {
-      same = h.taken ∙ ap (λ p. some (take i numbers, drop p text)) h.next;
-      padded = λ e. h.zeros;
-      ends = λ e p. let l = h.ends p in omega (arith, l, h.next);
-    }
-
-    pub numbers_missing : (n : ℕ) → i < n → first_number columns (drop place text) ≡ none → NumbersTaken text at n (record { laid = false; numbers = numbers })
-    numbers_missing n l e = record {
-      same = none_more i n (drop at text) h.taken (number_missing columns place text e) l;
-      padded = λ f. absurd (not_both f);
-      ends = λ f. absurd (not_both f);
-    }
+    pub numbers_missing : (n : ℕ) → i < n → first_number columns (drop place text) ≡ none → take_numbers n (drop at text) ≡ none
+    numbers_missing n l e = none_more i n (drop at text) h.taken (number_missing columns place text e) l

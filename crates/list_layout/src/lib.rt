@@ -4,27 +4,18 @@
 
 use table::Table;
 
-// The numbers of a line's fields: whether all are laid out, and the numbers, with zeros after them.
+// What line 0 says.
 #[derive(Clone, Copy)]
-pub struct FieldNumbers {
-    pub laid: bool,
-    pub numbers: [u32; 6],
-}
-
-// Line 0: whether it is laid out, and what it says.
-#[derive(Clone, Copy)]
-pub struct TopRead {
-    pub laid: bool,
+pub struct ListTop {
     pub k: u32,
     pub capacity: u32,
     pub used: u32,
 }
 
-// The line of a table: whether it is laid out, what it says, and the place after it. A number that a record has no room for is held as
-// 65535, which breaks the same rules.
+// What the line of a table says, and the place after it. A number that a record has no room for is held as 65535, which breaks the same
+// rules.
 #[derive(Clone, Copy)]
 pub struct TableRead {
-    pub laid: bool,
     pub table: Table,
     pub end: usize,
 }

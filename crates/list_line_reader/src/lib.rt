@@ -4,13 +4,13 @@
 ghost use Rattle.std.specs.Prelude.{◌≡◌, map, ◌≤◌, drop};
 ghost use Rattle.decimal.specs.Trusted.Reading.{parsed};
 ghost use Rattle.list_layout.specs.Trusted.Layout.{first_number};
-ghost use Rattle.list_layout.specs.Taken.{narrow, input_count, not_laid, NumbersTaken, LineFeedTaken, TopTaken, TableTaken};
+ghost use Rattle.list_layout.specs.Taken.{narrow, input_count, NumbersTaken, LineFeedTaken, TopTaken, TableTaken};
 
 use decimal::COLUMNS;
 use decimal_reader::read_word;
-use list_layout::{FieldNumbers, TableRead, TopRead};
+use list_layout::{ListTop, TableRead};
 use lists::within;
-use table::{INPUT_ROOM, Table, blank};
+use table::{INPUT_ROOM, Table};
 
 // The columns of a truth table.
 const TRUTH: usize = 21;
@@ -26,145 +26,92 @@ fn number_at(text: &[u8], at: usize, width: usize) -> Option<u64>
     read_word(&text[at..at + width])
 }
 
-// The numbers of n fields from the place on.
-fn numbers_at(text: &[u8], at: usize, n: usize) -> FieldNumbers
+// The numbers of n fields from the place on, with zeros after them.
+fn numbers_at(text: &[u8], at: usize, n: usize) -> Option<[u32; 6]>
     requires { n ≤ 6 }
     ensures { NumbersTaken text.now at n result }
 {
     let mut numbers = [0u32; 6];
-    let mut place = at;
-    let mut i = 0;
-    while i < n {
-        let Some(x) = number_at(text, place, COLUMNS) else {
-            return FieldNumbers {
-                laid: false,
-                numbers,
-            };
-        };
+    for i in 0..n {
+        let x = number_at(text, at + COLUMNS * i, COLUMNS)?;
         numbers[i] = x as u32;
-        place += COLUMNS;
-        i += 1;
     }
-    FieldNumbers {
-        laid: true,
-        numbers,
-    }
+    Some(numbers)
 }
 
 // Whether a line feed stands at the place.
 fn line_feed_at(text: &[u8], at: usize) -> bool
     ensures { LineFeedTaken text.now at result }
 {
-    if at < text.len() {
-        text[at] == b'\n'
-    } else {
-        false
-    }
+    at < text.len() && text[at] == b'\n'
 }
 
 // Line 0: K, the capacity and the used count.
-pub fn read_top(text: &[u8]) -> TopRead
+pub fn read_top(text: &[u8]) -> Option<ListTop>
     ensures { TopTaken text.now result }
 {
-    let f = numbers_at(text, 0, 3);
-    let numbers = f.numbers;
-    let mut laid = false;
-    if f.laid {
-        laid = line_feed_at(text, 18);
+    let numbers = numbers_at(text, 0, 3)?;
+    if !line_feed_at(text, 18) {
+        return None;
     }
-    TopRead {
-        laid,
+    Some(ListTop {
         k: numbers[0],
         capacity: numbers[1],
         used: numbers[2],
-    }
+    })
 }
 
 // As a record holds the number.
 fn narrow(n: u32) -> u16
     ensures { result ≡ narrow n }
 {
-    if n < 65535 { n as u16 } else { 65535 }
+    u16::try_from(n).unwrap_or(u16::MAX)
 }
 
 fn narrow_all(numbers: [u32; 6]) -> [u16; 6]
     ensures { result ≡ map narrow numbers }
 {
-    let mut all = [0u16; 6];
-    let mut i = 0;
-    while i < 6 {
-        all[i] = narrow(numbers[i]);
-        i += 1;
-    }
-    all
+    numbers.map(narrow)
 }
 
-// How many inputs the first three fields of table t's line say, or 0 where they are not laid out as those are.
-fn input_count(head: FieldNumbers, t: u16) -> usize
+// How many inputs the first three fields of table t's line say, where they are those of such a line.
+fn input_count(head: [u32; 6], t: u16) -> Option<usize>
     ensures { result ≡ input_count head t }
 {
-    let laid = head.laid;
-    let numbers = head.numbers;
-    if !laid {
-        return 0;
+    if head[0] != t as u32 {
+        return None;
     }
-    if numbers[0] != t as u32 {
-        return 0;
-    }
-    let u = numbers[2];
+    let u = head[2];
     if within(2, INPUT_ROOM, u) {
-        u as usize
+        Some(u as usize)
     } else {
-        0
-    }
-}
-
-// A line that is not laid out.
-fn not_laid() -> TableRead
-    ensures { result ≡ not_laid }
-{
-    TableRead {
-        laid: false,
-        table: blank(),
-        end: 0,
+        None
     }
 }
 
 // The line of table t, from the place on. It does not say the level, which is held as 0.
-pub fn read_table(text: &[u8], at: usize, t: u16) -> TableRead
+pub fn read_table(text: &[u8], at: usize, t: u16) -> Option<TableRead>
     ensures { TableTaken text.now at t result }
 {
-    let head = numbers_at(text, at, 3);
-    let n = input_count(head, t);
-    if n == 0 {
-        return not_laid();
-    }
+    let head = numbers_at(text, at, 3)?;
+    let n = input_count(head, t)?;
     let first = at + 3 * COLUMNS;
-    let inputs = numbers_at(text, first, n);
-    if !inputs.laid {
-        return not_laid();
-    }
+    let inputs = numbers_at(text, first, n)?;
     let place = first + COLUMNS * n;
-    let Some(truth) = number_at(text, place, TRUTH) else {
-        return not_laid();
-    };
+    let truth = number_at(text, place, TRUTH)?;
     let end = place + TRUTH;
     if !line_feed_at(text, end) {
-        return not_laid();
+        return None;
     }
-    let numbers = head.numbers;
-    let wide = inputs.numbers;
-    let held = narrow_all(wide);
     let table = Table {
-        net: narrow(numbers[1]),
+        net: narrow(head[1]),
         count: n as u8,
-        inputs: held,
+        inputs: narrow_all(inputs),
         truth,
         level: 0,
     };
-    TableRead {
-        laid: true,
+    Some(TableRead {
         table,
         end: end + 1,
-    }
+    })
 }

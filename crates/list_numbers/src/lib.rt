@@ -37,10 +37,8 @@ fn put_inputs(numbers: &mut [u64], at: usize, inputs: [u16; 6])
     requires { at + 6 ≤ length numbers.old }
     ensures { numbers.new ≡ pasted numbers.old at inputs }
 {
-    let mut i = 0;
-    while i < 6 {
+    for i in 0..6 {
         put_number(numbers, at + i, inputs[i]);
-        i += 1;
     }
 }
 
@@ -63,11 +61,9 @@ fn put_records(numbers: &mut [u64], at: usize, p: Part)
     ensures { numbers.new ≡ pasted numbers.old at (gather record_numbers (in_use p)) }
 {
     let used = p.used as usize;
-    let mut t = 0;
-    while t < used {
+    for t in 0..used {
         let r = p.tables[t];
         put_record(numbers, at + RECORD * t, r);
-        t += 1;
     }
 }
 

@@ -40,13 +40,11 @@ fn read_tables(text: &[u8], k: u8, capacity: u16, used: u16) -> ListRead
     let mut prefix = empty_prefix();
     let mut levels = [0u16; CODE_ROOM];
     let mut at = TOP;
-    let mut t: u16 = 0;
-    while t < used {
+    for t in 0..used {
         let line = t + 1;
-        let read = read_table(text, at, line);
-        if !read.laid {
+        let Some(read) = read_table(text, at, line) else {
             return refused(ListAnswer::NotLaidOut(line));
-        }
+        };
         let mut r = read.table;
         if !keeps_points(prefix, k, r) {
             return refused(ListAnswer::RuleBroken(line));
@@ -57,7 +55,6 @@ fn read_tables(text: &[u8], k: u8, capacity: u16, used: u16) -> ListRead
         r.level = level;
         part.tables[t as usize] = r;
         at = read.end;
-        t = line;
     }
     if at < text.len() {
         let left_over = used + 1;
@@ -74,14 +71,12 @@ fn read_tables(text: &[u8], k: u8, capacity: u16, used: u16) -> ListRead
 pub fn read_list(text: &[u8]) -> ListRead
     ensures { list_result result ≡ read_result (read_list text.now) }
 {
-    let top = read_top(text);
-    let laid = top.laid;
+    let Some(top) = read_top(text) else {
+        return refused(ListAnswer::NotLaidOut(0));
+    };
     let k = top.k;
     let capacity = top.capacity;
     let used = top.used;
-    if !laid {
-        return refused(ListAnswer::NotLaidOut(0));
-    }
     if !within(2, INPUT_ROOM, k) {
         return refused(ListAnswer::KOutOfRange);
     }

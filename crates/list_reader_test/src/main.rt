@@ -7,7 +7,6 @@ ghost use Rattle.std.specs.Prelude.{◌<◌};
 use input_reader::read_file;
 use list_reader::read_list;
 use list_reading::ListAnswer;
-use listing::WriteAnswer;
 use part::Part;
 use printing::print_refusal;
 use std::rt::Files;
@@ -58,7 +57,7 @@ fn print_part(rt: &impl Print, part: Part) -> io::Result<()> {
 
 fn print_list(rt: &impl Print, part: Part) -> io::Result<()> {
     let mut output = [0u8; 65536];
-    if let WriteAnswer::Wrote(count) = listing::write_list(part, &mut output, 0) {
+    if let Ok(count) = listing::write_list(part, &mut output, 0) {
         print_front(rt, &output, count)?;
     }
     Ok(())

@@ -2,8 +2,8 @@
 use Rattle.std.specs.Prelude.{ℕ, suc, ◌+◌, ◌-◌, ◌≤◌, ◌<◌, ◌≡◌, refl, Bool, ◌&&◌, leb, set}
 use Rattle.std.proofs.Common.{add-one, arith, ◌∙◌, eq-eqb, length-drop, drop_of_length-le, take-append-drop, length-take-le}
 use Rattle.std.proofs.Math.Path.{sym, ap}
-use Rattle.std.proofs.Math.Bool.{true, false, cond}
-use Rattle.std.proofs.Math.Option.{none, some}
+use Rattle.std.proofs.Math.Bool.{true, false}
+use Rattle.std.proofs.Math.Option.{none}
 use mathlib.Core.List.{List, [], ◌∷◌, ◌++◌}
 use Rattle.std.proofs.Math.ListN.{length, take, drop, length-set}
 use Rattle.std.proofs.Math.Seq.{take-suc-set, drop-set-lt, drop-drop}
@@ -19,9 +19,9 @@ use Rattle.table.specs.KeptLaws.{kept_none, kept_level, kept_after}
 use Rattle.table.specs.declared.Table.{Table}
 use Rattle.table.specs.declared.Prefix.{Prefix}
 use Rattle.list_layout.specs.declared.TableRead.{TableRead}
-use Rattle.list_layout.specs.declared.TopRead.{TopRead}
-use Rattle.list_layout.specs.Trusted.Layout.{take_table}
-use Rattle.list_layout.specs.Taken.{at_level, TopTaken, TableTaken}
+use Rattle.list_layout.specs.declared.ListTop.{ListTop}
+use Rattle.list_layout.specs.Trusted.Layout.{take_top, take_table}
+use Rattle.list_layout.specs.Taken.{at_level, TopThere, TableThere}
 use Rattle.list_layout.specs.NarrowLaws.{points_held, kept_same}
 use Rattle.part_records.specs.Trusted.Reservations.{unreserved}
 use Rattle.part.specs.Trusted.Parts.{blanks}
@@ -75,7 +75,7 @@ module _ (text : List ℕ) (k used : ℕ) where
     before_count : suc (length before) ≡ t + 1
     before_count = omega (arith, length-take-le t tables (omega (arith, h.whole, h.count, h.room)))
 
-    module _ (l : t < used) (r : TableRead) (g : TableTaken text at (t + 1) r) where
+    module _ (l : t < used) where
       -- the next line is read, and then the others
       abbrev after_line : Table × List ℕ → Checked (List Table × List ℕ)
       after_line p =
@@ -84,20 +84,18 @@ module _ (text : List ℕ) (k used : ℕ) where
       next_line : read_tables k used [] (drop 19 text) ≡ (given (take_table (suc (length before)) (drop at text)) 31 (suc (length before)) >>= after_line)
       next_line = h.same ∙ ap (λ n. read_tables k n before (drop at text)) (let e : used - t ≡ suc (used - (t + 1)) = omega arith in e)
 
-      line_is_lem : (b : Bool) → r.laid ≡ b → take_table (suc (length before)) (drop at text) ≡ cond b (some (g.says, drop r.end text)) none
-      line_is_lem b e = ap (λ n. take_table n (drop at text)) before_count ∙ g.same ∙ ap (λ b. cond b (some (g.says, drop r.end text)) none) e
+      pub line_bad : take_table (t + 1) (drop at text) ≡ none → read_tables k used [] (drop 19 text) ≡ refused 31 (t + 1)
+      line_bad e =
+          next_line ∙ given_off 31 (suc (length before)) after_line (ap (λ n. take_table n (drop at text)) before_count ∙ e) ∙ ap (refused 31) before_count
 
-      pub line_bad : r.laid ≡ false → read_tables k used [] (drop 19 text) ≡ refused 31 (t + 1)
-      line_bad e = next_line ∙ given_off 31 (suc (length before)) after_line (line_is_lem false e) ∙ ap (refused 31) before_count
-
-      module _ (e : r.laid ≡ true) where
+      module _ (r : TableRead) (g : TableThere text at (t + 1) r) where
         good_line : read_tables k used [] (drop 19 text) ≡ after_line (g.says, drop r.end text)
-        good_line = next_line ∙ given_on 31 (suc (length before)) after_line (line_is_lem true e)
+        good_line = next_line ∙ given_on 31 (suc (length before)) after_line (ap (λ n. take_table n (drop at text)) before_count ∙ g.same)
 
         -- the points of the record as it is held are those of what the line says
         same_points : keeps_points_in k prefix r.table ≡ keeps_points k before g.says
         same_points =
-            points_stand prefix before h.kept.points k r.table ∙ ap (keeps_points k before) (g.held e)
+            points_stand prefix before h.kept.points k r.table ∙ ap (keeps_points k before) g.held
             ∙ points_held k before h.kept.points.room g.says
 
         -- where the test of the record gives this
@@ -118,7 +116,7 @@ module _ (text : List ℕ) (k used : ℕ) where
         unfolding ◌>>=◌ require
         line_good f {n} {new} q w =
             let s : Table = at_level n r.table in
-            let says : r.table ≡ g.says = g.held e ∙ kept_same k before h.kept.points.room g.says (sym same_points ∙ f) in
+            let says : r.table ≡ g.says = g.held ∙ kept_same k before h.kept.points.room g.says (sym same_points ∙ f) in
             let same : s ≡ levelled before g.says = ap (λ m. at_level m r.table) (q ∙ kept_level h.kept k r.table) ∙ ap (levelled before) says in
             let next : take (t + 1) (set tables t s) ≡ before ++ s ∷ [] = ap (λ m. take m (set tables t s)) (add-one t) ∙ take-suc-set tables t s (omega (arith, h.whole, h.room)) in
             let array : noted_next levels (length before) r.table.net (reads r.table) ≡ new =
@@ -129,7 +127,7 @@ module _ (text : List ℕ) (k used : ℕ) where
               whole = length-set tables t s ∙ h.whole;
               rest = drop-set-lt (t + 1) tables t s (omega arith) ∙ sym (drop-drop 1 t tables) ∙ ap (drop 1) h.rest ∙ drop-drop 1 t blanks;
               kept = rw (next, ← array) (kept_after h.kept k r.table f n (omega (arith, before_count, h.room)));
-              ends = g.ends e;
+              ends = g.ends;
               same = tested true f ∙ ap (λ rs. read_tables k (used - (t + 1)) rs (drop r.end text)) (ap (λ x. before ++ x ∷ []) (sym same) ∙ sym next);
             }
 
@@ -164,41 +162,40 @@ module _ (text : List ℕ) (k capacity used : ℕ) where
 
 -- ---- line 0
 
-module _ (text : List ℕ) (r : TopRead) (h : TopTaken text r) where
-  -- what is tested of line 0, and what comes after it
-  abbrev after_top : ℕ × ℕ × ℕ × List ℕ → Checked Part
-  after_top (k, capacity, used, more) = do
-    _ ← require (within 2 input_room k) 2 0
-    _ ← require (within 1 table_room capacity) 3 0
-    _ ← require (leb used capacity) 32 0
-    rest_read k capacity used more
+-- what is tested of line 0, and what comes after it
+abbrev after_top : ℕ × ℕ × ℕ × List ℕ → Checked Part
+after_top (k, capacity, used, more) = do
+  _ ← require (within 2 input_room k) 2 0
+  _ ← require (within 1 table_room capacity) 3 0
+  _ ← require (leb used capacity) 32 0
+  rest_read k capacity used more
 
-  pub top_bad : r.laid ≡ false → read_list text ≡ refused 31 0
+pub top_bad : (text : List ℕ) → take_top text ≡ none → read_list text ≡ refused 31 0
+unfolding read_list
+top_bad text e = given_off 31 0 after_top e
+
+module _ (text : List ℕ) (r : ListTop) (h : TopThere text r) where
+  top_good : read_list text ≡ after_top (r.k, r.capacity, r.used, drop 19 text)
   unfolding read_list
-  top_bad e = given_off 31 0 after_top (h.same ∙ ap (λ b. cond b (some (r.k, r.capacity, r.used, drop 19 text)) none) e)
+  top_good = given_on 31 0 after_top h.same
 
-  module _ (e : r.laid ≡ true) where
-    top_good : read_list text ≡ after_top (r.k, r.capacity, r.used, drop 19 text)
-    unfolding read_list
-    top_good = given_on 31 0 after_top (h.same ∙ ap (λ b. cond b (some (r.k, r.capacity, r.used, drop 19 text)) none) e)
+  pub k_bad : within 2 input_room r.k ≡ false → read_list text ≡ refused 2 0
+  unfolding ◌>>=◌ require
+  k_bad f = top_good ∙ rw f
 
-    pub k_bad : within 2 input_room r.k ≡ false → read_list text ≡ refused 2 0
+  module _ (f : within 2 input_room r.k ≡ true) where
+    pub capacity_bad : within 1 table_room r.capacity ≡ false → read_list text ≡ refused 3 0
     unfolding ◌>>=◌ require
-    k_bad f = top_good ∙ rw f
+    capacity_bad g = top_good ∙ rw (f, g)
 
-    module _ (f : within 2 input_room r.k ≡ true) where
-      pub capacity_bad : within 1 table_room r.capacity ≡ false → read_list text ≡ refused 3 0
+    module _ (g : within 1 table_room r.capacity ≡ true) where
+      pub used_bad : leb r.used r.capacity ≡ false → read_list text ≡ refused 32 0
       unfolding ◌>>=◌ require
-      capacity_bad g = top_good ∙ rw (f, g)
+      used_bad u = top_good ∙ rw (f, g, u)
 
-      module _ (g : within 1 table_room r.capacity ≡ true) where
-        pub used_bad : leb r.used r.capacity ≡ false → read_list text ≡ refused 32 0
-        unfolding ◌>>=◌ require
-        used_bad u = top_good ∙ rw (f, g, u)
-
-        pub top_passed : leb r.used r.capacity ≡ true → read_list text ≡ rest_read r.k r.capacity r.used (drop 19 text)
-        unfolding ◌>>=◌ require
-        top_passed u = top_good ∙ rw (f, g, u)
+      pub top_passed : leb r.used r.capacity ≡ true → read_list text ≡ rest_read r.k r.capacity r.used (drop 19 text)
+      unfolding ◌>>=◌ require
+      top_passed u = top_good ∙ rw (f, g, u)
 
 -- ---- what is handed back
 

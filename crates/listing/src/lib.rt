@@ -13,40 +13,39 @@ use part::Part;
 // The bytes of line 0: three fields and the line feed.
 const TOP: usize = 19;
 
-// What a write answers: how many bytes were written, or why none was. WriteAnswers in specs/Trusted gives the refusals' numbers.
-#[derive(Clone, Copy)]
-pub enum WriteAnswer {
-    Wrote(usize),
+// Why nothing was written. WriteAnswers in specs/Trusted gives the refusals' numbers.
+#[derive(Clone, Copy, Debug, PartialEq, Eq)]
+pub enum WriteError {
     NotSound,
     NoLine,
     NoRoom,
 }
 
-// Writes a line of the part's list from the place on: line 0, or the line of a table.
-pub fn write_line(p: Part, line: u32, buf: &mut [u8], at: usize) -> WriteAnswer
+// Writes a line of the part's list from the place on, line 0 or the line of a table, and gives how many bytes that is.
+pub fn write_line(p: Part, line: u32, buf: &mut [u8], at: usize) -> Result<usize, WriteError>
     ensures { record { result = result_of result; bytes = buf.new } ≡ line_written p line buf.old at }
 {
     if !p.sound() {
-        return WriteAnswer::NotSound;
+        return Err(WriteError::NotSound);
     }
     if line > p.used as u32 {
-        return WriteAnswer::NoLine;
+        return Err(WriteError::NoLine);
     }
     if line == 0 {
         if !has_room(buf.len(), at, TOP) {
-            return WriteAnswer::NoRoom;
+            return Err(WriteError::NoRoom);
         }
         put_top(buf, at, p.k, p.capacity, p.used);
-        return WriteAnswer::Wrote(TOP);
+        return Ok(TOP);
     }
     let t = (line - 1) as usize;
     let r = p.tables[t];
     let width = table_width(r);
     if !has_room(buf.len(), at, width) {
-        return WriteAnswer::NoRoom;
+        return Err(WriteError::NoRoom);
     }
     put_table(buf, at, line as u16, r);
-    WriteAnswer::Wrote(width)
+    Ok(width)
 }
 
 // The bytes of the lines of the part's tables.
@@ -56,11 +55,9 @@ fn tables_width(p: Part) -> usize
 {
     let used = p.used as usize;
     let mut width: usize = 0;
-    let mut t = 0;
-    while t < used {
+    for t in 0..used {
         let r = p.tables[t];
         width += table_width(r);
-        t += 1;
     }
     width
 }
@@ -72,35 +69,33 @@ fn put_tables(buf: &mut [u8], at: usize, p: Part)
 {
     let used = p.used as usize;
     let mut place = at;
-    let mut t = 0;
-    while t < used {
+    for t in 0..used {
         let r = p.tables[t];
         put_table(buf, place, (t + 1) as u16, r);
         place += table_width(r);
-        t += 1;
     }
 }
 
-// Writes the list of a sound part from the place on.
-pub fn write_sound_list(p: Part, buf: &mut [u8], at: usize) -> WriteAnswer
+// Writes the list of a sound part from the place on, and gives how many bytes that is.
+pub fn write_sound_list(p: Part, buf: &mut [u8], at: usize) -> Result<usize, WriteError>
     requires { isSound p ≡ true }
     ensures { record { result = result_of result; bytes = buf.new } ≡ list_written p buf.old at }
 {
     let width = TOP + tables_width(p);
     if !has_room(buf.len(), at, width) {
-        return WriteAnswer::NoRoom;
+        return Err(WriteError::NoRoom);
     }
     put_top(buf, at, p.k, p.capacity, p.used);
     put_tables(buf, at + TOP, p);
-    WriteAnswer::Wrote(width)
+    Ok(width)
 }
 
 // Writes the part's list from the place on: every line, after one test of soundness.
-pub fn write_list(p: Part, buf: &mut [u8], at: usize) -> WriteAnswer
+pub fn write_list(p: Part, buf: &mut [u8], at: usize) -> Result<usize, WriteError>
     ensures { record { result = result_of result; bytes = buf.new } ≡ list_written p buf.old at }
 {
     if !p.sound() {
-        return WriteAnswer::NotSound;
+        return Err(WriteError::NotSound);
     }
     write_sound_list(p, buf, at)
 }

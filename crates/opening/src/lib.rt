@@ -3,6 +3,7 @@
 
 ghost use Rattle.std.specs.Prelude.{◌≡◌};
 ghost use Rattle.std.proofs.Math.Option.{none};
+ghost use Rattle.decimal.specs.Trusted.Reading.{number_of_int};
 ghost use Rattle.part.specs.Trusted.Add.{opened};
 ghost use Rattle.part.specs.Trusted.OpenAnswers.{open_refusal};
 ghost use Rattle.opening.specs.Trusted.Opening.{count as count_of, opening_numbers, opened_by};
@@ -37,13 +38,13 @@ fn tell_opening(why: OpenError) -> Told
 }
 
 // The number, or 0 for one with a minus sign.
-fn count(negative: bool, magnitude: u32) -> u32
-    ensures { result ≡ count_of (record { negative = negative; magnitude = magnitude }) }
+pub fn count(v: i32) -> u32
+    ensures { result ≡ count_of (number_of_int v) }
 {
-    if negative {
+    if decimal::negative(v) {
         return 0;
     }
-    magnitude
+    decimal::magnitude(v)
 }
 
 fn open(k: u32, capacity: u32) -> Start
@@ -89,7 +90,7 @@ pub fn read_opening(input: &[u8]) -> Start
     let Some(capacity) = second else {
         return no_opening();
     };
-    let most = count(decimal::negative(k), decimal::magnitude(k));
-    let tables = count(decimal::negative(capacity), decimal::magnitude(capacity));
+    let most = count(k);
+    let tables = count(capacity);
     open(most, tables)
 }

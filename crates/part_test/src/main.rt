@@ -33,7 +33,7 @@ ghost use Rattle.std.specs.Prelude.{◌≡◌, ◌≤◌, ◌<◌, IfSome, lengt
 ghost use Rattle.std.specs.Io.{ReadsAtMost};
 
 use input_reader::{read_file, read_full};
-use listing::WriteAnswer;
+use listing::WriteError;
 use part::{AddError, NumberedRefusal, Part};
 use std::env::Env;
 use std::rt::{Files, Runtime};
@@ -115,20 +115,20 @@ fn refused(why: NumberedRefusal) -> Answer {
 }
 
 // The count, which is below 100,000, or minus the refusal's number.
-fn written(a: WriteAnswer) -> i32 {
+fn written(a: Result<usize, WriteError>) -> i32 {
     match a {
-        WriteAnswer::Wrote(n) => (n % 100000) as i32,
-        WriteAnswer::NotSound => -20,
-        WriteAnswer::NoLine => -15,
-        WriteAnswer::NoRoom => -14,
+        Ok(n) => (n % 100000) as i32,
+        Err(WriteError::NotSound) => -20,
+        Err(WriteError::NoLine) => -15,
+        Err(WriteError::NoRoom) => -14,
     }
 }
 
 // The count, 0 for a refusal.
-fn count(a: WriteAnswer) -> u32 {
+fn count(a: Result<usize, WriteError>) -> u32 {
     match a {
-        WriteAnswer::Wrote(n) => (n % 100000) as u32,
-        _ => 0,
+        Ok(n) => (n % 100000) as u32,
+        Err(_) => 0,
     }
 }
 
@@ -204,7 +204,7 @@ fn set_field(p: &mut Part, which: u32, x: u32) {
 }
 
 // The answer, and the buffer's first bytes.
-fn show(rt: &impl Print, a: WriteAnswer, buf: &[u8]) -> io::Result<()> {
+fn show(rt: &impl Print, a: Result<usize, WriteError>, buf: &[u8]) -> io::Result<()> {
     say(rt, written(a))?;
     rt.write_all(buf)?;
     rt.write_all(b"\n")

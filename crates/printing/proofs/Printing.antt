@@ -19,7 +19,7 @@ use Rattle.decimal.specs.Trusted.Reading.{number_of_int}
 use Rattle.decimal.specs.Trusted.Writing as writing
 use Rattle.decimal.specs.WritingLaws.{signed_written_at_lem}
 use Rattle.decimal.proofs.SignLaws.{minus_bits, negated_fits}
-use Rattle.std.specs.Prelude.{⊤, Result}
+use Rattle.std.specs.Prelude.{⊤, Result, Ok, Err}
 use Rattle.decimal.specs.declared.TooWide.{TooWide}
 use Rattle.part.specs.Trusted.Sound.{Sound}
 use Rattle.part.specs.SoundLaws.{sound_reflects}
@@ -30,8 +30,8 @@ use Rattle.listing.specs.Trusted.WriteAnswers.{result_of}
 use Rattle.listing.specs.Lines.{turned_down, fitted, list_written}
 use Rattle.list_line.specs.PasteLaws.{paste_one, paste_length, paste_next}
 use Rattle.listing.proofs.LineLaws.{fitted_out, fitted_in, list_there}
-use Rattle.listing.specs.declared.WriteAnswer.{WriteAnswer}
-use Rattle.listing.specs.declared.WriteAnswer.TheVariants.{Wrote, NotSound, NoLine, NoRoom}
+use Rattle.listing.specs.declared.WriteError.{WriteError}
+use Rattle.listing.specs.declared.WriteError.TheVariants.{NotSound, NoLine, NoRoom}
 use Rattle.list_line.proofs.Written.{number_written}
 use Rattle.printing.specs.Trusted.RefusalLine.{refusal_line}
 use Rattle.printing.specs.Promises.{WrittenAs}
@@ -40,11 +40,9 @@ use Rattle.printing.specs.declared.Printed.TheVariants.{Wrote as Printed-Wrote, 
 
 -- ---- the list
 
-abbrev pub printed_of : WriteAnswer → Printed
-printed_of (Wrote n) = Printed-Wrote n
-printed_of NotSound = Printed-NoRoom
-printed_of NoLine = Printed-NoRoom
-printed_of NoRoom = Printed-NoRoom
+abbrev pub printed_of : Result ℕ WriteError → Printed
+printed_of (Ok n) = Printed-Wrote n
+printed_of (Err e) = Printed-NoRoom
 
 only_14 : (old line : List ℕ) (number : ℕ) → refused number 0 ≡ (fitted old 0 line).result → number ≡ 14
 only_14 old line number =
@@ -53,15 +51,15 @@ only_14 old line number =
     (λ l e. let z : ◌≡◌ {A = ℕ} 0 1 = cc in absurd (omega arith))
     (λ l e. cc)
 
-pub list_printed : (p : Part) → Sound p → (old new : List ℕ) (a : WriteAnswer) → record { result = result_of a; bytes = new } ≡ list_written p old 0 →
+pub list_printed : (p : Part) → Sound p → (old new : List ℕ) (a : Result ℕ WriteError) → record { result = result_of a; bytes = new } ≡ list_written p old 0 →
     WrittenAs (list_of p) (printed_of a) new old
 list_printed p s old new a e = of a (e ∙ list_there p old 0 (reflects_true (sound_reflects p) s))
   where
-    of : (a : WriteAnswer) → record { result = result_of a; bytes = new } ≡ fitted old 0 (list_of p) → WrittenAs (list_of p) (printed_of a) new old
-    of (Wrote n) i = i
-    of NotSound i = absurd (omega (arith, only_14 old (list_of p) 20 (ap (λ (o : WriteOutcome). o.result) i)))
-    of NoLine i = absurd (omega (arith, only_14 old (list_of p) 15 (ap (λ (o : WriteOutcome). o.result) i)))
-    of NoRoom i = i
+    of : (a : Result ℕ WriteError) → record { result = result_of a; bytes = new } ≡ fitted old 0 (list_of p) → WrittenAs (list_of p) (printed_of a) new old
+    of (Ok n) i = i
+    of (Err NotSound) i = absurd (omega (arith, only_14 old (list_of p) 20 (ap (λ (o : WriteOutcome). o.result) i)))
+    of (Err NoLine) i = absurd (omega (arith, only_14 old (list_of p) 15 (ap (λ (o : WriteOutcome). o.result) i)))
+    of (Err NoRoom) i = i
 
 -- ---- the line of a refusal
 

@@ -43,11 +43,8 @@ pub fn print_list(output: &mut [u8], part: Part) -> Printed
     requires { Sound part }
     ensures { WrittenAs (list_of part) result output.new output.old }
 {
-    let a = listing::write_sound_list(part, output, 0);
-    match a {
-        listing::WriteAnswer::Wrote(n) => Printed::Wrote(n),
-        listing::WriteAnswer::NotSound => Printed::NoRoom,
-        listing::WriteAnswer::NoLine => Printed::NoRoom,
-        listing::WriteAnswer::NoRoom => Printed::NoRoom,
+    match listing::write_sound_list(part, output, 0) {
+        Ok(n) => Printed::Wrote(n),
+        Err(_) => Printed::NoRoom,
     }
 }

@@ -26,14 +26,12 @@ fn count_drivers(p: Part) -> usize
 {
     let used = p.used as usize;
     let mut n: usize = 0;
-    let mut t = 0;
-    while t < used {
+    for t in 0..used {
         let r = p.tables[t];
         let net = r.net;
         if net != 0 {
             n += 1;
         }
-        t += 1;
     }
     n
 }
@@ -68,13 +66,11 @@ fn put_slacks(buf: &mut [u8], at: usize, p: Part, wanted: u16)
 {
     let used = p.used as usize;
     let mut place = at;
-    let mut t = 0;
-    while t < used {
+    for t in 0..used {
         let r = p.tables[t];
         let net = r.net;
         let level = r.level;
         place = put_driver(buf, place, wanted, net, level);
-        t += 1;
     }
 }
 

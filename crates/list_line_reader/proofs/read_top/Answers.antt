@@ -1,18 +1,21 @@
-use mathlib.Core.Path.{sym, subst}
-use mathlib.Core.Bool.{Bool}
-use lib.ListN.{get_or}
-use Rattle.list_layout.specs.declared.TopRead.{TopRead}
-use Rattle.list_layout.specs.Taken.{TopTaken}
-use Rattle.list_layout.specs.LineTakenLaws.{top_is, top_not}
+use Rattle.std.proofs.Common.{subst}
+use Rattle.list_layout.specs.Taken.{LineFeedTaken}
+use Rattle.list_layout.specs.LineTakenLaws.{taken_there, taken_missing, top_not, top_unended, top_there}
 use Rattle.list_line_reader.proofs.read_top.Goals as goal
-use Rattle.list_line_reader.proofs.read_top.Goals.{then-f, else-f}
+
+pub returns-in_err-numbers : goal.returns-in_err-numbers
+returns-in_err-numbers c =
+    let text = c.args.text.now in
+    rw c.from_residual.ensures (top_not text (taken_missing text 0 3 c.in_err-numbers.was c.numbers_at.ensures))
+
+pub returns-then-not-line_feed_at : goal.returns-then-not-line_feed_at
+returns-then-not-line_feed_at c =
+    let text = c.args.text.now in
+    top_unended text c.in_ok-numbers.numbers (taken_there text 0 3 c.in_ok-numbers.was c.numbers_at.ensures)
+    (subst (LineFeedTaken text 18) c.if-not-line_feed_at.true c.line_feed_at.ensures)
 
 pub returns : goal.returns
 returns c =
     let text = c.args.text.now in
-    let f = c.numbers_at-f in
-    let answer : Bool → TopRead = λ b. record { laid = b; k = get_or f.result.numbers 0 0; capacity = get_or f.result.numbers 1 0; used = get_or f.result.numbers 2 0 } in
-    elim c.if-f.branch [
-      | then-f w ↦ subst (λ b. TopTaken text (answer b)) (sym w.laid-is) (top_is text f.result f.ensures w.if-f.true w.line_feed_at-laid.result w.line_feed_at-laid.ensures)
-      | else-f w ↦ subst (λ b. TopTaken text (answer b)) (sym w.laid-is) (top_not text f.result f.ensures w.if-f.false)
-    ]
+    top_there text c.in_ok-numbers.numbers (taken_there text 0 3 c.in_ok-numbers.was c.numbers_at.ensures)
+    (subst (LineFeedTaken text 18) c.if-not-line_feed_at.false c.line_feed_at.ensures)

@@ -1,4 +1,4 @@
-use Prim.Native.Nat.{◌-◌, ◌≤◌}
+use Prim.Native.Nat.{◌≤◌}
 use mathlib.Core.Path.{◌≡◌}
 use mathlib.Core.List.{[]}
 use lib.ListN.{length, take}
@@ -8,6 +8,3 @@ use Rattle.list_numbers.proofs.put_inputs.Given as goal
 abbrev pub invariant-loop-i : goal.invariant-loop-i
 invariant-loop-i l =
     (l.i ≤ 6) × (length l.inputs ≡ 6) × (length l.numbers ≡ length l.initial.numbers) × (l.numbers ≡ pasted l.initial.numbers l.at (take l.i l.inputs))
-
-abbrev pub decreases-loop-i : goal.decreases-loop-i
-decreases-loop-i l = 6 - l.i

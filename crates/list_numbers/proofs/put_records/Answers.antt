@@ -34,9 +34,6 @@ overflow_add-at c = omega (arith, c.requires)
 pub put_record-requires : goal.put_record-requires
 put_record-requires c = omega (arith, c.requires, c.loop-t.invariant.2)
 
-pub overflow_add-t : goal.overflow_add-t
-overflow_add-t c = omega (arith, c.requires)
-
 pub loop-t-preserved : goal.loop-t-preserved
 loop-t-preserved c =
     let a = c.args in

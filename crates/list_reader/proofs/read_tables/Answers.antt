@@ -1,13 +1,18 @@
-use Prim.Native.Nat.{◌+◌}
+use Prim.Native.Nat.{ℕ, ◌+◌}
 use native.Mathlib.Omega.{arith}
 use mathlib.Core.Path.{◌≡◌, refl, sym, ap, ◌∙◌, subst}
 use mathlib.Core.Bool.{true}
 use borrow.Author.Rules.{rules}
-use borrow.Author.Tests.{not-true, not-false}
-use lib.ListN.{set}
+use lib.ListN.{set, drop}
 use Rattle.table.specs.LevelTest.{no_levels}
 use Rattle.table.specs.LevelTestLaws.{levels_small}
-use Rattle.list_layout.specs.Taken.{at_level}
+use Rattle.std.specs.Prelude.{Option, Some, None}
+use Rattle.std.proofs.lemmas.Option.{MatchOption-at_some, MatchOption-at_none}
+use Rattle.std.proofs.Math.Option.{none}
+use mathlib.Core.List.{List}
+use Rattle.list_layout.specs.Trusted.Layout.{take_table}
+use Rattle.list_layout.specs.declared.TableRead.{TableRead}
+use Rattle.list_layout.specs.Taken.{at_level, TableTaken, TableThere}
 use Rattle.part.specs.Trusted.Parts.{blanks}
 use Rattle.part.specs.Trusted.Answers.{accepted}
 use Rattle.part_records.specs.Trusted.Reservations.{unreserved}
@@ -15,7 +20,7 @@ use Rattle.list_reading.specs.Trusted.ReadList.{read_result}
 use Rattle.list_reading.specs.LoopLaws.{LinesSoFar, handed_refused, lines_none, line_bad, rule_bad, line_good, rest_refused, rest_over, rest_all}
 use Rattle.list_reading.specs.declared.ListAnswer.TheVariants.{RuleBroken}
 use Rattle.list_reader.proofs.read_tables.Goals as goal
-use Rattle.list_reader.proofs.read_tables.Goals.{After-keeps_points, After-loop-t}
+use Rattle.list_reader.proofs.read_tables.Goals.{After-loop-t}
 
 pub loop-t-init : goal.loop-t-init
 unfolding no_levels
@@ -25,23 +30,27 @@ loop-t-init c =
     subst (λ p. (p.k ≡ a.k) × (p.capacity ≡ a.capacity) × (p.reservation ≡ unreserved) × LinesSoFar a.text.now a.k a.used p.tables c.empty_prefix-prefix.result no_levels 19 0) (sym c.empty-part.ensures)
     (refl, refl, refl, subst (λ s. LinesSoFar a.text.now a.k a.used blanks s no_levels 19 0) (sym c.empty_prefix-prefix.ensures) (lines_none a.text.now a.k a.used h.0 h.1))
 
-pub returns-then-not-read : goal.returns-then-not-read
-returns-then-not-read c =
+-- what is known of the next line, by the answer
+line_missing : (text : List ℕ) (at t : ℕ) {r : Option TableRead} → r ≡ None → TableTaken text at t r → take_table t (drop at text) ≡ none
+line_missing text at t = MatchOption-at_none (take_table t (drop at text) ≡ none) (TableThere text at t)
+
+line_there : (text : List ℕ) (at t : ℕ) {r : Option TableRead} {read : TableRead} → r ≡ Some read → TableTaken text at t r → TableThere text at t read
+line_there text at t {read = read} = MatchOption-at_some (take_table t (drop at text) ≡ none) (TableThere text at t) read
+
+pub returns-in_default : goal.returns-in_default
+returns-in_default c =
     let a = c.args in
     handed_refused c.refused.ensures refl
     (rest_refused a.text.now a.k a.capacity a.used
-    (line_bad a.text.now a.k a.used c.loop-t.invariant.3 (omega arith) c.read_table-read.result c.read_table-read.ensures (not-true _ c.if-not-read.true)))
-
--- the line is laid out, where its record is tested
-laid : (q : After-keeps_points) → q.read_table-read.result.laid ≡ true
-laid q = not-false _ q.if-not-read.false
+    (line_bad a.text.now a.k a.used c.loop-t.invariant.3 (omega arith)
+    (line_missing a.text.now c.loop-t.at (c.loop-t.t + 1) c.in_default.is c.read_table.ensures)))
 
 pub returns-then-not-keeps_points : goal.returns-then-not-keeps_points
 returns-then-not-keeps_points c =
     let a = c.args in
     handed_refused {a = RuleBroken (c.loop-t.t + 1)} (search rules) refl
     (rest_refused a.text.now a.k a.capacity a.used
-    (rule_bad a.text.now a.k a.used c.loop-t.invariant.3 (omega arith) c.read_table-read.result c.read_table-read.ensures (laid (goal.at.returns-then-not-keeps_points c).After-keeps_points)
+    (rule_bad a.text.now a.k a.used c.loop-t.invariant.3 (omega arith) c.in-Some.read (line_there a.text.now c.loop-t.at (c.loop-t.t + 1) c.in-Some.is c.read_table.ensures)
     (sym c.keeps_points.ensures ∙ c.if-not-keeps_points.true)))
 
 pub next_level-level-requires : goal.next_level-level-requires
@@ -57,8 +66,8 @@ loop-t-preserved c =
       c.loop-t.invariant.0,
       c.loop-t.invariant.1,
       c.loop-t.invariant.2,
-      subst (λ s. LinesSoFar a.text.now a.k a.used (set c.loop-t.part.tables c.loop-t.t (at_level n.result c.read_table-read.result.table)) s n.new.levels c.read_table-read.result.end (c.loop-t.t + 1)) (sym c.after-prefix.ensures)
-          (line_good a.text.now a.k a.used c.loop-t.invariant.3 (omega arith) c.read_table-read.result c.read_table-read.ensures (laid (goal.at.loop-t-preserved c).After-keeps_points)
+      subst (λ s. LinesSoFar a.text.now a.k a.used (set c.loop-t.part.tables c.loop-t.t (at_level n.result c.in-Some.read.table)) s n.new.levels c.in-Some.read.end (c.loop-t.t + 1)) (sym c.after-prefix.ensures)
+          (line_good a.text.now a.k a.used c.loop-t.invariant.3 (omega arith) c.in-Some.read (line_there a.text.now c.loop-t.at (c.loop-t.t + 1) c.in-Some.is c.read_table.ensures)
           (sym c.keeps_points.ensures ∙ c.if-not-keeps_points.false) n.ensures.0 n.ensures.1),
     )
 

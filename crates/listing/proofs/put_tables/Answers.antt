@@ -49,9 +49,6 @@ overflow_add-place c =
     let e = c.table_width-place.ensures.0 ∙ ap table_width (get_d_any p.tables l.t past blank (omega (arith, c.requires))) in
     omega (arith, e, c.requires, l.invariant.3, lines_next_length p l.t, lines_more p (l.t + 1) p.used (omega arith))
 
-pub overflow_add-t-in-loop-t : goal.overflow_add-t-in-loop-t
-overflow_add-t-in-loop-t c = omega (arith, c.requires)
-
 pub loop-t-preserved : goal.loop-t-preserved
 loop-t-preserved c =
     let a = c.args in

@@ -1,4 +1,4 @@
-use Prim.Native.Nat.{◌+◌, ◌-◌, ◌≤◌}
+use Prim.Native.Nat.{◌+◌, ◌≤◌}
 use mathlib.Core.Path.{◌≡◌}
 use lib.ListN.{length}
 use Rattle.list_line.specs.Trusted.Writes.{pasted}
@@ -8,6 +8,3 @@ use Rattle.listing.proofs.put_tables.Given as goal
 abbrev pub invariant-loop-t : goal.invariant-loop-t
 invariant-loop-t l =
     (l.t ≤ l.p.used) × (length l.p.tables ≡ 800) × (length l.buf ≡ length l.initial.buf) × (l.place ≡ l.at + length (table_lines l.p l.t)) × (l.buf ≡ pasted l.initial.buf l.at (table_lines l.p l.t))
-
-abbrev pub decreases-loop-t : goal.decreases-loop-t
-decreases-loop-t l = l.p.used - l.t

@@ -24,9 +24,6 @@ bounds-p-t c = omega (arith, c.requires)
 pub overflow_add-width : goal.overflow_add-width
 overflow_add-width c = omega (arith, c.requires, c.table_width-width.ensures.1, c.loop-t.invariant.3)
 
-pub overflow_add-t : goal.overflow_add-t
-overflow_add-t c = omega (arith, c.requires)
-
 pub loop-t-preserved : goal.loop-t-preserved
 loop-t-preserved c =
     let p = c.args.p in

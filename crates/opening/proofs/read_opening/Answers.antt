@@ -2,7 +2,7 @@ use native.Mathlib.Omega.{arith}
 use mathlib.Core.Path.{sym, ap, ap₂, ◌∙◌}
 use lib.ListN.{take, drop, get_or-eq_default}
 use Rattle.decimal.specs.Trusted.Number.{columns}
-use Rattle.decimal.specs.ReadingLaws.{read_none, read_number}
+use Rattle.decimal.specs.ReadingLaws.{read_none, read_held}
 use Rattle.part.specs.Trusted.Add.{opened}
 use Rattle.opening.specs.Trusted.Opening.{opened_by}
 use Rattle.opening.specs.OpeningLaws.{no_line_feed, no_first, no_second, two_numbers}
@@ -26,7 +26,7 @@ returns-in_default-second c = c.no_opening-in_default-second.ensures ∙ ap open
 pub returns : goal.returns
 returns c =
     let input = c.args.input.now in
-    let x = read_number (take columns input) (sym c.read-first.ensures ∙ c.in-Some.is) c.negative.ensures c.magnitude.ensures in
-    let y = read_number (take columns (drop columns input)) (sym c.read-second.ensures ∙ c.in-Some-second.is) c.negative-2.ensures c.magnitude-2.ensures in
     c.«open».ensures ∙ ap₂ opened c.count-most.ensures c.count-tables.ensures
-    ∙ ap opened_by (sym (two_numbers input c.if-input-ne10.false x y))
+    ∙ ap opened_by (sym (two_numbers input c.if-input-ne10.false
+    (read_held (take columns input) (sym c.read-first.ensures ∙ c.in-Some.is))
+    (read_held (take columns (drop columns input)) (sym c.read-second.ensures ∙ c.in-Some-second.is))))

@@ -23,9 +23,6 @@ bounds-p-t c = omega (arith, c.requires)
 pub overflow_add-n : goal.overflow_add-n
 overflow_add-n c = omega (arith, c.requires, c.loop-t.invariant.3)
 
-pub overflow_add-t : goal.overflow_add-t
-overflow_add-t c = omega (arith, c.requires)
-
 pub loop-t-preserved : goal.loop-t-preserved
 loop-t-preserved c =
     let p = c.args.p in

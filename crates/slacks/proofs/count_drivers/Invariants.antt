@@ -1,4 +1,4 @@
-use Prim.Native.Nat.{◌-◌, ◌≤◌}
+use Prim.Native.Nat.{◌≤◌}
 use mathlib.Core.Path.{◌≡◌}
 use lib.ListN.{length, take}
 use Rattle.slacks.specs.Trusted.Slack.{drivers}
@@ -7,6 +7,3 @@ use Rattle.slacks.proofs.count_drivers.Given as goal
 abbrev pub invariant-loop-t : goal.invariant-loop-t
 invariant-loop-t l =
     (l.t ≤ l.p.used) × (length l.p.tables ≡ 800) × (l.n ≡ length (drivers (take l.t l.p.tables))) × (l.n ≤ l.t)
-
-abbrev pub decreases-loop-t : goal.decreases-loop-t
-decreases-loop-t l = l.p.used - l.t

@@ -30,9 +30,6 @@ put_driver-place-requires c =
     let h : l.t < length p.tables = omega (arith, c.requires.0, l.invariant.1) in
     omega (arith, l.invariant.2, l.invariant.3, text_room a.wanted p a.at l.t (length a.buf.now) past (omega arith) h c.requires.1)
 
-pub overflow_add-t : goal.overflow_add-t
-overflow_add-t c = omega (arith, c.requires)
-
 pub loop-t-preserved : goal.loop-t-preserved
 loop-t-preserved c =
     let w = c.put_driver-place in

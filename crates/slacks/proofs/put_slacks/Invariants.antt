@@ -1,4 +1,4 @@
-use Prim.Native.Nat.{◌+◌, ◌-◌, ◌≤◌}
+use Prim.Native.Nat.{◌+◌, ◌≤◌}
 use mathlib.Core.Path.{◌≡◌}
 use lib.ListN.{length, take}
 use Rattle.list_line.specs.Trusted.Writes.{pasted}
@@ -9,6 +9,3 @@ abbrev pub invariant-loop-t : goal.invariant-loop-t
 invariant-loop-t l =
     (l.t ≤ l.p.used) × (length l.p.tables ≡ 800) × (length l.buf ≡ length l.initial.buf) × (l.place ≡ l.at + length (slack_text l.wanted (take l.t l.p.tables)))
     × (l.buf ≡ pasted l.initial.buf l.at (slack_text l.wanted (take l.t l.p.tables)))
-
-abbrev pub decreases-loop-t : goal.decreases-loop-t
-decreases-loop-t l = l.p.used - l.t

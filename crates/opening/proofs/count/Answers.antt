@@ -2,8 +2,8 @@ use mathlib.Core.Path.{◌≡◌, sym, ap, ◌∙◌}
 use mathlib.Core.Bool.{cond}
 use mir.Facts.{to_z-of_z}
 use Rattle.decimal.specs.Trusted.Reading.{number_of_int}
-use Rattle.fast_opening.proofs.count.Goals as goal
-use Rattle.fast_opening.proofs.count.Goals.{After-magnitude, After-negative}
+use Rattle.opening.proofs.count.Goals as goal
+use Rattle.opening.proofs.count.Goals.{After-magnitude, After-negative}
 
 -- the number's sign is what `negative` answers
 negated : (c : After-negative) → (number_of_int c.args.v).negative ≡ c.negative.result
