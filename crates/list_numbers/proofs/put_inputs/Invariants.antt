@@ -1,6 +1,5 @@
 use Prim.Native.Nat.{◌≤◌}
 use mathlib.Core.Path.{◌≡◌}
-use mathlib.Core.List.{[]}
 use lib.ListN.{length, take}
 use Rattle.list_line.specs.Trusted.Writes.{pasted}
 use Rattle.list_numbers.proofs.put_inputs.Given as goal
