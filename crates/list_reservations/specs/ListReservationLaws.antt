@@ -1,5 +1,5 @@
 -- What the functions hand over keeps the promise: of a list, and of a call on its part.
-use Rattle.std.specs.Prelude.{ℕ, ◌≡◌, ◌≢◌, Bool, true, false, List, [], ◌∷◌}
+use Rattle.std.specs.Prelude.{ℕ, ◌≡◌, ◌≢◌, Bool, true, false, List, [], ◌∷◌, Result, Ok, Err}
 use Rattle.std.proofs.Common.{arith, sym, ap, subst}
 use Rattle.lists.specs.TestLaws.{by_either}
 use Rattle.lists.specs.Trusted.Tests.{either}
@@ -18,7 +18,6 @@ use Rattle.part.proofs.ReserveLaws.{open_reflects, released_sound}
 use Rattle.part.specs.declared.Part.{Part}
 use Rattle.list_sets.specs.Told.{ReadBeside, told_of}
 use Rattle.list_sets.specs.ListSetLaws.{by_unread, by_passed, told_of_accepted}
-use Rattle.list_sets.specs.declared.CallOutcome.{CallOutcome}
 use Rattle.list_reservations.specs.Trusted.ListReservations.{reservation_code, outcome_code, CodeAfterList}
 
 -- ---- the list
@@ -33,15 +32,15 @@ module _ (Gives : Part → CallResult → Type 0) (reservation : Reservation) (q
 
 -- ---- the call
 
-module _ (t : CallOutcome) (a : Answer) (e : t ≡ told_of 0 a) (p : Part) where
-  pub outcome_refused : t.accepted ≡ false → t.code ≡ outcome_code a p
-  outcome_refused f = of a e
+module _ (t : Result (Unit {0}) ℕ) (a : Answer) (e : t ≡ told_of 0 a) (p : Part) where
+  pub outcome_refused : (code : ℕ) → t ≡ Err code → code ≡ outcome_code a p
+  outcome_refused code f = of a e
     where
-      of : (a : Answer) → t ≡ told_of 0 a → t.code ≡ outcome_code a p
+      of : (a : Answer) → t ≡ told_of 0 a → code ≡ outcome_code a p
       of accepted i = let z : ◌≡◌ {A = ℕ} 0 1 = cc in absurd (omega arith)
-      of (refused number place) i = ap (λ o. o.code) i
+      of (refused number place) i = cc
 
-  pub outcome_accepted : t.accepted ≡ true → reservation_code p.reservation ≡ outcome_code a p
+  pub outcome_accepted : t ≡ Ok tt → reservation_code p.reservation ≡ outcome_code a p
   outcome_accepted f = ap (λ a. outcome_code a p) (sym (told_of_accepted t 0 a e f))
 
 -- one sheet on a sound part with its reservation closed leaves a sound part

@@ -18,12 +18,13 @@ const RESERVED: u64 = 281474976710656;
 fn outcome_code(answer: Result<(), AddError>, part: &Part) -> u64
     ensures { result ≡ outcome_code (adding_answer answer) part.now }
 {
-    let told = tell_sheet(answer, 0);
-    if !told.accepted {
-        return told.code;
+    match tell_sheet(answer, 0) {
+        Ok(()) => {
+            let reservation = part.reservation;
+            RESERVED * reservation.count as u64 + reservation.net as u64
+        }
+        Err(code) => code,
     }
-    let reservation = part.reservation;
-    RESERVED * reservation.count as u64 + reservation.net as u64
 }
 
 // Sets tables of a list's part aside for a sheet. The result is the code of the reservation that the part has then, or that of the refusal:

@@ -1,5 +1,5 @@
 -- What the functions hand over keeps the promise: of a list, of a call on its part, and of the list that is written.
-use Rattle.std.specs.Prelude.{ℕ, ◌+◌, ◌≡◌, refl, ◌≢◌, true, List, length}
+use Rattle.std.specs.Prelude.{ℕ, ◌+◌, ◌≡◌, refl, ◌≢◌, List, length, Result, Ok}
 use Rattle.std.proofs.Common.{arith, sym, ap, ◌∙◌, subst, le-leb}
 use Rattle.std.proofs.lemmas.Bool.{lt-leb}
 use Rattle.lists.specs.Cases.{by_leb}
@@ -28,7 +28,6 @@ use Rattle.printing.specs.declared.Printed.{Printed}
 use Rattle.printing.specs.declared.Printed.TheVariants.{Wrote, NoRoom}
 use Rattle.list_sets.specs.Trusted.ListSets.{set_code, Unwritten, PutInFront, AfterCall, AfterList}
 use Rattle.list_sets.specs.Told.{ReadBeside, told_of, PutOutcome}
-use Rattle.list_sets.specs.declared.CallOutcome.{CallOutcome}
 
 -- ---- the list
 
@@ -69,11 +68,11 @@ module _ (reservation : Reservation) (q : Part) (read : ℕ) where
 -- ---- the call
 
 -- an outcome that is accepted is told of an accepted answer
-pub told_of_accepted : (t : CallOutcome) (position : ℕ) (a : Answer) → t ≡ told_of position a → t.accepted ≡ true → a ≡ accepted
+pub told_of_accepted : (t : Result (Unit {0}) ℕ) (position : ℕ) (a : Answer) → t ≡ told_of position a → t ≡ Ok tt → a ≡ accepted
 told_of_accepted t position accepted e h = refl
 told_of_accepted t position (refused number place) e h = let z : ◌≡◌ {A = ℕ} 0 1 = cc in absurd (omega arith)
 
-pub after_call : (r : CallResult) (t : CallOutcome) → t ≡ told_of r.position r.answer → (old : List ℕ) (code : ℕ) (bytes : List ℕ) →
+pub after_call : (r : CallResult) (t : Result (Unit {0}) ℕ) → t ≡ told_of r.position r.answer → (old : List ℕ) (code : ℕ) (bytes : List ℕ) →
     PutOutcome t r.part old code bytes → AfterCall r old code bytes
 after_call r t e old code bytes h = of r.answer e
   where

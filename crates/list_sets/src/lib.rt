@@ -2,7 +2,7 @@
 // does not show what is reserved, so the reservation is handed over beside it.
 #![tactic(auto)]
 
-ghost use Rattle.std.specs.Prelude.{◌≡◌, true, false};
+ghost use Rattle.std.specs.Prelude.{◌≡◌, Ok, Err};
 ghost use Rattle.part.specs.Trusted.Sound.{Sound};
 ghost use Rattle.part.specs.Trusted.AddAnswers.{adding_answer};
 ghost use Rattle.part.specs.Trusted.SetAnswers.{set_answer, set_position};
@@ -27,13 +27,6 @@ const NUMBER: u64 = 65536;
 // A buffer that is too short is refused with 14.
 const NO_ROOM: u8 = 14;
 
-// Whether a call was accepted, and the code of its refusal, 0 where it has none.
-#[derive(Clone, Copy)]
-pub struct CallOutcome {
-    pub accepted: bool,
-    pub code: u64,
-}
-
 // Reads a list, and gives its part the reservation: the number of tables set aside, and the net that they are for.
 pub fn read_reserved(list: &[u8], reserved: u16, net: u16) -> ListRead
     ensures { ReadBeside (read_list list.now) (record { count = reserved; net = net }) result.part (answer_code (list_answer result.answer)) }
@@ -51,25 +44,19 @@ fn refusal_code(position: u8, number: u8, place: u16) -> u64
     POSITION * position as u64 + NUMBER * number as u64 + place as u64
 }
 
-// A refusal.
-fn refused(position: u8, number: u8, place: u16) -> CallOutcome
-    ensures { result ≡ record { accepted = false; code = set_code position number place } }
+// A refusal, by its code.
+fn refused(position: u8, number: u8, place: u16) -> Result<(), u64>
+    ensures { result ≡ Err (set_code position number place) }
 {
-    CallOutcome {
-        accepted: false,
-        code: refusal_code(position, number, place),
-    }
+    Err(refusal_code(position, number, place))
 }
 
-// What the answer for a sheet says, with its position in the set, 0 where it is in none.
-pub fn tell_sheet(answer: Result<(), AddError>, position: u8) -> CallOutcome
+// What the answer for a sheet says, a refusal by its code with the sheet's position in the set, 0 where it is in none.
+pub fn tell_sheet(answer: Result<(), AddError>, position: u8) -> Result<(), u64>
     ensures { result ≡ told_of position (adding_answer answer) }
 {
     match answer {
-        Ok(()) => CallOutcome {
-            accepted: true,
-            code: 0,
-        },
+        Ok(()) => Ok(()),
         Err(why) => {
             let told = why.numbered(0);
             refused(position, told.number, told.line)
@@ -78,14 +65,11 @@ pub fn tell_sheet(answer: Result<(), AddError>, position: u8) -> CallOutcome
 }
 
 // What the answer for a set says.
-fn tell_set(answer: Result<(), SetError>) -> CallOutcome
+fn tell_set(answer: Result<(), SetError>) -> Result<(), u64>
     ensures { result ≡ told_of (set_position answer) (set_answer answer) }
 {
     match answer {
-        Ok(()) => CallOutcome {
-            accepted: true,
-            code: 0,
-        },
+        Ok(()) => Ok(()),
         Err(SetError::Unsound) => refused(0, 20, 0),
         Err(SetError::LengthsUnfit) => refused(0, 33, 0),
         Err(SetError::SheetRefused(why, position)) => tell_sheet(Err(why), position),
@@ -106,14 +90,14 @@ fn put_list(p: Part, output: &mut [u8]) -> u64
 
 // What comes of a call that adds sheets: where it is accepted, the list of its part as above, else its refusal's code, with the buffer as it
 // was.
-pub fn put_outcome(told: CallOutcome, p: Part, output: &mut [u8]) -> u64
-    requires { told.accepted ≡ true → Sound p }
+pub fn put_outcome(told: Result<(), u64>, p: Part, output: &mut [u8]) -> u64
+    requires { told ≡ Ok tt → Sound p }
     ensures { PutOutcome told p output.old result output.new }
 {
-    if !told.accepted {
-        return told.code;
+    match told {
+        Ok(()) => put_list(p, output),
+        Err(code) => code,
     }
-    put_list(p, output)
 }
 
 // Adds a set of sheets, their text one after the other with the length of each, to the part of a list with its reservation. Where all are
