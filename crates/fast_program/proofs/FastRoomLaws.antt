@@ -1,5 +1,5 @@
 -- All that the program prints fits into `fast_longest` bytes: a buffer with that many is never too short.
-use Rattle.std.specs.Prelude.{ℕ, ◌≤◌, ◌≡◌, refl, List, length, drop}
+use Rattle.std.specs.Prelude.{ℕ, ◌≤◌, ◌≡◌, refl, List, length, drop, Result, Ok, Err}
 use Rattle.std.proofs.Common.{arith, length-append}
 use Rattle.part.specs.Trusted.Parts.{Shaped}
 use Rattle.part.specs.Trusted.Sound.{Sound}
@@ -17,8 +17,7 @@ use Rattle.fast_program.specs.Trusted.FastProgram.{fast_list, FastAfter, FastPri
 use Rattle.fast_program.specs.Promises.{FastAnswered, FastAtFront}
 use Rattle.fast_program.proofs.FastProgramLaws.{fast_opened_good}
 use Rattle.fast_program.specs.FastLongest.{fast_longest}
-use Rattle.printing.specs.declared.Printed.{Printed}
-use Rattle.printing.specs.declared.Printed.TheVariants.{Wrote, NoRoom}
+use Rattle.printing.specs.declared.NoRoom.{NoRoom}
 
 -- a refusal's line has 19 bytes
 refusal_short : 19 ≤ fast_longest
@@ -42,9 +41,9 @@ fast_prints_short input out =
     after_short r.part r.answer r.wanted (fast_opened_good (fast_numbers input)) (drop 19 input) out
 
 -- A BUFFER OF THAT LENGTH IS NEVER TOO SHORT
-module _ {input new old : List ℕ} {r : Printed} (enough : fast_longest ≤ length old) (h : FastAnswered input r new old) where
-  pub fast_wrote_front : {n : ℕ} → r ≡ Wrote n → FastAtFront input n new old
+module _ {input new old : List ℕ} {r : Result ℕ NoRoom} (enough : fast_longest ≤ length old) (h : FastAnswered input r new old) where
+  pub fast_wrote_front : {n : ℕ} → r ≡ Ok n → FastAtFront input n new old
   fast_wrote_front = answered_front fast_longest fast_prints_short enough h
 
-  pub fast_never_short : r ≡ NoRoom → ⊥
+  pub fast_never_short : {x : NoRoom} → r ≡ Err x → ⊥
   fast_never_short = answered_whole fast_longest fast_prints_short enough h

@@ -1,5 +1,5 @@
 -- The list and the slacks after it, written the slacks first.
-use Rattle.std.specs.Prelude.{ℕ, ◌+◌, ◌≤◌, ◌≡◌, refl, cond, List, ◌++◌, length, take, drop}
+use Rattle.std.specs.Prelude.{ℕ, ◌+◌, ◌≤◌, ◌≡◌, refl, cond, List, ◌++◌, length, take, drop, Result, Ok, Err}
 use Rattle.std.proofs.Common.{arith, sym, ap, ap₂, ◌∙◌, subst, append_assoc, le-leb, length-append, drop_at, length-take-le}
 use Rattle.std.proofs.lemmas.Bool.{lt-leb}
 use Rattle.lists.specs.Cases.{by_leb}
@@ -12,8 +12,7 @@ use Rattle.listing.specs.Trusted.Listing.{list_of}
 use Rattle.listing.specs.Lines.{turned_down, fitted, table_lines}
 use Rattle.listing.proofs.LineLaws.{list_is, fitted_in, fitted_out}
 use Rattle.printing.specs.Promises.{printed_result}
-use Rattle.printing.specs.declared.Printed.{Printed}
-use Rattle.printing.specs.declared.Printed.TheVariants.{Wrote, NoRoom}
+use Rattle.printing.specs.declared.NoRoom.{NoRoom}
 
 -- line 0 has 19 bytes
 pub list_width : (p : Part) (n : ℕ) → n ≡ length (table_lines p p.used) → 19 + n ≡ length (list_of p)
@@ -32,7 +31,7 @@ paste_before old xs ys l =
     ∙ ap (λ k. (xs ++ ys) ++ drop k old) m
 
 module _ (old xs ys : List ℕ) (width : ℕ) (w : width ≡ length xs) where
-  list_before : (mid new : List ℕ) (r : Printed) → width + length ys ≤ length old → mid ≡ pasted old width ys →
+  list_before : (mid new : List ℕ) (r : Result ℕ NoRoom) → width + length ys ≤ length old → mid ≡ pasted old width ys →
       record { result = printed_result r; bytes = new } ≡ fitted mid 0 xs → new ≡ pasted old 0 (xs ++ ys)
   list_before mid new r l b f =
       let k : length mid ≡ length old = ap length b ∙ paste_length old width ys l in
@@ -48,7 +47,7 @@ module _ (old xs ys : List ℕ) (width : ℕ) (w : width ≡ length xs) where
       ∙ sym (fitted_in old 0 {line = xs ++ ys} refl (le-leb (0 + length (xs ++ ys)) (length old) (omega (arith, length-append xs ys))))
 
   -- where there was room for what stands behind, there is room for all
-  pub written_behind : (mid new : List ℕ) {n : ℕ} (a r : Printed) → a ≡ Wrote n → record { result = printed_result a; bytes = mid } ≡ fitted old width ys →
+  pub written_behind : (mid new : List ℕ) {n : ℕ} (a r : Result ℕ NoRoom) → a ≡ Ok n → record { result = printed_result a; bytes = mid } ≡ fitted old width ys →
       record { result = printed_result r; bytes = new } ≡ fitted mid 0 xs →
       (n ≡ length ys) × (record { result = passed (width + n); bytes = new } ≡ fitted old 0 (xs ++ ys))
   written_behind mid new {n} a r q e f =
@@ -67,7 +66,7 @@ module _ (old xs ys : List ℕ) (width : ℕ) (w : width ≡ length xs) where
       (subst (λ b. record { result = printed_result b; bytes = mid } ≡ fitted old width ys) q e)
 
   -- and where there was none, there is none for all
-  pub unwritten_behind : (new : List ℕ) (a : Printed) → a ≡ NoRoom → record { result = printed_result a; bytes = new } ≡ fitted old width ys →
+  pub unwritten_behind : (new : List ℕ) (a : Result ℕ NoRoom) {x : NoRoom} → a ≡ Err x → record { result = printed_result a; bytes = new } ≡ fitted old width ys →
       record { result = refused 14 0; bytes = new } ≡ fitted old 0 (xs ++ ys)
   unwritten_behind new a q e =
       by_leb (λ b. record { result = refused 14 0; bytes = new } ≡ cond b (record { result = passed (length ys); bytes = pasted old width ys }) (turned_down 14 old) →

@@ -12,7 +12,7 @@ ghost use Rattle.fast_program.specs.Promises.{FastAnswered, FastAtFront};
 use fast_opening::FAST_OPENING;
 use list_line::table_width;
 use part::Part;
-use printing::Printed;
+use printing::NoRoom;
 
 // The most bytes that are printed: the longest list, and a line of 13 bytes for each of 800 tables (`fast_longest` in specs/FastLongest,
 // `fast_prints_short` in proofs/FastRoomLaws).
@@ -39,25 +39,20 @@ fn lines_width(p: Part) -> usize
 
 // The list of a sound part and after it the slacks of its nets. The slacks are written first, behind where the list will end: where there is
 // room for them, there is room for the list.
-fn print_fast_list(output: &mut [u8], part: Part, wanted: u16) -> Printed
+fn print_fast_list(output: &mut [u8], part: Part, wanted: u16) -> Result<usize, NoRoom>
     requires { Sound part }
     ensures { WrittenAs (fast_list wanted part) result output.new output.old }
 {
     let width = TOP + lines_width(part);
-    let slacks = slacks::print_slacks(output, width, part, wanted);
-    match slacks {
-        Printed::Wrote(n) => {
-            printing::print_list(output, part);
-            Printed::Wrote(width + n)
-        }
-        Printed::NoRoom => Printed::NoRoom,
-    }
+    let slacks = slacks::print_slacks(output, width, part, wanted)?;
+    let _ = printing::print_list(output, part);
+    Ok(width + slacks)
 }
 
 // Maps the input and prints into the buffer: the list and the slacks, or one line for the first refusal.
-// `FastAnswered`: what is printed for the input stands at the buffer's front, the bytes after it are as they were, and `Wrote` has its length;
-// or it is longer than the buffer, which is as it was, and the answer is `NoRoom`.
-pub fn run(input: &[u8], output: &mut [u8]) -> Printed
+// `FastAnswered`: what is printed for the input stands at the buffer's front, the bytes after it are as they were, and `Ok` has its length;
+// or it is longer than the buffer, which is as it was, and the answer is `Err(NoRoom)`.
+pub fn run(input: &[u8], output: &mut [u8]) -> Result<usize, NoRoom>
     ensures { FastAnswered input.now result output.new output.old }
 {
     let start = fast_opening::read_fast_opening(input);
@@ -78,7 +73,7 @@ pub fn print(input: &[u8], output: &mut [u8; LONGEST_FAST]) -> usize
     ensures { FastAtFront input.now result output.new output.old }
 {
     match run(input, output) {
-        Printed::Wrote(n) => n,
-        Printed::NoRoom => 0,
+        Ok(n) => n,
+        Err(NoRoom) => 0,
     }
 }

@@ -45,7 +45,7 @@ fn print_refused(rt: &impl Print, number: u8, line: u16) -> io::Result<()>
     requires { 0 < number }
 {
     let mut output = [0u8; 19];
-    print_refusal(&mut output, number, 0, line);
+    let _ = print_refusal(&mut output, number, 0, line);
     print(rt, &output)
 }
 

@@ -1,5 +1,5 @@
 -- What the functions hand over keeps the promise: of a list, of a call on its part, and of the list that is written.
-use Rattle.std.specs.Prelude.{ℕ, ◌+◌, ◌≡◌, refl, ◌≢◌, List, length, Result, Ok}
+use Rattle.std.specs.Prelude.{ℕ, ◌+◌, ◌≡◌, refl, ◌≢◌, List, length, Result, Ok, Err}
 use Rattle.std.proofs.Common.{arith, sym, ap, ◌∙◌, subst, le-leb}
 use Rattle.std.proofs.lemmas.Bool.{lt-leb}
 use Rattle.lists.specs.Cases.{by_leb}
@@ -24,8 +24,7 @@ use Rattle.list_reading.specs.declared.ListRead.{ListRead}
 use Rattle.list_numbers.specs.Answered.{answer_code}
 use Rattle.list_numbers.specs.NumbersLaws.{code_accepted}
 use Rattle.printing.specs.Promises.{printed_result, WrittenAs}
-use Rattle.printing.specs.declared.Printed.{Printed}
-use Rattle.printing.specs.declared.Printed.TheVariants.{Wrote, NoRoom}
+use Rattle.printing.specs.declared.NoRoom.{NoRoom}
 use Rattle.list_sets.specs.Trusted.ListSets.{set_code, Unwritten, PutInFront, AfterCall, AfterList}
 use Rattle.list_sets.specs.Told.{ReadBeside, told_of, PutOutcome}
 
@@ -92,23 +91,23 @@ added_sound p shape lengths text r a e = (set_kept p shape lengths text r a).sou
 -- ---- the new list
 
 -- the code of what is printed
-abbrev pub printed_code : Printed → ℕ
-printed_code (Wrote n) = n
-printed_code NoRoom = set_code 0 14 0
+abbrev pub printed_code : Result ℕ NoRoom → ℕ
+printed_code (Ok n) = n
+printed_code (Err x) = set_code 0 14 0
 
 module _ (list new old : List ℕ) where
-  abbrev outcome : Printed → WriteOutcome
+  abbrev outcome : Result ℕ NoRoom → WriteOutcome
   outcome p = record { result = printed_result p; bytes = new }
 
-  wrote : (p : Printed) → outcome p ≡ record { result = passed (length list); bytes = pasted old 0 list } → (printed_code p ≡ length list) × (new ≡ pasted old 0 list)
-  wrote (Wrote n) e = let w : passed n ≡ passed (length list) = ap (λ o. o.result) e in (cc, ap (λ o. o.bytes) e)
-  wrote NoRoom e = let w : unread 14 0 ≡ passed (length list) = ap (λ o. o.result) e in let z : ◌≡◌ {A = ℕ} 0 1 = cc in absurd (omega arith)
+  wrote : (p : Result ℕ NoRoom) → outcome p ≡ record { result = passed (length list); bytes = pasted old 0 list } → (printed_code p ≡ length list) × (new ≡ pasted old 0 list)
+  wrote (Ok n) e = let w : passed n ≡ passed (length list) = ap (λ o. o.result) e in (cc, ap (λ o. o.bytes) e)
+  wrote (Err x) e = let w : unread 14 0 ≡ passed (length list) = ap (λ o. o.result) e in let z : ◌≡◌ {A = ℕ} 0 1 = cc in absurd (omega arith)
 
-  short : (p : Printed) → outcome p ≡ turned_down 14 old → Unwritten 0 14 0 old (printed_code p) new
-  short (Wrote n) e = let w : passed n ≡ unread 14 0 = ap (λ o. o.result) e in let z : ◌≡◌ {A = ℕ} 0 1 = cc in absurd (omega arith)
-  short NoRoom e = (refl, ap (λ o. o.bytes) e)
+  short : (p : Result ℕ NoRoom) → outcome p ≡ turned_down 14 old → Unwritten 0 14 0 old (printed_code p) new
+  short (Ok n) e = let w : passed n ≡ unread 14 0 = ap (λ o. o.result) e in let z : ◌≡◌ {A = ℕ} 0 1 = cc in absurd (omega arith)
+  short (Err x) e = (refl, ap (λ o. o.bytes) e)
 
-  pub put_in_front : (p : Printed) → WrittenAs list p new old → PutInFront list old (printed_code p) new
+  pub put_in_front : (p : Result ℕ NoRoom) → WrittenAs list p new old → PutInFront list old (printed_code p) new
   put_in_front p e =
       by_leb (λ b. either b ((printed_code p ≡ length list) × (new ≡ pasted old 0 list)) (Unwritten 0 14 0 old (printed_code p) new)) (length list) (length old)
       (λ l. wrote p (e ∙ fitted_in old 0 {line = list} refl (le-leb (0 + length list) (length old) (omega arith))))

@@ -17,7 +17,7 @@ use list_numbers::answer_code;
 use list_reader::read_list;
 use list_reading::ListRead;
 use part::{AddError, Part, SetError};
-use printing::{Printed, print_list};
+use printing::{NoRoom, print_list};
 
 // A refusal's code is so many times the sheet's position in the set, so many times its number, and the place.
 const POSITION: u64 = 4294967296;
@@ -83,8 +83,8 @@ fn put_list(p: Part, output: &mut [u8]) -> u64
     ensures { PutInFront (list_of p) output.old result output.new }
 {
     match print_list(output, p) {
-        Printed::Wrote(n) => n as u64,
-        Printed::NoRoom => refusal_code(0, NO_ROOM, 0),
+        Ok(n) => n as u64,
+        Err(NoRoom) => refusal_code(0, NO_ROOM, 0),
     }
 }
 

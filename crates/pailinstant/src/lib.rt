@@ -14,16 +14,16 @@ use list_numbers::{answer_code, hand_over};
 use list_reader::read_list;
 use list_reservations::{commit_to_list, reserve_on_list, withdraw_from_list};
 use list_sets::add_to_list;
-use printing::Printed;
+use printing::NoRoom;
 use program::run;
 
 // How many bytes were printed: none where the buffer is too short.
-fn printed_bytes(outcome: Printed) -> usize
+fn printed_bytes(outcome: Result<usize, NoRoom>) -> usize
     ensures { result ≡ printed_bytes outcome }
 {
     match outcome {
-        Printed::Wrote(n) => n,
-        Printed::NoRoom => 0,
+        Ok(n) => n,
+        Err(NoRoom) => 0,
     }
 }
 

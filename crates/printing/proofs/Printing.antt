@@ -35,14 +35,13 @@ use Rattle.listing.specs.declared.WriteError.TheVariants.{NotSound, NoLine, NoRo
 use Rattle.list_line.proofs.Written.{number_written}
 use Rattle.printing.specs.Trusted.RefusalLine.{refusal_line}
 use Rattle.printing.specs.Promises.{WrittenAs}
-use Rattle.printing.specs.declared.Printed.{Printed}
-use Rattle.printing.specs.declared.Printed.TheVariants.{Wrote as Printed-Wrote, NoRoom as Printed-NoRoom}
+use Rattle.printing.specs.declared.NoRoom as printing_no_room
 
 -- ---- the list
 
-abbrev pub printed_of : Result ℕ WriteError → Printed
-printed_of (Ok n) = Printed-Wrote n
-printed_of (Err e) = Printed-NoRoom
+abbrev pub printed_of : Result ℕ WriteError → Result ℕ printing_no_room.NoRoom
+printed_of (Ok n) = Ok n
+printed_of (Err e) = Err _
 
 only_14 : (old line : List ℕ) (number : ℕ) → refused number 0 ≡ (fitted old 0 line).result → number ≡ 14
 only_14 old line number =

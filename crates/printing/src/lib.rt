@@ -16,35 +16,32 @@ const FIELD: usize = 6;
 // The bytes of a refusal's line: three fields and the line feed.
 const REFUSAL: usize = 19;
 
-// How many bytes are printed, or that the buffer is too short for them.
-#[derive(Clone, Copy)]
-pub enum Printed {
-    Wrote(usize),
-    NoRoom,
-}
+// Why nothing was printed: the buffer is too short for it.
+#[derive(Clone, Copy, Debug, PartialEq, Eq)]
+pub struct NoRoom;
 
-// The line of a refusal.
-pub fn print_refusal(output: &mut [u8], number: u8, sheet: u16, place: u16) -> Printed
+// The line of a refusal, and how many bytes it has.
+pub fn print_refusal(output: &mut [u8], number: u8, sheet: u16, place: u16) -> Result<usize, NoRoom>
     requires { 0 < number }
     ensures { WrittenAs (refusal_line number sheet place) result output.new output.old }
 {
     if output.len() < REFUSAL {
-        return Printed::NoRoom;
+        return Err(NoRoom);
     }
     let _ = decimal_writer::write_signed_at(output, 0, FIELD, -(number as i32));
     let _ = decimal_writer::write_at(output, 6, FIELD, sheet as u64);
     let _ = decimal_writer::write_at(output, 12, FIELD, place as u64);
     output[18] = b'\n';
-    Printed::Wrote(REFUSAL)
+    Ok(REFUSAL)
 }
 
-// The list of a sound part. For want of room is the only way in which it is refused.
-pub fn print_list(output: &mut [u8], part: Part) -> Printed
+// The list of a sound part, and how many bytes it has. For want of room is the only way in which it is refused.
+pub fn print_list(output: &mut [u8], part: Part) -> Result<usize, NoRoom>
     requires { Sound part }
     ensures { WrittenAs (list_of part) result output.new output.old }
 {
     match listing::write_sound_list(part, output, 0) {
-        Ok(n) => Printed::Wrote(n),
-        Err(_) => Printed::NoRoom,
+        Ok(n) => Ok(n),
+        Err(_) => Err(NoRoom),
     }
 }

@@ -1,11 +1,11 @@
 -- What the functions promise. Internal definitions: the laws are in ProgramLaws, AnsweredLaws and RoomLaws.
-use Rattle.std.specs.Prelude.{ℕ, ◌≤◌, ◌≡◌, List, length, take, drop}
+use Rattle.std.specs.Prelude.{ℕ, ◌≤◌, ◌≡◌, List, length, take, drop, Result}
 use Rattle.printing.specs.Promises.{WrittenAs}
-use Rattle.printing.specs.declared.Printed.{Printed}
+use Rattle.printing.specs.declared.NoRoom.{NoRoom}
 use Rattle.program.specs.Trusted.Program.{Prints}
 
 -- THE PROMISE of a program, where `P` says what is printed for an input
-pub record AnsweredBy (P : List ℕ → List ℕ → Type 0) (input : List ℕ) (r : Printed) (new old : List ℕ) : Type 0 where
+pub record AnsweredBy (P : List ℕ → List ℕ → Type 0) (input : List ℕ) (r : Result ℕ NoRoom) (new old : List ℕ) : Type 0 where
   pub line : List ℕ
   pub prints : P input line
   pub written : WrittenAs line r new old
@@ -17,7 +17,7 @@ pub record AtFrontBy (P : List ℕ → List ℕ → Type 0) (input : List ℕ) (
   pub rest : drop n new ≡ drop n old
 
 -- those of the mapping program
-abbrev pub Answered : List ℕ → Printed → List ℕ → List ℕ → Type 0
+abbrev pub Answered : List ℕ → Result ℕ NoRoom → List ℕ → List ℕ → Type 0
 Answered = AnsweredBy Prints
 
 abbrev pub AtFront : List ℕ → ℕ → List ℕ → List ℕ → Type 0

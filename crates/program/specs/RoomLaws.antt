@@ -1,5 +1,5 @@
 -- All that the program prints fits into `longest` bytes: a buffer with that many is never too short.
-use Rattle.std.specs.Prelude.{ℕ, ◌≤◌, ◌≡◌, refl, List, length, drop}
+use Rattle.std.specs.Prelude.{ℕ, ◌≤◌, ◌≡◌, refl, List, length, drop, Result, Ok, Err}
 use Rattle.std.proofs.Common.{arith}
 use Rattle.part.specs.Trusted.Parts.{Shaped}
 use Rattle.part.specs.Trusted.Sound.{Sound}
@@ -13,8 +13,7 @@ use Rattle.program.specs.Trusted.Program.{After, Prints}
 use Rattle.program.specs.Promises.{Answered, AtFront}
 use Rattle.program.specs.ProgramLaws.{opened_good}
 use Rattle.program.specs.AnsweredLaws.{answered_front, answered_whole}
-use Rattle.printing.specs.declared.Printed.{Printed}
-use Rattle.printing.specs.declared.Printed.TheVariants.{Wrote, NoRoom}
+use Rattle.printing.specs.declared.NoRoom.{NoRoom}
 
 -- a refusal's line has 19 bytes
 refusal_short : 19 ≤ longest
@@ -32,9 +31,9 @@ prints_short input out =
     after_short r.part r.answer (opened_good (opening_numbers input)) (drop 13 input) out
 
 -- A BUFFER OF THE LONGEST LIST'S LENGTH IS NEVER TOO SHORT
-module _ {input new old : List ℕ} {r : Printed} (enough : longest ≤ length old) (h : Answered input r new old) where
-  pub wrote_front : {n : ℕ} → r ≡ Wrote n → AtFront input n new old
+module _ {input new old : List ℕ} {r : Result ℕ NoRoom} (enough : longest ≤ length old) (h : Answered input r new old) where
+  pub wrote_front : {n : ℕ} → r ≡ Ok n → AtFront input n new old
   wrote_front = answered_front longest prints_short enough h
 
-  pub never_short : r ≡ NoRoom → ⊥
+  pub never_short : {x : NoRoom} → r ≡ Err x → ⊥
   never_short = answered_whole longest prints_short enough h

@@ -4,15 +4,15 @@
 ghost use Rattle.program.specs.Promises.{Answered, AtFront};
 
 use opening::OPENING;
-use printing::Printed;
+use printing::NoRoom;
 
 // The bytes of the longest list: no input has more printed (`longest` in listing/specs/Lines, `prints_short` in specs/RoomLaws).
 pub const LONGEST: usize = 60819;
 
 // Maps the input and prints into the buffer: the list, or one line for the first refusal.
-// `Answered`: what is printed for the input stands at the buffer's front, the bytes after it are as they were, and `Wrote` has its length;
-// or it is longer than the buffer, which is as it was, and the answer is `NoRoom`.
-pub fn run(input: &[u8], output: &mut [u8]) -> Printed
+// `Answered`: what is printed for the input stands at the buffer's front, the bytes after it are as they were, and `Ok` has its length;
+// or it is longer than the buffer, which is as it was, and the answer is `Err(NoRoom)`.
+pub fn run(input: &[u8], output: &mut [u8]) -> Result<usize, NoRoom>
     ensures { Answered input.now result output.new output.old }
 {
     let start = opening::read_opening(input);
@@ -33,7 +33,7 @@ pub fn print(input: &[u8], output: &mut [u8; LONGEST]) -> usize
     ensures { AtFront input.now result output.new output.old }
 {
     match run(input, output) {
-        Printed::Wrote(n) => n,
-        Printed::NoRoom => 0,
+        Ok(n) => n,
+        Err(NoRoom) => 0,
     }
 }

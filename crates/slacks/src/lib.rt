@@ -11,7 +11,7 @@ ghost use Rattle.slacks.specs.SlackText.{driver_line};
 
 use list_line::has_room;
 use part::Part;
-use printing::Printed;
+use printing::NoRoom;
 
 // The columns of a field.
 const FIELD: usize = 6;
@@ -75,14 +75,14 @@ fn put_slacks(buf: &mut [u8], at: usize, p: Part, wanted: u16)
 }
 
 // Writes a line for each of the part's tables that drive a net, from the place on. Where there is not room for all of them no byte is altered.
-pub fn print_slacks(output: &mut [u8], at: usize, part: Part, wanted: u16) -> Printed
+pub fn print_slacks(output: &mut [u8], at: usize, part: Part, wanted: u16) -> Result<usize, NoRoom>
     requires { part.used ≤ 800 }
     ensures { record { result = printed_result result; bytes = output.new } ≡ fitted output.old at (slack_lines wanted part) }
 {
     let width = SLACK_LINE * count_drivers(part);
     if !has_room(output.len(), at, width) {
-        return Printed::NoRoom;
+        return Err(NoRoom);
     }
     put_slacks(output, at, part, wanted);
-    Printed::Wrote(width)
+    Ok(width)
 }

@@ -12,8 +12,8 @@ roomy : (c : After-run) → fast_longest ≤ length c.args.output.now
 unfolding fast_longest longest
 roomy c = omega arith
 
-pub returns-in-Wrote : goal.returns-in-Wrote
-returns-in-Wrote c = fast_wrote_front (roomy (goal.at.returns-in-Wrote c).After-run) c.run.ensures c.in-Wrote.is
+pub returns-in-Ok : goal.returns-in-Ok
+returns-in-Ok c = fast_wrote_front (roomy (goal.at.returns-in-Ok c).After-run) c.run.ensures c.in-Ok.is
 
-pub returns-in-NoRoom : goal.returns-in-NoRoom
-returns-in-NoRoom c = absurd (fast_never_short (roomy (goal.at.returns-in-NoRoom c).After-run) c.run.ensures c.in-NoRoom.is)
+pub returns-in-Err : goal.returns-in-Err
+returns-in-Err c = absurd (fast_never_short (roomy (goal.at.returns-in-Err c).After-run) c.run.ensures c.in-Err.is)
