@@ -98,7 +98,7 @@ line_added wanted p shape text q a = of (add_case fastest p text q accepted a)
           root = level (code_levels code_base (tables_of p)) c.cover;
           least_root = t.chosen.fastest;
           lines = ap (λ o. slack_text wanted (in_use o)) t.part
-              ∙ ap (slack_text wanted) (extended_in_use p shape h new)
+              ∙ ap (slack_text wanted) (extended_in_use p shape.records h new)
               ∙ lines_append wanted (in_use p) (records_after (tables_of p) new)
               ∙ ap (◌++◌ (slack_lines wanted p))
               (last_line wanted s.out (length (tables_of p)) legal.out_net.0 (levels_after code_base (tables_of p) new) new
