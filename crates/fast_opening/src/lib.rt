@@ -59,8 +59,9 @@ fn want(part: Part, v: i32) -> FastOpening
 fn open(k: u32, capacity: u32, v: i32) -> FastOpening
     ensures { fast_start result ≡ wanted_after (opened k capacity).answer (opened k capacity).part (number_of_int v) }
 {
-    match Part::open(k, capacity) {
-        Ok(part) => want(part, v),
+    let opened = Part::open(k, capacity);
+    match opened.answer {
+        Ok(()) => want(opened.part, v),
         Err(OpenError::KOutOfRange) => refuse(2),
         Err(OpenError::CapacityOutOfRange) => refuse(3),
     }

@@ -38,9 +38,8 @@ pub fn reserve_on_list(list: &[u8], reserved: u16, net: u16, text: &[u8]) -> u64
     if code != 0 {
         return code as u64;
     }
-    let mut part = read.part;
-    let answered = part.reserve(text);
-    outcome_code(answered, &part)
+    let answered = read.part.reserve(text);
+    outcome_code(answered.answer, &answered.part)
 }
 
 // Adds the sheet that tables of a list's part are set aside for, and closes the reservation. The new list stands at the front of the buffer,
@@ -55,10 +54,9 @@ pub fn commit_to_list(list: &[u8], reserved: u16, net: u16, text: &[u8], output:
     if code != 0 {
         return code as u64;
     }
-    let mut part = read.part;
-    let committed = part.commit(text);
-    let told = tell_sheet(committed, 0);
-    put_outcome(told, part, output)
+    let committed = read.part.commit(text);
+    let told = tell_sheet(committed.answer, 0);
+    put_outcome(told, committed.part, output)
 }
 
 // Closes the reservation. The result is 0, or the refusal's code: the list's come first, then 20, and 36 where no reservation is open.
@@ -71,7 +69,6 @@ pub fn withdraw_from_list(list: &[u8], reserved: u16, net: u16) -> u64
     if code != 0 {
         return code as u64;
     }
-    let mut part = read.part;
-    let answered = part.withdraw();
-    outcome_code(answered, &part)
+    let answered = read.part.withdraw();
+    outcome_code(answered.answer, &answered.part)
 }

@@ -119,8 +119,7 @@ pub fn add_to_list(
     if code != 0 {
         return code as u64;
     }
-    let mut part = read.part;
-    let added = part.add_set(text, lengths);
-    let told = tell_set(added);
-    put_outcome(told, part, output)
+    let added = read.part.add_set(text, lengths);
+    let told = tell_set(added.answer);
+    put_outcome(told, added.part, output)
 }

@@ -50,15 +50,14 @@ pub fn count(v: i32) -> u32
 fn open(k: u32, capacity: u32) -> Start
     ensures { start_result result ≡ opened k capacity }
 {
-    match Part::open(k, capacity) {
-        Ok(part) => Start {
-            part,
-            told: Told { number: 0, line: 0 },
-        },
-        Err(why) => Start {
-            part: part::empty(0, 0),
-            told: tell_opening(why),
-        },
+    let opened = Part::open(k, capacity);
+    let told = match opened.answer {
+        Ok(()) => Told { number: 0, line: 0 },
+        Err(why) => tell_opening(why),
+    };
+    Start {
+        part: opened.part,
+        told,
     }
 }
 

@@ -12,7 +12,7 @@ ghost use Rattle.sheet.specs.Trusted.Formed.{WellFormed};
 ghost use Rattle.joined_mapper.specs.JoinedMap.{circuit_of};
 ghost use Rattle.part.specs.Trusted.AddAnswers.{adding_answer};
 
-use crate::{AddError, Choose, Fastest, Least, Part};
+use crate::{AddError, Added, Choose, Fastest, Least, Part};
 use mapper_laws::Mapping;
 use part_records::{Uses, with_table};
 use sheet::Sheet;
@@ -59,10 +59,13 @@ impl Part {
         self.used += mapping.count as u16;
     }
 
-    // Adds a sheet that was mapped to a part that is sound: its tables after the old ones, each with its level, whichever way they
-    // were chosen in. The conditions that refuse it are tested in 01's order: 21, 22, 23. The array has the levels of the part's codes,
-    // before and after.
-    pub fn offer(&mut self, out: u16, mapping: Mapping, levels: &mut [u16]) -> Result<(), AddError>
+    // Offers in place.
+    fn offer_in_place(
+        &mut self,
+        out: u16,
+        mapping: Mapping,
+        levels: &mut [u16],
+    ) -> Result<(), AddError>
         requires { Sound self.old × Storable out mapping × LevelsStand levels.old (tables_of self.old) }
         ensures { Offered self.old out mapping self.new (adding_answer result) × LevelsStand levels.new (tables_of self.new) }
     {
@@ -82,6 +85,17 @@ impl Part {
         Ok(())
     }
 
+    // Adds a sheet that was mapped to a part that is sound: its tables after the old ones, each with its level, whichever way they
+    // were chosen in. The conditions that refuse it are tested in 01's order: 21, 22, 23. The array has the levels of the part's codes,
+    // before and after.
+    pub fn offer(mut self, out: u16, mapping: Mapping, levels: &mut [u16]) -> Added
+        requires { Sound self × Storable out mapping × LevelsStand levels.old (tables_of self) }
+        ensures { Offered self out mapping result.part (adding_answer result.answer) × LevelsStand levels.new (tables_of result.part) }
+    {
+        let answer = self.offer_in_place(out, mapping, levels);
+        Added { part: self, answer }
+    }
+
     // Adds a sheet that was read to a part that is sound, its tables chosen in the way, as an offer does. Its records are as many as its type
     // says.
     pub fn offer_sheet<W: Choose>(
@@ -93,7 +107,7 @@ impl Part {
         ensures { Offer W.way self.old (circuit_of sheet.now) self.new (adding_answer result) × LevelsStand levels.new (tables_of self.new) × (length self.old.tables ≡ table_room) }
     {
         let mapping = W::mapped(self, sheet, levels);
-        self.offer(sheet.out, mapping, levels)
+        self.offer_in_place(sheet.out, mapping, levels)
     }
 
     // Adds the sheet that the text is to a part that is sound, in the way. The array has the levels of the part's codes, before and after.
@@ -118,17 +132,19 @@ impl Part {
     }
 
     // Adds the sheet that the text is. The conditions that refuse it are tested in 01's order: 20, the sheet's own, then an offer's.
-    pub fn add(&mut self, text: &[u8]) -> Result<(), AddError>
-        ensures { Add least self.old text.now self.new (adding_answer result) }
+    pub fn add(mut self, text: &[u8]) -> Added
+        ensures { Add least self text.now result.part (adding_answer result.answer) }
     {
-        self.add_by::<Least>(text)
+        let answer = self.add_by::<Least>(text);
+        Added { part: self, answer }
     }
 
     // Adds the sheet that the text is, its tables those of a cover with the least root level, and of those one of the fewest tables. The conditions
     // that refuse it are those of an add, in the same order; 23 goes by that number of tables.
-    pub fn add_fast(&mut self, text: &[u8]) -> Result<(), AddError>
-        ensures { Add fastest self.old text.now self.new (adding_answer result) }
+    pub fn add_fast(mut self, text: &[u8]) -> Added
+        ensures { Add fastest self text.now result.part (adding_answer result.answer) }
     {
-        self.add_by::<Fastest>(text)
+        let answer = self.add_by::<Fastest>(text);
+        Added { part: self, answer }
     }
 }

@@ -40,6 +40,13 @@ pub enum OpenError {
     CapacityOutOfRange,
 }
 
+// The part that an opening hands back, all zeros where it is refused, and the answer.
+#[derive(Clone, Copy)]
+pub struct Opened {
+    pub part: Part,
+    pub answer: Result<(), OpenError>,
+}
+
 // Why an add is refused, a reservation, a commit or a withdrawal. AddAnswers in specs/Trusted gives the numbers and places.
 #[derive(Clone, Copy, Debug, PartialEq, Eq)]
 pub enum AddError {
@@ -52,6 +59,13 @@ pub enum AddError {
     NotReserved,
 }
 
+// The part that such a call hands back, the one it got where it is refused, and the answer.
+#[derive(Clone, Copy)]
+pub struct Added {
+    pub part: Part,
+    pub answer: Result<(), AddError>,
+}
+
 // Why a set of sheets is refused: of a sheet why, and its position in the set, from 1. SetAnswers in specs/Trusted gives the numbers,
 // places and positions.
 #[derive(Clone, Copy, Debug, PartialEq, Eq)]
@@ -59,6 +73,13 @@ pub enum SetError {
     Unsound,
     LengthsUnfit,
     SheetRefused(AddError, u8),
+}
+
+// The part that adding a set hands back, the one it got where it is refused, and the answer.
+#[derive(Clone, Copy)]
+pub struct SetAdded {
+    pub part: Part,
+    pub answer: Result<(), SetError>,
 }
 
 // What is told of a refusal: its number, the position of the sheet that is refused, from 1, or 0, and the line of that sheet, or 0.
@@ -148,18 +169,31 @@ pub fn empty(k: u8, capacity: u16) -> Part
     }
 }
 
+// An opening that is refused.
+fn unopened(why: OpenError) -> Opened
+    ensures { opening_result result ≡ record { part = emptyPart 0 0; answer = open_refusal why } }
+{
+    Opened {
+        part: empty(0, 0),
+        answer: Err(why),
+    }
+}
+
 impl Part {
     // A part of no tables. K is tested before the capacity.
-    pub fn open(k: u32, capacity: u32) -> Result<Part, OpenError>
+    pub fn open(k: u32, capacity: u32) -> Opened
         ensures { opening_result result ≡ opened k capacity }
     {
         if !within(2, INPUT_ROOM, k) {
-            return Err(OpenError::KOutOfRange);
+            return unopened(OpenError::KOutOfRange);
         }
         if !within(1, TABLE_ROOM, capacity) {
-            return Err(OpenError::CapacityOutOfRange);
+            return unopened(OpenError::CapacityOutOfRange);
         }
-        Ok(empty(k as u8, capacity as u16))
+        Opened {
+            part: empty(k as u8, capacity as u16),
+            answer: Ok(()),
+        }
     }
 
     // The levels of the part's codes, where it is sound.

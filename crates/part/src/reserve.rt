@@ -8,7 +8,7 @@ ghost use Rattle.part.specs.Trusted.Tries.{Try};
 ghost use Rattle.part.specs.Trusted.Reservations.{Reserves, Reserve, Committed, Commit, reservation_open, withdrawn};
 ghost use Rattle.part.specs.Trusted.AddAnswers.{adding_answer, adding_result};
 
-use crate::{AddError, Least, Part};
+use crate::{AddError, Added, Least, Part};
 use part_records::Reservation;
 
 impl Part {
@@ -42,9 +42,8 @@ impl Part {
         Ok(())
     }
 
-    // Sets aside the least number of tables of the sheet that the text is, for its output net, and takes no table. The conditions that
-    // refuse it are tested in 02's order: 20, 35, then those of an add.
-    pub fn reserve(&mut self, text: &[u8]) -> Result<(), AddError>
+    // Reserves in place.
+    fn reserve_in_place(&mut self, text: &[u8]) -> Result<(), AddError>
         ensures { (ts : List Try) × Reserve self.old text.now (adding_result self.new result ts) }
     {
         let mut levels = self.levels().ok_or(AddError::Unsound)?;
@@ -52,6 +51,15 @@ impl Part {
             return Err(AddError::AlreadyReserved);
         }
         self.set_aside(text, &mut levels)
+    }
+
+    // Sets aside the least number of tables of the sheet that the text is, for its output net, and takes no table. The conditions that
+    // refuse it are tested in 02's order: 20, 35, then those of an add.
+    pub fn reserve(mut self, text: &[u8]) -> Added
+        ensures { (ts : List Try) × Reserve self text.now (adding_result result.part result.answer ts) }
+    {
+        let answer = self.reserve_in_place(text);
+        Added { part: self, answer }
     }
 
     // Adds the sheet that the text is, whose output net must be the reserved one, to a part that is sound, and closes the reservation. The
@@ -71,10 +79,8 @@ impl Part {
         Ok(())
     }
 
-    // Adds the sheet that the text is, whose output net must be the reserved one, with the tables set aside to be used, and closes the
-    // reservation. The conditions that refuse it are tested in 02's order: 20, 36 where none is open, the sheet's own, 36 for another output
-    // net, then 21, 22 and 23. A refused commit keeps the reservation.
-    pub fn commit(&mut self, text: &[u8]) -> Result<(), AddError>
+    // Commits in place.
+    fn commit_in_place(&mut self, text: &[u8]) -> Result<(), AddError>
         ensures { (ts : List Try) × Commit self.old text.now (adding_result self.new result ts) }
     {
         let mut levels = self.levels().ok_or(AddError::Unsound)?;
@@ -84,8 +90,18 @@ impl Part {
         self.commit_sheet(text, &mut levels)
     }
 
-    // Closes the reservation, and takes no table. The conditions that refuse it are tested in 02's order: 20, then 36 where none is open.
-    pub fn withdraw(&mut self) -> Result<(), AddError>
+    // Adds the sheet that the text is, whose output net must be the reserved one, with the tables set aside to be used, and closes the
+    // reservation. The conditions that refuse it are tested in 02's order: 20, 36 where none is open, the sheet's own, 36 for another output
+    // net, then 21, 22 and 23. A refused commit keeps the reservation.
+    pub fn commit(mut self, text: &[u8]) -> Added
+        ensures { (ts : List Try) × Commit self text.now (adding_result result.part result.answer ts) }
+    {
+        let answer = self.commit_in_place(text);
+        Added { part: self, answer }
+    }
+
+    // Withdraws in place.
+    fn withdraw_in_place(&mut self) -> Result<(), AddError>
         ensures { adding_result self.new result [] ≡ withdrawn self.old }
     {
         if !self.sound() {
@@ -97,5 +113,13 @@ impl Part {
         }
         self.release();
         Ok(())
+    }
+
+    // Closes the reservation, and takes no table. The conditions that refuse it are tested in 02's order: 20, then 36 where none is open.
+    pub fn withdraw(mut self) -> Added
+        ensures { adding_result result.part result.answer [] ≡ withdrawn self }
+    {
+        let answer = self.withdraw_in_place();
+        Added { part: self, answer }
     }
 }

@@ -8,7 +8,7 @@ ghost use Rattle.part.specs.Trusted.Tries.{Try};
 ghost use Rattle.part.specs.Trusted.Sets.{InTurn, AddSet};
 ghost use Rattle.part.specs.Trusted.SetAnswers.{set_result, Positioned};
 
-use crate::{Least, Part, SetError};
+use crate::{Least, Part, SetAdded, SetError};
 
 impl Part {
     // Adds the sheets of a set in turn to a part that is sound, all of them or none. The array has the levels of the part's codes.
@@ -35,9 +35,8 @@ impl Part {
         Ok(())
     }
 
-    // Adds the sheets of a set, all or none: their text one after the other, with the length of each. The conditions that refuse it are
-    // tested in 02's order: 20, 33, then each sheet's on the part with those before it.
-    pub fn add_set(&mut self, text: &[u8], lengths: &[u32]) -> Result<(), SetError>
+    // Adds a set in place.
+    fn add_set_in_place(&mut self, text: &[u8], lengths: &[u32]) -> Result<(), SetError>
         ensures { (ts : List Try) × AddSet self.old lengths.now text.now (set_result self.new result ts) × Positioned result }
     {
         let mut levels = self.levels().ok_or(SetError::Unsound)?;
@@ -45,5 +44,14 @@ impl Part {
             return Err(SetError::LengthsUnfit);
         }
         self.take_each(text, lengths, &mut levels)
+    }
+
+    // Adds the sheets of a set, all or none: their text one after the other, with the length of each. The conditions that refuse it are
+    // tested in 02's order: 20, 33, then each sheet's on the part with those before it.
+    pub fn add_set(mut self, text: &[u8], lengths: &[u32]) -> SetAdded
+        ensures { (ts : List Try) × AddSet self lengths.now text.now (set_result result.part result.answer ts) × Positioned result.answer }
+    {
+        let answer = self.add_set_in_place(text, lengths);
+        SetAdded { part: self, answer }
     }
 }

@@ -34,7 +34,7 @@ ghost use Rattle.std.specs.Io.{ReadsAtMost};
 
 use input_reader::{read_file, read_full};
 use listing::WriteError;
-use part::{AddError, NumberedRefusal, Part};
+use part::{Added, NumberedRefusal, Part};
 use std::env::Env;
 use std::rt::{Files, Runtime};
 use std::{env, io};
@@ -237,18 +237,15 @@ fn write_list(rt: &impl Print, p: Part, s: &[u8], buf: &mut [u8]) -> io::Result<
     list_into(rt, p, s, &mut buf[..n])
 }
 
-// Opens the part; where that is refused it is all zeros.
+// Opens the part.
 fn open(rt: &impl Print, s: &[u8]) -> io::Result<Part> {
-    match Part::open(field(s, 1), field(s, 2)) {
-        Ok(part) => {
-            say(rt, 0)?;
-            Ok(part)
-        }
-        Err(why) => {
-            say(rt, refused(why.numbered()).number)?;
-            Ok(part::empty(0, 0))
-        }
-    }
+    let opened = Part::open(field(s, 1), field(s, 2));
+    let answer = match opened.answer {
+        Ok(()) => ACCEPTED,
+        Err(why) => refused(why.numbered()),
+    };
+    say(rt, answer.number)?;
+    Ok(opened.part)
 }
 
 // Reads the file that an argument names into the buffer, and gives its length. No argument names no file. An error is that of the arguments'
@@ -287,11 +284,7 @@ fn print_reservation(rt: &impl Print, p: &Part) -> io::Result<()> {
 }
 
 // The sheet in a file added, by the fewest tables or the fewest levels, reserved for or committed, by the step.
-fn offer(
-    rt: &(impl Env + Files + Alloc),
-    p: &mut Part,
-    s: &[u8],
-) -> io::Result<Result<(), AddError>> {
+fn offer(rt: &(impl Env + Files + Alloc), p: Part, s: &[u8]) -> io::Result<Added> {
     let mut text = [0u8; 65536];
     let n = read_sheet(rt, field(s, 1) as usize, &mut text)?;
     Ok(match field(s, 0) {
@@ -303,22 +296,17 @@ fn offer(
 }
 
 // Prints what a call answered, the reservation where it is asked for, and the list, where the part is sound.
-fn print_answer(
-    rt: &impl Print,
-    p: &Part,
-    called: Result<(), AddError>,
-    reserving: bool,
-) -> io::Result<()> {
-    let answer = match called {
+fn print_answer(rt: &impl Print, called: &Added, reserving: bool) -> io::Result<()> {
+    let answer = match called.answer {
         Ok(()) => ACCEPTED,
         Err(why) => refused(why.numbered(0)),
     };
     put(rt, answer.number)?;
     say(rt, answer.place as i32)?;
     if reserving {
-        print_reservation(rt, p)?;
+        print_reservation(rt, &called.part)?;
     }
-    print_list(rt, p)
+    print_list(rt, &called.part)
 }
 
 // The length of step 13.
@@ -339,7 +327,9 @@ fn add_set(rt: &impl Runtime, state: &mut State, s: &[u8]) -> io::Result<()> {
     let mut text = [0u8; 65536];
     let n = read_sheet(rt, field(s, 1) as usize, &mut text)?;
     let many = room(state.count, LENGTHS);
-    let answer = match state.part.add_set(&text[..n], &state.lengths[..many]) {
+    let added = state.part.add_set(&text[..n], &state.lengths[..many]);
+    state.part = added.part;
+    let answer = match added.answer {
         Ok(()) => ACCEPTED,
         Err(why) => refused(why.numbered()),
     };
@@ -359,17 +349,20 @@ fn step(rt: &impl Runtime, p: &mut Part, s: &[u8]) -> io::Result<()> {
         5 => set_full_truth(p, field(s, 1)),
         6 => fill(p, field(s, 1)),
         10 | 21 => {
-            let called = offer(rt, p, s)?;
-            print_answer(rt, p, called, false)?;
+            let called = offer(rt, *p, s)?;
+            print_answer(rt, &called, false)?;
+            *p = called.part;
         }
         12 => set_level(p, field(s, 1), low16(field(s, 2))),
         17 | 18 => {
-            let called = offer(rt, p, s)?;
-            print_answer(rt, p, called, true)?;
+            let called = offer(rt, *p, s)?;
+            print_answer(rt, &called, true)?;
+            *p = called.part;
         }
         19 => {
             let called = p.withdraw();
-            print_answer(rt, p, called, true)?;
+            print_answer(rt, &called, true)?;
+            *p = called.part;
         }
         _ => show_part(rt, p, s)?,
     }

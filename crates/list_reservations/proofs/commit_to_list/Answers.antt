@@ -22,7 +22,7 @@ Gives c p r = Commit p c.args.text.now r
 
 -- what it gave, with the sheets that were tried
 abbrev committed : After-commit-committed → CallResult
-committed c = adding_result c.commit-committed.new.self c.commit-committed.result c.commit-committed.ensures.0
+committed c = adding_result c.commit-committed.result.part c.commit-committed.result.answer c.commit-committed.ensures.0
 
 -- the list was accepted
 code_zero : (c : Else-code-ne0) → answer_code (list_answer c.read_reserved-read.result.answer) ≡ 0

@@ -33,4 +33,4 @@ returns-then-code-ne0 c =
 pub returns : goal.returns
 returns c =
     code_passed (Gives (goal.at.returns c).After-read_reserved-read) (reservation (goal.at.returns c).After-read_reserved-read) c.read_reserved-read.result.part _ (read_list c.args.list.now) c.read_reserved-read.ensures (code_zero (goal.at.returns c).Else-code-ne0)
-    (adding_result c.reserve-answered.new.self c.reserve-answered.result c.reserve-answered.ensures.0) c.reserve-answered.ensures.1 c.outcome_code.result c.outcome_code.ensures
+    (adding_result c.reserve-answered.result.part c.reserve-answered.result.answer c.reserve-answered.ensures.0) c.reserve-answered.ensures.1 c.outcome_code.result c.outcome_code.ensures

@@ -28,4 +28,4 @@ returns-then-code-ne0 c =
 pub returns : goal.returns
 returns c =
     code_passed (λ p x. x ≡ withdrawn p) (reservation (goal.at.returns c).After-read_reserved-read) c.read_reserved-read.result.part _ (read_list c.args.list.now) c.read_reserved-read.ensures (code_zero (goal.at.returns c).Else-code-ne0)
-    (adding_result c.withdraw-answered.new.self c.withdraw-answered.result []) c.withdraw-answered.ensures c.outcome_code.result c.outcome_code.ensures
+    (adding_result c.withdraw-answered.result.part c.withdraw-answered.result.answer []) c.withdraw-answered.ensures c.outcome_code.result c.outcome_code.ensures

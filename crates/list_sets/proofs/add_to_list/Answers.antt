@@ -25,7 +25,7 @@ code_zero c = sym c.answer_code-code.ensures ∙ c.if-code-ne0.false
 
 -- what the call gave, with the sheets that were tried
 abbrev added : After-add_set-added → CallResult
-added c = set_result c.add_set-added.new.self c.add_set-added.result c.add_set-added.ensures.0
+added c = set_result c.add_set-added.result.part c.add_set-added.result.answer c.add_set-added.ensures.0
 
 pub returns-then-code-ne0 : goal.returns-then-code-ne0
 returns-then-code-ne0 c =

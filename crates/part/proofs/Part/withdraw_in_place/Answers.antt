@@ -3,7 +3,7 @@ use mathlib.Core.List.{[]}
 use Rattle.part.specs.Trusted.AddAnswers.{adding_result}
 use Rattle.part.proofs.ReserveLaws.{withdraw_unsound, withdraw_closed, withdraw_open}
 use Rattle.std.specs.Prelude.{Ok}
-use Rattle.part.proofs.Part.withdraw.Goals as goal
+use Rattle.part.proofs.Part.withdraw_in_place.Goals as goal
 
 pub returns-then-not-sound : goal.returns-then-not-sound
 returns-then-not-sound c = withdraw_unsound c.args.self.now (sym c.sound.ensures ∙ c.if-not-sound.true)

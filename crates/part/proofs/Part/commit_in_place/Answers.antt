@@ -8,7 +8,7 @@ use Rattle.part.specs.Trusted.AddAnswers.{adding_result}
 use Rattle.part.specs.declared.AddError.TheVariants.{Unsound}
 use Rattle.part.proofs.StoringLaws.{levels_refused, levels_given}
 use Rattle.part.proofs.ReserveLaws.{commit_unsound, commit_closed, commit_tried}
-use Rattle.part.proofs.Part.commit.Goals as goal
+use Rattle.part.proofs.Part.commit_in_place.Goals as goal
 
 pub returns-in_err-levels : goal.returns-in_err-levels
 returns-in_err-levels c =

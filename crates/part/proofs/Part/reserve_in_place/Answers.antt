@@ -8,7 +8,7 @@ use Rattle.part.specs.Trusted.AddAnswers.{adding_answer, adding_result}
 use Rattle.part.specs.declared.AddError.TheVariants.{Unsound}
 use Rattle.part.proofs.StoringLaws.{levels_refused, levels_given}
 use Rattle.part.proofs.ReserveLaws.{reserve_unsound, reserve_open, reserve_tried}
-use Rattle.part.proofs.Part.reserve.Goals as goal
+use Rattle.part.proofs.Part.reserve_in_place.Goals as goal
 
 pub returns-in_err-levels : goal.returns-in_err-levels
 returns-in_err-levels c =

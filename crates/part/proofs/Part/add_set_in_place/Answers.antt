@@ -11,7 +11,7 @@ use Rattle.part.specs.Trusted.SetAnswers.{set_result, Positioned}
 use Rattle.part.specs.declared.SetError.TheVariants.{Unsound}
 use Rattle.part.proofs.StoringLaws.{levels_refused, levels_given}
 use Rattle.part.proofs.SetLaws.{set_unsound, set_unfit, set_fit}
-use Rattle.part.proofs.Part.add_set.Goals as goal
+use Rattle.part.proofs.Part.add_set_in_place.Goals as goal
 
 pub returns-in_err-levels : goal.returns-in_err-levels
 returns-in_err-levels c =

@@ -5,7 +5,7 @@ use Rattle.table.specs.Trusted.Limits.{table_room}
 use Rattle.part.specs.Trusted.Answers.{accepted}
 use Rattle.part.specs.Storing.{Offered}
 use Rattle.part.proofs.StoringLaws.{offer_full, offer_stored}
-use Rattle.part.proofs.Part.offer.Goals as goal
+use Rattle.part.proofs.Part.offer_in_place.Goals as goal
 
 pub returns-then-is_full : goal.returns-then-is_full
 returns-then-is_full c =
