@@ -39,13 +39,27 @@ pub fn gate_lines(text: &[u8], start: usize, out: u16, count: u8) -> Result<Line
     let mut seen = [0u64; FLAG_WORDS];
     let mut leaves: u16 = 0;
     let mut end = start;
-    for g in 0..count as usize {
+    // a faulty line or fanin ends both loops
+    let mut fault = None;
+    'lines: for g in 0..count as usize {
         let gate = g as u16 + 1;
-        let line = at_line(read_gate_line(text, end), gate + 1)?;
+        let line = match at_line(read_gate_line(text, end), gate + 1) {
+            Ok(line) => line,
+            Err(error) => {
+                fault = Some(error);
+                break 'lines;
+            }
+        };
         for i in 0..line.count as usize {
             let x = line.numbers[i + 2];
             let fanin = read_fanin(&mut seen, leaves, out, gate, x.magnitude);
-            let source = at_line(fanin, gate + 1)?;
+            let source = match at_line(fanin, gate + 1) {
+                Ok(source) => source,
+                Err(error) => {
+                    fault = Some(error);
+                    break 'lines;
+                }
+            };
             let at = used + i;
             fanins[at] = Edge {
                 inverted: x.sign != 0,
@@ -61,12 +75,15 @@ pub fn gate_lines(text: &[u8], start: usize, out: u16, count: u8) -> Result<Line
         used += line.count as usize;
         end = line.end;
     }
-    Ok(Lines {
-        end,
-        gates,
-        fanins,
-        seen,
-    })
+    match fault {
+        None => Ok(Lines {
+            end,
+            gates,
+            fanins,
+            seen,
+        }),
+        Some(error) => Err(error),
+    }
 }
 
 // The line of the first gate that is never read, the root left aside.

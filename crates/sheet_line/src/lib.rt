@@ -1,11 +1,10 @@
 // One line of a sheet: where it ends, its fields, and what line 1 and a gate's line say.
 #![tactic(auto)]
 
-ghost use Rattle.std.specs.Prelude.{◌≡◌};
-ghost use Rattle.std.proofs.Math.Option.{some};
+ghost use Rattle.std.specs.Prelude.{◌≡◌, IfSome};
 ghost use Rattle.sheet.specs.Trusted.Answers.{found};
 ghost use Rattle.sheet.specs.Trusted.Read.{counts, head_of, kind_of};
-ghost use Rattle.sheet_line.specs.Inside.{LineEnds, value_of, values_of, FieldsRoom, FieldsRead, head_step, GateHeadRead, GateLineRead};
+ghost use Rattle.sheet_line.specs.Inside.{LineEnds, value_of, numbers_of, FieldsRoom, FieldsRead, head_step, GateHeadRead, GateLineRead};
 
 use lists::within;
 use sheet::{MOST_GATES, Refusal};
@@ -83,10 +82,13 @@ pub struct Head {
     pub count: u8,
 }
 
-pub fn read_head(f: Fields) -> Result<Head, Refusal>
-    requires { FieldsRoom f }
-    ensures { head_of (some (values_of f)) ≡ head_step result }
+pub fn read_head(fields: Option<Fields>) -> Result<Head, Refusal>
+    requires { IfSome fields FieldsRoom }
+    ensures { head_of (numbers_of fields) ≡ head_step result }
 {
+    let Some(f) = fields else {
+        return Err(Refusal::Layout);
+    };
     if f.count != 2 {
         return Err(Refusal::Layout);
     }

@@ -46,16 +46,13 @@ fn read_end(text: &[u8], lines: &Lines, head: Head, last: bool) -> Result<Next, 
 fn read_front(text: &[u8], start: usize, last: bool) -> Result<Next, SheetError>
     ensures { NextRead text.now (read_front last (drop start text.now)) result }
 {
-    let not_laid_out = SheetError {
-        why: Refusal::Layout,
-        line: 1,
-    };
     let Some(end) = line_end(text, start) else {
-        return Err(not_laid_out);
+        return Err(SheetError {
+            why: Refusal::Layout,
+            line: 1,
+        });
     };
-    let Some(fields) = read_fields(&text[start..end]) else {
-        return Err(not_laid_out);
-    };
+    let fields = read_fields(&text[start..end]);
     let head = at_line(read_head(fields), 1)?;
     let lines = gate_lines(text, end + 1, head.out, head.count)?;
     read_end(text, &lines, head, last)

@@ -9,7 +9,6 @@ use Rattle.sheet.specs.Trusted.Line.{line, fields}
 use Rattle.sheet.specs.Trusted.Read.{head_of}
 use Rattle.sheet.specs.Trusted.Promise.{NextRead}
 use Rattle.sheet_line.specs.Inside.{head_step}
-use Rattle.sheet_line.proofs.HeadLaws.{head_none}
 use Rattle.sheet_reader.proofs.SheetLaws.{front_none, front_refused, front_passed, gates_refused, gates_passed}
 use Rattle.sheet_reader.proofs.read_front.Goals as goal
 use Rattle.sheet_reader.proofs.read_front.Goals.{After-read_head, In-Some, In_ok-head}
@@ -22,21 +21,15 @@ line_is_lem c = c.in-Some.ensures.cut
 -- what it says
 head_is_lem : (c : After-read_head) → let a = c.args in
     head_of (fields (take (c.in-Some.end - a.start) (drop a.start a.text.now))) ≡ head_step c.read_head.result
-head_is_lem c = ap head_of c.in-Some-read_fields.ensures.same ∙ c.read_head.ensures
+head_is_lem c = ap head_of c.read_fields-fields.ensures.same ∙ c.read_head.ensures
 
 pub returns-in_default : goal.returns-in_default
 returns-in_default c =
     let a = c.args in
     record { same = front_none a.last (drop a.start a.text.now) c.in_default.ensures.cut; within = tt }
 
-pub returns-in_default-read_fields : goal.returns-in_default-read_fields
-returns-in_default-read_fields c =
-    let a = c.args in
-    record {
-      same = front_refused a.last (drop a.start a.text.now) (line_is_lem (goal.at.returns-in_default-read_fields c).In-Some)
-          (ap head_of c.in_default-read_fields.ensures.same ∙ head_none);
-      within = tt;
-    }
+pub read_head-requires : goal.read_head-requires
+read_head-requires c = c.read_fields-fields.ensures.room
 
 pub returns-in_err-head : goal.returns-in_err-head
 returns-in_err-head c =
@@ -52,7 +45,7 @@ returns-in_err-head c =
 head_read : (c : In_ok-head) → let a = c.args in let h = c.in_ok-head.head in
     head_of (fields (take (c.in-Some.end - a.start) (drop a.start a.text.now))) ≡ passed (record { out = h.out; inverted = h.inverted; count = h.count })
 head_read c =
-    ap head_of c.in-Some-read_fields.ensures.same ∙ c.read_head.ensures ∙ ap head_step (read_on_line 1 c.read_head.result c.at_line.ensures c.in_ok-head.was)
+    ap head_of c.read_fields-fields.ensures.same ∙ c.read_head.ensures ∙ ap head_step (read_on_line 1 c.read_head.result c.at_line.ensures c.in_ok-head.was)
 
 pub returns-in_err-lines : goal.returns-in_err-lines
 returns-in_err-lines c =
