@@ -68,14 +68,14 @@ module _ (f : Fans) where
   }
 
   module _ {n a : ℕ} (g : GreatestFan (first_fans n f) a) where
-    kept : get_or f.levels n 0 ≤ a → GreatestFan (first_fans (n + 1) f) a
-    kept b = record {
+    pub greatest_kept : get_or f.levels n 0 ≤ a → GreatestFan (first_fans (n + 1) f) a
+    greatest_kept b = record {
       within = below_more (λ h. get_or f.levels h 0 ≤ a) n g.within b;
       met = (g.met.0, omega (arith, g.met.1), g.met.2);
     }
 
-    raised : a ≤ get_or f.levels n 0 → GreatestFan (first_fans (n + 1) f) (get_or f.levels n 0)
-    raised b = record {
+    pub greatest_raised : a ≤ get_or f.levels n 0 → GreatestFan (first_fans (n + 1) f) (get_or f.levels n 0)
+    greatest_raised b = record {
       within = below_more (λ h. get_or f.levels h 0 ≤ get_or f.levels n 0) n (λ h l. omega (arith, g.within h l)) (omega arith);
       met = (n, omega arith, refl);
     }
@@ -84,8 +84,8 @@ module _ (f : Fans) where
     greatest_fan_more e =
         rw e
         (by_leb (λ b. GreatestFan (first_fans (n + 1) f) (max a (get_or f.levels n 0))) a (get_or f.levels n 0)
-        (λ l. let e : max a (get_or f.levels n 0) ≡ get_or f.levels n 0 = omega arith in rw e (raised l))
-        (λ l. let e : max a (get_or f.levels n 0) ≡ a = omega arith in rw e (kept (omega arith))))
+        (λ l. let e : max a (get_or f.levels n 0) ≡ get_or f.levels n 0 = omega arith in rw e (greatest_raised l))
+        (λ l. let e : max a (get_or f.levels n 0) ≡ a = omega arith in rw e (greatest_kept (omega arith))))
 
 -- ---- asked
 

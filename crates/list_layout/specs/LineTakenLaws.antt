@@ -1,6 +1,6 @@
 -- The lines by the numbers of their fields, as a reader has them.
-use Prim.Native.Nat.{ℕ, suc, ◌+◌, ◌-◌, ◌*◌, ◌≤◌}
-use Rattle.std.proofs.Common.{arith, ap, ap₂, subst, ◌∙◌, take-append-drop, get_or-take, length-take-le}
+use Prim.Native.Nat.{ℕ, suc, ◌+◌, ◌-◌, ◌*◌, ◌≤◌, ◌<◌}
+use Rattle.std.proofs.Common.{add-one, arith, ap, ap₂, subst, ◌∙◌, drop_of_length-le, take-append-drop, drop-cons, get_or-take, length-take-le}
 use Rattle.std.specs.Prelude.{◌≡◌, refl, Bool, true, false, cond, ◌&&◌, eqb, length, get_or, take, drop, replicate, Some, None, Option as Answer}
 use Rattle.std.proofs.Math.Path.{sym}
 use Rattle.std.proofs.Math.Option.{Option, none, some, bind}
@@ -16,7 +16,7 @@ use Rattle.table.specs.declared.Table.{Table}
 use Rattle.list_layout.specs.declared.TableRead.{TableRead}
 use Rattle.list_layout.specs.Trusted.Layout.{first_number, take_number, take_numbers, take_line_feed, take_top, take_table}
 use Rattle.list_layout.specs.FieldLaws.{bind_some}
-use Rattle.list_layout.specs.Taken.{narrow, input_count, NumbersTaken, NumbersThere, LineFeedTaken, TopThere, TableThere}
+use Rattle.list_layout.specs.Taken.{narrow, input_count, NumbersTaken, NumbersThere, LineFeedTaken, TopThere, TopTaken, TableThere}
 use Rattle.list_layout.specs.TakenLaws.{not_both, bind_none, bind_cong, bind_assoc, number_there, number_missing}
 
 -- ---- the numbers of fields, by what was answered
@@ -54,6 +54,17 @@ unfolding bind
 bind_cond true a g = refl
 bind_cond false a g = refl
 
+-- ---- a line feed
+
+line_feed_here : (text : List ℕ) (at : ℕ) → at < length text → take_line_feed (drop at text) ≡ cond (eqb (get_or text at 0) 10) (some (drop (at + 1) text)) none
+line_feed_here text at h = ap take_line_feed (drop-cons text at 0 h) ∙ ap (λ n. cond (eqb (get_or text at 0) 10) (some (drop n text)) none) (sym (add-one at))
+
+pub line_feed_there : (text : List ℕ) (at : ℕ) → at < length text → LineFeedTaken text at (eqb (get_or text at 0) 10)
+line_feed_there text at h = record { same = line_feed_here text at h; ends = λ e. h }
+
+pub line_feed_short : (text : List ℕ) (at : ℕ) → length text ≤ at → LineFeedTaken text at false
+line_feed_short text at h = record { same = ap take_line_feed (drop_of_length-le text {i = at} h); ends = λ e. absurd (not_both e) }
+
 -- ---- line 0
 
 abbrev top_rest : ℕ → ℕ → ℕ → List ℕ → Option (ℕ × ℕ × ℕ × List ℕ)
@@ -79,6 +90,10 @@ module _ (text numbers : List ℕ) (h : NumbersThere text 0 3 numbers) where
     same = top_is_lem true g;
     ends = let l = g.ends refl in omega (arith, l);
   }
+
+  pub top_is : (b : Bool) → LineFeedTaken text 18 b → TopTaken text (cond b (Some (record { k = get_or numbers 0 0; capacity = get_or numbers 1 0; used = get_or numbers 2 0 })) None)
+  top_is true g = top_there g
+  top_is false g = top_unended g
 
 -- ---- the line of a table
 

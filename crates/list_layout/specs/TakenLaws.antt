@@ -1,5 +1,5 @@
 -- Numbers taken one after the other, as a loop takes them.
-use Rattle.std.specs.Prelude.{ℕ, zero, suc, ◌+◌, ◌-◌, ◌*◌, ◌≤◌, ◌<◌, ◌≡◌, true, false, cond, List, [], ◌∷◌, ◌++◌, length, take, drop, set, replicate}
+use Rattle.std.specs.Prelude.{ℕ, zero, suc, ◌+◌, ◌-◌, ◌*◌, ◌≤◌, ◌<◌, ◌≡◌, true, false, cond, List, [], ◌∷◌, ◌++◌, length, take, drop, set, replicate, Some}
 use Rattle.std.proofs.Common.{add-one, arith, sym, ◌∙◌, le-leb, length-drop, length-set, drop-drop, drop-set-lt, take-suc-set}
 use Rattle.std.proofs.Math.Path.{refl, ap}
 use Rattle.std.proofs.Math.Option.{Option, none, some, bind, none-ne-some}
@@ -10,6 +10,7 @@ use Rattle.table.specs.Trusted.Limits.{input_room}
 use Rattle.list_layout.specs.Trusted.Layout.{first_number, take_number, take_numbers}
 use Rattle.list_layout.specs.FieldLaws.{bind_some, NumberText, number_found}
 use Rattle.list_layout.specs.Trusted.LineSays.{FieldFits}
+use Rattle.list_layout.specs.Taken.{NumbersTaken}
 
 pub not_both : false ≡ true → ⊥
 not_both f = let z : ◌≡◌ {A = ℕ} 0 1 = cc in omega (arith, z)
@@ -114,6 +115,13 @@ module _ (text : List ℕ) (at : ℕ) where
         rest : (n : ℕ) → 0 < n → drop {A = ℕ} 1 (replicate n 0) ≡ replicate (n - 1) 0
         rest zero p = absurd (omega arith)
         rest (suc n) p = let e : suc n - 1 ≡ n = omega arith in rw e
+
+    pub numbers_all : NumbersTaken text at i (Some numbers)
+    numbers_all = record {
+      same = h.taken ∙ ap (λ p. some (take i numbers, drop p text)) h.next;
+      padded = h.zeros;
+      ends = λ p. let l = h.ends p in omega (arith, l, h.next);
+    }
 
     pub numbers_missing : (n : ℕ) → i < n → first_number columns (drop place text) ≡ none → take_numbers n (drop at text) ≡ none
     numbers_missing n l e = none_more i n (drop at text) h.taken (number_missing columns place text e) l

@@ -134,6 +134,13 @@ pub record Staged (m : Mapping) (s : PlanRun) (r : Mapping) : Type 0 where
   pub tables : take r.count r.tables ≡ take m.count m.tables ++ take s.placed s.tables
   pub room : length r.tables ≡ most_tables
 
+-- the first i of them
+pub record Staging (m : Mapping) (s : PlanRun) (i : ℕ) (r : Mapping) : Type 0 where
+  pub count : r.count ≡ m.count
+  pub at : i ≤ s.placed
+  pub tables : take (m.count + i) r.tables ≡ take m.count m.tables ++ take i s.tables
+  pub room : length r.tables ≡ most_tables
+
 -- so many tables, as a run that placed them
 abbrev pub run_of : List Lut → PlanRun
 run_of ts = record { depth = 0; stack = []; placed = length ts; tables = ts }

@@ -1,6 +1,6 @@
 -- The code's mapping of a sheet follows the mapping on lists.
-use Rattle.std.specs.Prelude.{ℕ, ◌+◌, ◌-◌, ◌<◌, ◌≤◌, ◌≡◌, refl, false, Option, Some, List, [], ◌∷◌, ◌++◌, map, length, get_or, set, take}
-use Rattle.std.proofs.Common.{add-one, arith, sym, ap, ap₂, ◌∙◌, length-set, get_or-take, length-take-le, take_all, take-suc, take-suc-set, get_or-set_same, get_or-set_other}
+use Rattle.std.specs.Prelude.{ℕ, suc, ◌+◌, ◌-◌, ◌<◌, ◌≤◌, ◌≡◌, refl, false, Option, Some, List, [], ◌∷◌, ◌++◌, map, length, get_or, set, take}
+use Rattle.std.proofs.Common.{add-zero, add-one, arith, sym, ap, ap₂, ◌∙◌, subst, append_assoc, append-nil, length-set, get_or-take, length-take-le, take_all, take-suc, take-suc-set, get_or-set_same, get_or-set_other}
 use Rattle.lists.specs.Trusted.Lists.{Every}
 use Rattle.lists.specs.Sequences.{Sorted}
 use Rattle.lists.specs.Cases.{by_eqb}
@@ -21,8 +21,11 @@ use Rattle.table.specs.RuleLaws.{map_append}
 use Rattle.sheet.specs.declared.Source.{Source}
 use Rattle.sheet.specs.declared.Source.TheVariants.{Net, Gate}
 use Rattle.sheet.specs.declared.Edge.{Edge}
+use Rattle.sheet.specs.declared.Gate.{Gate as SheetGate}
+use Rattle.sheet.specs.Trusted.Limits.{most_gates}
+use Rattle.sheet.specs.Trusted.Answers.{drawn_gate}
 use Rattle.sheet.specs.Trusted.Sheet.{gate_of}
-use Rattle.sheet.specs.PlaceLaws.{no_edge}
+use Rattle.sheet.specs.PlaceLaws.{no_edge, edge_drawn, every_source}
 use Rattle.gate_fanins.specs.Fanins.{place_in}
 use Rattle.gate_fanins.specs.FaninLaws.{every_fanin}
 use Rattle.mapper_laws.specs.declared.PlanRun.{PlanRun}
@@ -32,12 +35,12 @@ use Rattle.mapper_laws.specs.declared.Mapping.{Mapping}
 use Rattle.pending.specs.Operands.{single}
 use Rattle.pending.specs.declared.Pending.{Pending}
 use Rattle.pending.specs.Pendings.{operand_of, Neat}
-use Rattle.mapper_laws.specs.CodeRun.{no_pending, fanins_of, Runnable}
+use Rattle.mapper_laws.specs.CodeRun.{no_table, no_pending, fanins_of, Runnable}
 use Rattle.mapper_laws.specs.CodeRunLaws.{kept_count, fanin_count_lem, record_neat, stored_all}
 use Rattle.mapper_laws.specs.SafeLaws.{safe_planned}
 use Rattle.mapper_laws.specs.Mapping.{GatesMapped as MappedOnList, mapped_at, key_of, held_table, source_table}
 use Rattle.mapper_laws.specs.CodePair.{read_as}
-use Rattle.mapper_laws.specs.CodeMap.{leaf_of, Begun, with_fanin, keys_in, Mappable, HeldIs, BelowIs, no_held, HeldAll, Gathered, Gathering, run_of, Staged}
+use Rattle.mapper_laws.specs.CodeMap.{leaf_of, Begun, with_fanin, keys_in, Mappable, HeldIs, BelowIs, no_held, HeldAll, Reaches, Gathered, Gathering, most_tables, Staging, run_of, Staged}
 
 -- ---- one gate
 
@@ -68,6 +71,34 @@ module _ {K first : ℕ} {o : Operands} (m : Mappable K first o) where
   }
 
 -- ---- staging
+
+module _ (m : Mapping) (s : PlanRun) where
+  pub staging_start : length m.tables ≡ most_tables → Staging m s 0 m
+  staging_start l = record {
+    count = refl;
+    at = omega arith;
+    tables = ap (λ n. take n m.tables) (add-zero m.count) ∙ sym (append-nil (take m.count m.tables));
+    room = l;
+  }
+
+  pub staging_next : {i : ℕ} {r : Mapping} → m.count + s.placed ≤ most_tables → i < s.placed → s.placed ≤ length s.tables → Staging m s i r →
+      Staging m s (i + 1) (record { count = r.count; tables = set r.tables (m.count + i) (get_or s.tables i no_table) })
+  staging_next {i} {r} few l room g = record {
+    count = g.count;
+    at = omega arith;
+    tables =
+        ap (λ n. take n (set r.tables (m.count + i) (get_or s.tables i no_table))) (let e : m.count + (i + 1) ≡ suc (m.count + i) = omega arith in e)
+        ∙ take-suc-set r.tables (m.count + i) (get_or s.tables i no_table) (omega (arith, g.room))
+        ∙ ap (λ ts. ts ++ (get_or s.tables i no_table ∷ [])) g.tables
+        ∙ append_assoc (take m.count m.tables) (take i s.tables) (get_or s.tables i no_table ∷ [])
+        ∙ ap (λ ts. take m.count m.tables ++ ts) (sym (take-suc s.tables i no_table (omega arith)) ∙ ap (λ n. take n s.tables) (sym (add-one i)));
+    room = length-set r.tables (m.count + i) (get_or s.tables i no_table) ∙ g.room;
+  }
+
+  pub staging_end : {i : ℕ} {r : Mapping} → s.placed ≤ i → Staging m s i r → Staged m s (record { count = m.count + s.placed; tables = r.tables })
+  staging_end {i} {r} l g =
+      let e : i ≡ s.placed = omega (arith, g.at) in
+      record { count = refl; tables = subst (λ n. take (m.count + n) r.tables ≡ take m.count m.tables ++ take n s.tables) e g.tables; room = g.room }
 
 -- the tables that a run placed, as tables that are staged
 pub staged_run : {m n : Mapping} (s : PlanRun) → s.placed ≤ length s.tables → Staged m (run_of (take s.placed s.tables)) n → Staged m s n
@@ -170,3 +201,23 @@ module _ (fs : List Edge) (held : List Held) {i : ℕ} {o : Operands} (g : Gathe
         (next_gathered g.room g.key_room (omega (arith, g.count)) (g.gathered done a m) edge reads
         (read_source done held a edge.source (every_fanin {P = λ j. (1 ≤ j) × (j ≤ length done)} fs i l m)));
   }
+
+-- of a gate of a sheet, by the place of its fanin among the sheet's
+module _ (fs : List Edge) (x : SheetGate) (held : List Held) {i : ℕ} {o : Operands} (g : Gathering (drawn_gate fs x).fanins held i o) (l : i < length (drawn_gate fs x).fanins) (few : i < 10) where
+  abbrev sheet_edge : Edge
+  sheet_edge = get_or fs (x.first + i) no_edge
+
+  gather_placed : (s : Source) → sheet_edge.source ≡ s → Gathering (drawn_gate fs x).fanins held (i + 1) (with_fanin o sheet_edge.inverted (read_as s (get_or held (place_in s) no_held)))
+  gather_placed s e =
+      subst (λ s. Gathering (drawn_gate fs x).fanins held (i + 1) (with_fanin o sheet_edge.inverted (read_as s (get_or held (place_in s) no_held)))) e
+      (subst (λ f. Gathering (drawn_gate fs x).fanins held (i + 1) (with_fanin o f.inverted (read_as f.source (get_or held (place_in f.source) no_held)))) (edge_drawn fs x l)
+      (gather_next (drawn_gate fs x).fanins held g l few))
+
+  pub gather_net : {n : ℕ} → sheet_edge.source ≡ Net n → Gathering (drawn_gate fs x).fanins held (i + 1) (with_fanin o sheet_edge.inverted (leaf_of n))
+  gather_net {n} = gather_placed (Net n)
+
+  pub gather_gate : {j : ℕ} → sheet_edge.source ≡ Gate j → Gathering (drawn_gate fs x).fanins held (i + 1) (with_fanin o sheet_edge.inverted (get_or held (j - 1) no_held))
+  gather_gate {j} = gather_placed (Gate j)
+
+  pub gate_reached : Reaches fs x → {j : ℕ} → sheet_edge.source ≡ Gate j → (1 ≤ j) × (j ≤ most_gates)
+  gate_reached h {j} e = every_source {P = λ j. (1 ≤ j) × (j ≤ most_gates)} (drawn_gate fs x).fanins i j h.gates l (ap (λ f. f.source) (edge_drawn fs x l) ∙ e)

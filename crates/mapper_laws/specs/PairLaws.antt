@@ -1,7 +1,7 @@
 -- A gate of two fanins mapped without a search: as by a plan of three steps, which is the least.
-use Rattle.std.specs.Prelude.{ℕ, ◌+◌, ◌≤◌, ◌≡◌, refl, Bool, true, false, List, [], ◌∷◌, ◌++◌, length, take, replicate, get_or}
-use Rattle.std.proofs.Common.{arith, sym, ap, ap₂, ◌∙◌, subst}
-use Rattle.lists.specs.Trusted.Lists.{empty, more, here, there}
+use Rattle.std.specs.Prelude.{ℕ, ◌+◌, ◌≤◌, ◌<◌, ◌≡◌, refl, Bool, true, false, List, [], ◌∷◌, ◌++◌, length, take, replicate, get_or}
+use Rattle.std.proofs.Common.{add-zero, arith, sym, ap, ap₂, ◌∙◌, subst}
+use Rattle.lists.specs.Trusted.Lists.{Every, empty, more, here, there}
 use Rattle.lists.specs.Sequences.{neither, left, right}
 use Rattle.lists.specs.ListLaws.{every_none, every_cons, every_head, every_tail}
 use Rattle.tree.specs.declared.Kind.{Kind}
@@ -17,6 +17,10 @@ use Rattle.plan.specs.ReachLaws.{no_reach, least_single, reach_wide}
 use Rattle.plan.specs.Plans.{fanin, binary}
 use Rattle.plan.specs.PlanOf.{PlanAnswer}
 use Rattle.sheet.specs.declared.Edge.{Edge}
+use Rattle.sheet.specs.declared.Gate.{Gate as SheetGate}
+use Rattle.sheet.specs.Trusted.Limits.{most_gates}
+use Rattle.sheet.specs.Trusted.Answers.{drawn_gate}
+use Rattle.sheet.specs.Trusted.Sheet.{gate_of}
 use Rattle.mapper_laws.specs.declared.Operands.{Operands}
 use Rattle.mapper_laws.specs.declared.Held.{Held}
 use Rattle.mapper_laws.specs.declared.MappedGate.{MappedGate}
@@ -28,10 +32,11 @@ use Rattle.pending.specs.declared.Lut.{Lut}
 use Rattle.pending.specs.Luts.{lut_of}
 use Rattle.mapper_laws.specs.CodeRun.{operand_at, held_if, pushed, left_placed, joined, Joins, Holds, Following, Runnable, Ran}
 use Rattle.mapper_laws.specs.CodeRunLaws.{push_advanced, join_fits, join_advanced, following_start, following_advances, following_next, following_end}
-use Rattle.mapper_laws.specs.CodeMap.{keys_in, Mappable, GateMapped, no_held, Gathering, Staged}
+use Rattle.mapper_laws.specs.CodeMap.{keys_in, Mappable, GateMapped, no_held, Reaches, Gathering, Staged}
 use Rattle.mapper_laws.specs.CodeMapLaws.{gate_runnable, gathering_start, gather_next}
-use Rattle.sheet.specs.PlaceLaws.{no_edge}
+use Rattle.sheet.specs.PlaceLaws.{no_edge, edge_drawn}
 use Rattle.gate_fanins.specs.Fanins.{place_in}
+use Rattle.gate_fanins.specs.FaninLaws.{every_fanin}
 use Rattle.mapper_laws.specs.CodePair.{read_as, pending_of, key_in, no_operands, pair_of, count_if, two_tables, no_run, pair_taken, joint_of, pair_mapped, staged_of}
 
 -- ---- two keys have one join
@@ -229,3 +234,16 @@ pair_gathers fs held two =
   where
     none : Gathering fs held 0 no_operands
     none = gathering_start (record { count = refl; room = refl; key_room = refl })
+
+-- of a gate of a sheet with two fanins: the gates that they read are in the array
+module _ (fs : List Edge) (g : SheetGate) (two : length (drawn_gate fs g).fanins ≡ 2) (h : Reaches fs g) where
+  reached_at : (n : ℕ) → n < 2 → Every (λ c. (1 ≤ c) × (c ≤ most_gates)) (gate_of (edge_at fs (g.first + n)).source)
+  reached_at n l =
+      subst (λ f. Every (λ c. (1 ≤ c) × (c ≤ most_gates)) (gate_of f.source)) (edge_drawn fs g (omega (arith, two)))
+      (every_fanin {P = λ c. (1 ≤ c) × (c ≤ most_gates)} (drawn_gate fs g).fanins n (omega (arith, two)) h.gates)
+
+  pub low_reached : Every (λ c. (1 ≤ c) × (c ≤ most_gates)) (gate_of (edge_at fs g.first).source)
+  low_reached = subst (λ at. Every (λ c. (1 ≤ c) × (c ≤ most_gates)) (gate_of (edge_at fs at).source)) (add-zero g.first) (reached_at 0 (omega arith))
+
+  pub high_reached : Every (λ c. (1 ≤ c) × (c ≤ most_gates)) (gate_of (edge_at fs (g.first + 1)).source)
+  high_reached = reached_at 1 (omega arith)

@@ -349,6 +349,9 @@ module _ {K used : ℕ} (c : Sheet) (p : Sheetable K used c) (room : length c.ga
   drawn_count : length (drawn_sheet c).gates ≡ c.count
   drawn_count = gates_drawn c.fanins c.gates (omega (arith, room))
 
+  pub some_gates : 1 ≤ c.count
+  some_gates = omega (arith, drawn_count, p.formed.gate_count.0)
+
   module _ {g : ℕ} {done : List GatesMapped} {held : List Held} {m : Mapping} (y : Going K used (drawn_sheet c).gates g done held m) where
     module _ (l : g < c.count) where
       abbrev here : SheetGate

@@ -1,6 +1,7 @@
 -- What the functions promise. Internal definitions: the laws are in SheetsLaws.
 use Rattle.std.specs.Prelude.{ℕ, ◌≤◌, ◌<◌, ◌≡◌, List, length, drop, Result, Ok, Err, IfOk, IfErr}
 use Rattle.sheet.specs.Trusted.Cut.{sheet_text}
+use Rattle.part.specs.Trusted.Parts.{Shaped}
 use Rattle.part.specs.Trusted.Sound.{Sound}
 use Rattle.part.specs.Trusted.Answers.{Answer, accepted}
 use Rattle.part.specs.Trusted.AddAnswers.{add_refusal}
@@ -28,6 +29,7 @@ pub record Onwards (input : List ℕ) (p : Part) (at : ℕ) (q : Part) (end : �
 
 pub record Stepped (w : Way) (input : List ℕ) (p : Part) (at : ℕ) (q : Part) (r : Result ℕ AddError) : Type 0 where
   pub add : Add w p (sheet_text (drop at input)).0 q (step_answer r)
+  pub shaped : Shaped p → Shaped q
   pub sound : Sound q
   pub onwards : IfOk r (Onwards input p at q)
 

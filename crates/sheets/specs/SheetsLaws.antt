@@ -1,7 +1,9 @@
--- Laws of the sheets of an input: one sheet, and sheets one after the other.
+-- Laws of the sheets of an input: an answer and its number, one sheet, and sheets one after the other.
 use Rattle.std.specs.Prelude.{ℕ, suc, ◌+◌, ◌≤◌, ◌<◌, ◌≡◌, refl, cond, List, [], ◌∷◌, length, drop, Ok, Err}
 use Rattle.std.proofs.Common.{add-one, arith, sym, ap, ◌∙◌, subst, eq-eqb, ne_eqb, length-drop}
 use Rattle.lists.specs.Trusted.Checked.{Checked, passed, refused as unread, ◌>>=◌}
+use Rattle.sheet.specs.declared.Refusal.{Refusal}
+use Rattle.sheet.specs.declared.Refusal.TheVariants.{Layout, OutputNet, GateCount, GateKind, FaninCount, NoSource, GateTwice, NetTwice, OutputLeaf, LeafCount, GateUnread}
 use Rattle.sheet.specs.Trusted.Sheet.{DrawnSheet}
 use Rattle.sheet.specs.Trusted.Read.{read_sheet}
 use Rattle.sheet.specs.Trusted.Cut.{sheet_text, next_read}
@@ -13,12 +15,13 @@ use Rattle.sheet.specs.Trusted.Promise.{NextRead}
 use Rattle.sheet.specs.declared.SheetError.{SheetError}
 use Rattle.sheet.specs.declared.Next.{Next}
 use Rattle.table.specs.Trusted.Limits.{table_room}
+use Rattle.part.specs.Trusted.Parts.{Shaped}
 use Rattle.part.specs.Trusted.Sound.{Sound}
 use Rattle.part.specs.Trusted.Answers.{Answer, accepted, refused}
 use Rattle.part.specs.Trusted.Ways.{Way}
 use Rattle.part.proofs.WayLaws.{some_tables, chosen_number}
 use Rattle.part.specs.Trusted.Add.{Offer, Add}
-use Rattle.part.proofs.AddLaws.{AddCase, unsound, misread, driven, read, full, taken, add_case, add_sound, not_refused}
+use Rattle.part.proofs.AddLaws.{AddCase, unsound, misread, driven, read, full, taken, add_case, add_sound, kept, not_refused}
 use Rattle.joined_mapper.specs.JoinedMap.{circuit_of}
 use Rattle.part.proofs.StoringLaws.{add_misread, add_offered}
 use Rattle.part.specs.Trusted.AddAnswers.{add_refusal}
@@ -34,11 +37,28 @@ use Rattle.sheets.specs.Promises.{Stepped, Ended}
 
 -- ---- an answer and its number
 
+pub number_some : (why : Refusal) → 0 < number_of why
+number_some Layout = omega arith
+number_some OutputNet = omega arith
+number_some GateCount = omega arith
+number_some GateKind = omega arith
+number_some FaninCount = omega arith
+number_some NoSource = omega arith
+number_some GateTwice = omega arith
+number_some NetTwice = omega arith
+number_some OutputLeaf = omega arith
+number_some LeafCount = omega arith
+number_some GateUnread = omega arith
+
 pub told_refused : (t : Told) → (t.number ≡ 0 → ⊥) → told t ≡ refused t.number t.line
 told_refused t d = ap (λ b. cond b accepted (refused t.number t.line)) (ne_eqb t.number 0 d)
 
 pub told_accepted : (t : Told) → t.number ≡ 0 → told t ≡ accepted
 told_accepted t e = ap (λ b. cond b accepted (refused t.number t.line)) (eq-eqb t.number 0 e)
+
+pub told_misread : (n line : ℕ) (why : Refusal) → n ≡ number_of why → told (record { number = n; line = line }) ≡ refused (number_of why) line
+told_misread n line why e =
+    told_refused (record { number = n; line = line }) (λ z. omega (arith, number_some why, e, z)) ∙ ap (λ m. refused m line) e
 
 -- ---- an accepted sheet takes a table or more
 
@@ -91,7 +111,7 @@ module _ (input : List ℕ) (p : Part) (at : ℕ) (sound : Sound p) (inside : at
   stepped_misread w e h =
       let text = (sheet_text (drop at input)).0 in
       let m : read_sheet text ≡ unread (number_of e.why) e.line = leaving_refused _ (number_of e.why) e.line _ (sym (next_is (drop at input)) ∙ h.same) in
-      record { add = add_misread w p text sound (number_of e.why) e.line m; sound = sound; onwards = tt }
+      record { add = add_misread w p text sound (number_of e.why) e.line m; shaped = λ s. s; sound = sound; onwards = tt }
 
   module _ (n : Next) (h : NextRead input (next_read (drop at input)) (Ok n)) where
     read_front_lem : Front input at n.end (drawn_sheet n.sheet)
@@ -107,16 +127,19 @@ module _ (input : List ℕ) (p : Part) (at : ℕ) (sound : Sound p) (inside : at
       pub stepped_refused : (why : AddError) → Offer w p (circuit_of n.sheet) q (add_refusal why) → Stepped w input p at q (Err why)
       stepped_refused why o =
           let g = added_so (add_refusal why) o in
-          record { add = g; sound = add_sound p records (add_case w p (sheet_text (drop at input)).0 q (add_refusal why) g) sound; onwards = tt }
+          let c = add_case w p (sheet_text (drop at input)).0 q (add_refusal why) g in
+          record { add = g; shaped = λ s. (kept p s c).shaped; sound = add_sound p records c sound; onwards = tt }
 
       pub stepped_added : Offer w p (circuit_of n.sheet) q accepted → Stepped w input p at q (Ok n.end)
       stepped_added o =
           let r = read_front_lem in
           let text = (sheet_text (drop at input)).0 in
           let g = added_so accepted o in
+          let c = add_case w p text q accepted g in
           record {
             add = g;
-            sound = add_sound p records (add_case w p text q accepted g) sound;
+            shaped = λ s. (kept p s c).shaped;
+            sound = add_sound p records c sound;
             onwards = record { rest = r.rest; grown = grown w p text q accepted g refl; after = r.after; within = h.within };
           }
 
@@ -124,12 +147,13 @@ module _ (input : List ℕ) (p : Part) (at : ℕ) (sound : Sound p) (inside : at
 
 -- `sheet` sheets were accepted up to the place: what comes of the rest is what comes of all
 pub record SheetsSoFar (w : Way) (input : List ℕ) (opened : Part) (start : ℕ) (part : Part) (at sheet : ℕ) : Type 0 where
+  pub shaped : Shaped opened → Shaped part
   pub sound : Sound part
   pub few : sheet ≤ part.used
   pub whole : (final : Part → List ℕ) (out : List ℕ) → SheetsPrint w final part sheet (drop at input) out → SheetsPrint w final opened 0 (drop start input) out
 
 pub sheets_start : (w : Way) (input : List ℕ) (opened : Part) (start : ℕ) → Sound opened → SheetsSoFar w input opened start opened start 0
-sheets_start w input opened start s = record { sound = s; few = omega arith; whole = λ final out m. m }
+sheets_start w input opened start s = record { shaped = λ x. x; sound = s; few = omega arith; whole = λ final out m. m }
 
 module _ {w : Way} {input : List ℕ} {opened part : Part} {start at sheet : ℕ} (h : SheetsSoFar w input opened start part at sheet) where
   pub few_sheets : sheet ≤ 800
@@ -148,6 +172,7 @@ module _ {w : Way} {input : List ℕ} {opened part : Part} {start at sheet : ℕ
 
     pub sheets_more : (end : ℕ) → Stepped w input part at q (Ok end) → SheetsSoFar w input opened start q end (sheet + 1)
     sheets_more end s = record {
+      shaped = λ x. s.shaped (h.shaped x);
       sound = s.sound;
       few = omega (arith, h.few, s.onwards.grown);
       whole = λ final out m. h.whole final out

@@ -5,7 +5,7 @@ use Rattle.table.specs.PrefixTest.{empty_prefix, prefix_after}
 use Rattle.table.specs.LevelTest.{noted_next, PrefixKept}
 use Rattle.table.specs.LevelTestLaws.{levels_small}
 use Rattle.table.specs.KeptLaws.{kept_none, kept_breaks, kept_wrong, kept_right, kept_after}
-use Rattle.table.specs.WalkLaws.{walk_full, walk_stops, walk_goes, before_next}
+use Rattle.table.specs.WalkLaws.{before_next, run_full, run_stops, run_goes}
 use Rattle.table.proofs.Shape.{past}
 use Rattle.records.proofs.test_rules.Goals as goal
 use Rattle.records.proofs.test_rules.Goals.{then-at-from-via-then-at-from, then-at-from-via-else-at-from+then-not-keeps_points}
@@ -27,10 +27,10 @@ returns-then-at-from-clause-verdict c =
     let l = c.loop-at in
     let t = get_or a.run.now l.at past in
     elim c.then-at-from.branch [
-      | then-at-from-via-then-at-from w ↦ sym (l.invariant.rest ∙ walk_full a.k a.capacity a.run.now l.at past (omega arith) (le-ltb l.at a.capacity (omega arith)))
+      | then-at-from-via-then-at-from w ↦ sym (l.invariant.rest ∙ run_full a.k a.capacity a.run.now l.at past (omega arith) (le-ltb l.at a.capacity (omega arith)))
       | then-at-from-via-else-at-from+then-not-keeps_points w ↦
           let e : keeps a.k (take l.at a.run.now) t ≡ false = kept_breaks l.invariant.kept a.k t (sym w.keeps_points.ensures ∙ w.if-not-keeps_points.true) in
-          sym (l.invariant.rest ∙ walk_stops a.k a.capacity a.run.now l.at past (omega arith) (lt-ltb l.at a.capacity (omega arith)) e)
+          sym (l.invariant.rest ∙ run_stops a.k a.capacity a.run.now l.at past (omega arith) (lt-ltb l.at a.capacity (omega arith)) e)
     ]
 
 pub returns-then-not-levelled-clause-verdict : goal.returns-then-not-levelled-clause-verdict
@@ -40,7 +40,7 @@ returns-then-not-levelled-clause-verdict c =
     let t = get_or a.run.now l.at past in
     let points = sym c.keeps_points.ensures ∙ c.if-not-keeps_points.false in
     let e : keeps a.k (take l.at a.run.now) t ≡ false = kept_wrong l.invariant.kept a.k t points (sym c.is_levelled-levelled.ensures.0 ∙ c.if-not-levelled.true) in
-    sym (l.invariant.rest ∙ walk_stops a.k a.capacity a.run.now l.at past (omega arith) (lt-ltb l.at a.capacity (omega arith)) e)
+    sym (l.invariant.rest ∙ run_stops a.k a.capacity a.run.now l.at past (omega arith) (lt-ltb l.at a.capacity (omega arith)) e)
 
 pub loop-at-preserved : goal.loop-at-preserved
 loop-at-preserved c =
@@ -55,7 +55,7 @@ loop-at-preserved c =
     let h = kept_after l.invariant.kept a.k t points t.level (omega (arith, m)) in
     record {
       kept =
-          rw (c.after-prefix.ensures, n.ensures.1, before_next a.k a.capacity a.run.now l.at past (omega arith))
+          rw (c.after-prefix.ensures, n.ensures.1, before_next a.k a.capacity a.run.now (length a.run.now) l.at (omega arith) past (omega arith))
           (subst (λ i. PrefixKept (prefix_after l.prefix t) (noted_next l.levels i t.net (reads t)) (b ++ t ∷ [])) m h);
-      rest = l.invariant.rest ∙ walk_goes a.k a.capacity a.run.now l.at past (omega arith) (lt-ltb l.at a.capacity (omega arith)) e;
+      rest = l.invariant.rest ∙ run_goes a.k a.capacity a.run.now l.at past (omega arith) (lt-ltb l.at a.capacity (omega arith)) e;
     }
