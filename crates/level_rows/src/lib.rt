@@ -76,7 +76,7 @@ pub fn fill(
     ensures { (result ≡ 2 ^ n) × ArrayFilled k n (λ h w. get_or rows.now (h * 8 + w) big) (λ s. get_or own.now s big) arrays.new at (2 ^ n) × (length arrays.new ≡ length arrays.old) × ((i : ℕ) → i < at → get_or arrays.new i big ≡ get_or arrays.old i big) }
 {
     let mut like: [u16; MASKS] = [0; MASKS];
-    for s in 0..MASKS {
+    for s in 0..1 << n {
         like[s] = s as u16;
     }
     fill_like(k, n, rows, own, &like, arrays, at)

@@ -13,14 +13,14 @@ use Rattle.list_layout.specs.Trusted.Layout.{take_top}
 use Rattle.list_layout.specs.Taken.{TopThere}
 use Rattle.list_reading.specs.Trusted.ReadList.{read_result}
 use Rattle.list_reading.specs.LoopLaws.{handed_refused, top_bad, k_bad, capacity_bad, used_bad, top_passed}
-use Rattle.list_reading.specs.declared.ListAnswer.TheVariants.{RuleBroken}
+use Rattle.list_reading.specs.declared.ListAnswer.TheVariants.{NotLaidOut, RuleBroken}
 use Rattle.list_reader.proofs.read_list.Goals as goal
 use Rattle.list_reader.proofs.read_list.Goals.{In-Some, Else-not-within, Else-not-within-2}
 
 pub returns-in_default : goal.returns-in_default
 returns-in_default c =
     let text = c.args.text.now in
-    handed_refused c.refused.ensures refl (top_bad text (MatchOption-at_none (take_top text ≡ none) (TopThere text) c.in_default.is c.read_top.ensures))
+    handed_refused {a = NotLaidOut 0} (search rules) refl (top_bad text (MatchOption-at_none (take_top text ≡ none) (TopThere text) c.in_default.is c.read_top.ensures))
 
 top_there : (c : In-Some) → TopThere c.args.text.now c.in-Some.top
 top_there c =
