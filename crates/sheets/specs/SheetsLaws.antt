@@ -147,13 +147,12 @@ module _ (input : List ℕ) (p : Part) (at : ℕ) (sound : Sound p) (inside : at
 
 -- `sheet` sheets were accepted up to the place: what comes of the rest is what comes of all
 pub record SheetsSoFar (w : Way) (input : List ℕ) (opened : Part) (start : ℕ) (part : Part) (at sheet : ℕ) : Type 0 where
-  pub shaped : Shaped opened → Shaped part
   pub sound : Sound part
   pub few : sheet ≤ part.used
   pub whole : (final : Part → List ℕ) (out : List ℕ) → SheetsPrint w final part sheet (drop at input) out → SheetsPrint w final opened 0 (drop start input) out
 
 pub sheets_start : (w : Way) (input : List ℕ) (opened : Part) (start : ℕ) → Sound opened → SheetsSoFar w input opened start opened start 0
-sheets_start w input opened start s = record { shaped = λ x. x; sound = s; few = omega arith; whole = λ final out m. m }
+sheets_start w input opened start s = record { sound = s; few = omega arith; whole = λ final out m. m }
 
 module _ {w : Way} {input : List ℕ} {opened part : Part} {start at sheet : ℕ} (h : SheetsSoFar w input opened start part at sheet) where
   pub few_sheets : sheet ≤ 800
@@ -172,7 +171,6 @@ module _ {w : Way} {input : List ℕ} {opened part : Part} {start at sheet : ℕ
 
     pub sheets_more : (end : ℕ) → Stepped w input part at q (Ok end) → SheetsSoFar w input opened start q end (sheet + 1)
     sheets_more end s = record {
-      shaped = λ x. s.shaped (h.shaped x);
       sound = s.sound;
       few = omega (arith, h.few, s.onwards.grown);
       whole = λ final out m. h.whole final out
@@ -192,3 +190,15 @@ module _ {w : Way} {input : List ℕ} {opened part : Part} {start at sheet : ℕ
 
   pub ended_all : length input ≤ at → Ended w opened (drop start input) part (Ok tt)
   ended_all l = record { mapped = λ final. so_far_all final l; sound = h.sound; numbered = tt }
+
+-- the same, and the part keeps its shape
+pub record ShapedSoFar (w : Way) (input : List ℕ) (opened : Part) (start : ℕ) (part : Part) (at sheet : ℕ) : Type 0 where
+  pub so_far : SheetsSoFar w input opened start part at sheet
+  pub shaped : Shaped opened → Shaped part
+
+pub shaped_start : (w : Way) (input : List ℕ) (opened : Part) (start : ℕ) → Sound opened → ShapedSoFar w input opened start opened start 0
+shaped_start w input opened start s = record { so_far = sheets_start w input opened start s; shaped = λ x. x }
+
+pub shaped_more : {w : Way} {input : List ℕ} {opened part : Part} {start at sheet : ℕ} → ShapedSoFar w input opened start part at sheet → (q : Part) → at < length input →
+    (end : ℕ) → Stepped w input part at q (Ok end) → ShapedSoFar w input opened start q end (sheet + 1)
+shaped_more h q l end s = record { so_far = sheets_more h.so_far q l end s; shaped = λ x. s.shaped (h.shaped x) }

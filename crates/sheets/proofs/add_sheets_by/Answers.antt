@@ -15,7 +15,7 @@ use Rattle.part.specs.declared.Part.{Part}
 use Rattle.part.specs.declared.AddError.{AddError}
 use Rattle.part.specs.declared.NumberedRefusal.{NumberedRefusal}
 use Rattle.sheets.specs.Promises.{Stepped, Ended}
-use Rattle.sheets.specs.SheetsLaws.{SheetsSoFar, sheets_start, sheets_more, few_sheets, ended_stop, ended_all}
+use Rattle.sheets.specs.SheetsLaws.{SheetsSoFar, shaped_start, shaped_more, few_sheets, ended_stop, ended_all}
 use Rattle.sheets.proofs.add_sheets_by.Goals as goal
 
 pub loop-at-init : goal.loop-at-init
@@ -24,13 +24,13 @@ loop-at-init g c =
     let a = c.args in
     let p = a.part.now in
     let none : [] ≡ tables_of p = ap (λ n. map table_of (take n p.tables)) (sym c.requires.1) in
-    (sheets_start g.W.Choose.way a.input.now p a.start c.requires.0, subst (LevelsStand no_levels) none levels_none)
+    (shaped_start g.W.Choose.way a.input.now p a.start c.requires.0, subst (LevelsStand no_levels) none levels_none)
 
 pub overflow_add-sheet : goal.overflow_add-sheet
-overflow_add-sheet g c = record { fits = omega (arith, few_sheets c.loop-at.invariant.0) }
+overflow_add-sheet g c = record { fits = omega (arith, few_sheets c.loop-at.invariant.0.so_far) }
 
 pub add_next-requires : goal.add_next-requires
-add_next-requires g c = (c.loop-at.invariant.0.sound, c.loop-at.invariant.1, omega arith)
+add_next-requires g c = (c.loop-at.invariant.0.so_far.sound, c.loop-at.invariant.1, omega arith)
 
 -- by what is told of a refusal, however it is made
 refused_by : (w : Way) (input : List ℕ) (opened part q : Part) (start at sheet : ℕ) → SheetsSoFar w input opened start part at sheet → at < length input →
@@ -41,7 +41,7 @@ refused_by w input opened part q start at sheet h l why s (Err told) t = ended_s
 
 pub returns-in-Err : goal.returns-in-Err
 returns-in-Err g c =
-    refused_by _ _ _ _ _ _ _ _ c.loop-at.invariant.0 (omega arith) c.in-Err.why c.in-Err.ensures.0 _ (search rules)
+    refused_by _ _ _ _ _ _ _ _ c.loop-at.invariant.0.so_far (omega arith) c.in-Err.why c.in-Err.ensures.0 _ (search rules)
 
 pub loop-at-smaller : goal.loop-at-smaller
 loop-at-smaller g c =
@@ -49,7 +49,7 @@ loop-at-smaller g c =
     omega (arith, o.after, o.within)
 
 pub loop-at-preserved : goal.loop-at-preserved
-loop-at-preserved g c = (sheets_more c.loop-at.invariant.0 c.add_next.new.part (omega arith) c.in-Ok.end c.in-Ok.ensures.0, c.add_next.ensures.1)
+loop-at-preserved g c = (shaped_more c.loop-at.invariant.0 c.add_next.new.part (omega arith) c.in-Ok.end c.in-Ok.ensures.0, c.add_next.ensures.1)
 
 pub returns : goal.returns
-returns g c = ended_all c.loop-at.invariant.0 (omega arith)
+returns g c = ended_all c.loop-at.invariant.0.so_far (omega arith)
